@@ -1,0 +1,305 @@
+-- The tables of an accepted record stand before the first coded byte, and their codes fit.
+use Prim.Native.Nat.{ℕ, zero, suc, _+_, _*_, _-_, _/_, _%_, _^_, _<_, _≤_, zero-le, min}
+use mathlib.Core.Path.{_≡_, refl, sym, ap, _∙_, subst, subst⁻¹}
+use mathlib.Core.Bool.{Bool, true, false, not, cond}
+use mathlib.Core.List.{List, [], _∷_, _++_}
+use native.Mathlib.Omega.{arith}
+use native.Mathlib.Nat.{not-suc-le-zero, le-trans, le-of-suc-le-suc, mul-pos}
+use native.Mathlib.Numerals.{add-one}
+use Rattle.reading.specs.Layout.{Shape, blockCount, channelOf}
+use Rattle.reading.proofs.Places.{channel-in}
+use Rattle.reading.specs.Scan.{planOf}
+use Rattle.reading.specs.Tables.{shapeIn, quantAt, dcAt, acAt}
+use Rattle.reading.proofs.ScanWritten.{GoodPlan}
+use borrow.Author.Tests.{eq-eqb}
+use lib.Dec.{T, eqb, ltb, leb, eqb→eq, leb→le, ltb→lt, lit<}
+use lib.ListN.{length, take, drop, getD, set, replicate, length-take, length-drop}
+use Rattle.reading.specs.declared.Refusal.{Refusal}
+use Rattle.reading.specs.declared.Refusal.the-variants.{CutShort, Malformed, Unsupported}
+use Rattle.reading.specs.declared.Case.{Case}
+use Rattle.reading.specs.declared.Case.the-variants.{Marker, Quantizers, Huffman}
+use Rattle.reading.specs.declared.Kind.{Kind}
+use Rattle.reading.specs.declared.Kind.the-variants.{Quants, Tables, Frames, Scans, Intervals, Skips, Others}
+use Rattle.reading.specs.declared.Header.{Header}
+use Rattle.reading.specs.declared.Record.{Record}
+use Rattle.reading.specs.Tests.{_and_, _or_, within, all, allFrom}
+use Rattle.reading.specs.Huffman.{Table, tableAt, sum, codesFit}
+use Rattle.reading.specs.Header.{Stage, more, done, stop, refuse-if, byte, word, moved, window, quantizer, quantizerFits, withQuantizer, huffman, countsOf, put, tableFits, withTable, frame, frameOf, frameFits, withFrame, interval, withInterval, scan, recordOf, each, eachChannel, complete, dcId, acId, hasFrame, kindOf, segment, segmentEnd, marker, stepIn, step, steps, started, opening, header}
+use Rattle.reading.proofs.Plain.{and-left, and-right, Good}
+use Rattle.reading.proofs.HeaderEnds.{is-so, or-left, or-right, not-lt, header-within}
+use Rattle.reading.proofs.HeaderPrefix.{take-drop-take}
+use Rattle.reading.proofs.Stages.{refused-or, chosen-or}
+
+-- the place of a table that ends by `at`
+pub record TableOk (s : List ℕ) (at x : ℕ) : Type 0 where
+  pub fitting : T (codesFit (take 16 (drop x s)) 0 0)
+  pub by : x + 16 + sum (take 16 (drop x s)) ≤ at
+
+-- the place of a quantizer that ends by `at`
+pub record QuantOk (s : List ℕ) (at x : ℕ) : Type 0 where
+  pub nonzero : T (all (ltb 0) (take 64 (drop x s)))
+  pub by : x + 64 ≤ at
+
+-- each place of a list that is not 0 has the property
+abbrev Places : (ℕ → Type 0) → List ℕ → Type 0
+Places P [] = Unit {0}
+Places P (x ∷ l) = (0 < x → P x) × Places P l
+
+places-set : (P : ℕ → Type 0) (l : List ℕ) (i x : ℕ) → Places P l → P x → Places P (set l i x)
+places-set P [] i x h p = tt
+places-set P (y ∷ l) zero x h p = ((λ _. p), h .1)
+places-set P (y ∷ l) (suc i) x h p = (h .0, places-set P l i x (h .1) p)
+
+places-map : (P Q : ℕ → Type 0) → ((x : ℕ) → P x → Q x) → (l : List ℕ) → Places P l → Places Q l
+places-map P Q f [] h = tt
+places-map P Q f (x ∷ l) h = ((λ k. f x (h .0 k)), places-map P Q f l (h .1))
+
+places-at : (P : ℕ → Type 0) (l : List ℕ) (i : ℕ) → Places P l → 0 < getD l i 0 → P (getD l i 0)
+places-at P [] i h k = absurd (not-suc-le-zero k)
+places-at P (x ∷ l) zero h k = h .0 k
+places-at P (x ∷ l) (suc i) h k = places-at P l i (h .1) k
+
+module _ (s : List ℕ) (colour : Bool) where
+  -- what holds of a header's state
+  pub record Inv (h : Header) : Type 0 where
+    pub dcs : Places (TableOk s (h .at)) (h .dcs)
+    pub acs : Places (TableOk s (h .at)) (h .acs)
+    pub quants : Places (QuantOk s (h .at)) (h .quants)
+    pub lum : 0 < h .frame .channels → 0 < h .frame .hs * h .frame .vs
+
+  pub record Ready (r : Record) : Type 0 where
+    pub dcs : Places (TableOk s (r .start)) (r .dcs)
+    pub acs : Places (TableOk s (r .start)) (r .acs)
+    pub quants : Places (QuantOk s (r .start)) (r .quants)
+    pub whole : T (complete r)
+    pub some-channel : 0 < r .channels
+    pub lum : 0 < r .hs * r .vs
+    pub count : r .blocks ≡ blockCount (shapeIn r)
+
+  data Kept : Stage → Type 0 where
+    on : (h : Header) → Inv h → Kept (more h)
+    ready : (r : Record) → Ready r → Kept (done r)
+    off : (x : Refusal) → Kept (stop x)
+
+  later : (a b : ℕ) → a ≤ b → (x : ℕ) → TableOk s a x → TableOk s b x
+  later a b h x t = record { fitting = t .fitting; by = le-trans (t .by) h }
+
+  later-q : (a b : ℕ) → a ≤ b → (x : ℕ) → QuantOk s a x → QuantOk s b x
+  later-q a b h x t = record { nonzero = t .nonzero; by = le-trans (t .by) h }
+
+  -- tables kept at a later place
+  kept : (h : Header) → Inv h → (i : Header) → h .dcs ≡ i .dcs → h .acs ≡ i .acs → h .quants ≡ i .quants → h .at ≤ i .at → (0 < i .frame .channels → 0 < i .frame .hs * i .frame .vs) → Inv i
+  kept h v i d a q k l = record { lum = l; quants = subst (Places (QuantOk s (i .at))) q (places-map _ _ (later-q (h .at) (i .at) k) (h .quants) (v .quants)); dcs = subst (Places (TableOk s (i .at))) d (places-map _ _ (later (h .at) (i .at) k) (h .dcs) (v .dcs)); acs = subst (Places (TableOk s (i .at))) a (places-map _ _ (later (h .at) (i .at) k) (h .acs) (v .acs)) }
+
+  frame-lum : (b : List ℕ) → T (frameFits b (frameOf b)) → 0 < frameOf b .hs * frameOf b .vs
+  frame-lum b t = go (eqb (byte b 5) 1)
+    where
+      third : (a b c d e : Bool) → T (a and b and c and d and e) → T c × T d
+      third true true c d e t = (and-left c (d and e) t, and-left d e (and-right c (d and e) t))
+      third true false c d e t = absurd t
+      third false b c d e t = absurd t
+
+      nibbles : T (within 1 4 (byte b 7 / 16)) × T (within 1 4 (byte b 7 % 16))
+      nibbles = third (ltb 0 (frameOf b .width)) (ltb 0 (frameOf b .height)) (within 1 4 (byte b 7 / 16)) (within 1 4 (byte b 7 % 16)) _ t
+
+      low : (n : ℕ) → T (within 1 4 n) → 0 < n
+      low n q = leb→le 1 n (and-left (leb 1 n) (leb n 4) q)
+
+      go : (c : Bool) → 0 < cond c 1 (byte b 7 / 16) * cond c 1 (byte b 7 % 16)
+      go true = lit< tt
+      go false = mul-pos (low (byte b 7 / 16) (nibbles .0)) (low (byte b 7 % 16) (nibbles .1))
+
+  segment-kept : (h : Header) → Inv h → (k : Kind) (b : List ℕ) (a e : ℕ) → h .at ≤ a → a ≤ e → Kept (segment colour h k b a e)
+  segment-kept h v Quants b a e p q = refused-or Kept off (eqb a e) Malformed _ (λ t. on _ (kept h v (moved h a (Quantizers e)) refl refl refl p (v .lum)))
+  segment-kept h v Tables b a e p q = refused-or Kept off (eqb a e) Malformed _ (λ t. on _ (kept h v (moved h a (Huffman e)) refl refl refl p (v .lum)))
+  segment-kept h v Frames b a e p q = refused-or Kept off _ _ _ (λ t1. refused-or Kept off _ _ _ (λ t2. refused-or Kept off _ _ _ (λ t3. refused-or Kept off _ _ _ (λ t4. on _ (kept h v (withFrame h e (frameOf b)) refl refl refl (le-trans p q) (λ _. frame-lum b (is-so (frameFits b (frameOf b)) t4)))))))
+  segment-kept h v Scans b a e p q =
+      refused-or Kept off _ _ _ (λ t1. refused-or Kept off _ _ _ (λ t2. refused-or Kept off _ _ _ (λ t3. refused-or Kept off _ _ _ (λ t4. refused-or Kept off _ _ _ (λ t5. ready (recordOf b colour h e) (record {
+        dcs = places-map _ _ (later (h .at) e (le-trans p q)) (h .dcs) (v .dcs);
+        acs = places-map _ _ (later (h .at) e (le-trans p q)) (h .acs) (v .acs);
+        quants = places-map _ _ (later-q (h .at) e (le-trans p q)) (h .quants) (v .quants);
+        whole = is-so (complete (recordOf b colour h e)) t5;
+        some-channel = ltb→lt 0 (h .frame .channels) (is-so (hasFrame h) t1);
+        lum = v .lum (ltb→lt 0 (h .frame .channels) (is-so (hasFrame h) t1));
+        count = refl;
+      }))))))
+  segment-kept h v Intervals b a e p q = refused-or Kept off _ _ _ (λ t. on _ (kept h v (withInterval h e (word b 0)) refl refl refl (le-trans p q) (v .lum)))
+  segment-kept h v Skips b a e p q = on _ (kept h v (moved h e Marker) refl refl refl (le-trans p q) (v .lum))
+  segment-kept h v Others b a e p q = off Unsupported
+
+  window-short : (a e : ℕ) → length (window s a e) ≤ e - a
+  window-short a e = subst⁻¹ (λ k. k ≤ e - a) (length-take (e - a) (drop a s)) (omega arith)
+
+  drop-next : (l : List ℕ) (p : ℕ) → drop 1 (drop p l) ≡ drop (p + 1) l
+  drop-next l p = go l p ∙ ap (λ k. drop k l) (sym (add-one p))
+    where
+      go : (l : List ℕ) (p : ℕ) → drop 1 (drop p l) ≡ drop (suc p) l
+      go [] zero = refl
+      go [] (suc p) = refl
+      go (x ∷ l) zero = refl
+      go (x ∷ l) (suc p) = go l p
+
+  counts-same : (p e : ℕ) → 17 ≤ e - p → countsOf (window s p e) ≡ take 16 (drop (p + 1) s)
+  counts-same p e h = take-drop-take 1 16 (e - p) (drop p s) (omega (arith, h)) ∙ ap (take 16) (drop-next s p)
+
+  put-kept : (b : Bool) (at : ℕ) (l : List ℕ) (i x : ℕ) → Places (TableOk s at) l → TableOk s at x → Places (TableOk s at) (put b l i x)
+  put-kept true at l i x h k = places-set (TableOk s at) l i x h k
+  put-kept false at l i x h k = h
+
+  table-kept : (h : Header) → Inv h → (e : ℕ) → T (tableFits (window s (h .at) e)) → Inv (withTable (window s (h .at) e) h)
+  table-kept h v e t =
+      record {
+        dcs = put-kept (eqb (byte w 0 / 16) 0) (h .at + (17 + sum (countsOf w))) (h .dcs) (byte w 0 % 16) (h .at + 1) (places-map _ _ (later (h .at) (h .at + (17 + sum (countsOf w))) (omega arith)) (h .dcs) (v .dcs)) ok;
+        acs = put-kept (eqb (byte w 0 / 16) 1) (h .at + (17 + sum (countsOf w))) (h .acs) (byte w 0 % 16) (h .at + 1) (places-map _ _ (later (h .at) (h .at + (17 + sum (countsOf w))) (omega arith)) (h .acs) (v .acs)) ok;
+        quants = places-map _ _ (later-q (h .at) (h .at + (17 + sum (countsOf w))) (omega arith)) (h .quants) (v .quants);
+        lum = v .lum;
+      }
+    where
+      w : List ℕ
+      w = window s (h .at) e
+
+      parts : (a b c d e f : Bool) → T (a and b and c and d and e and f) → T a × T f
+      parts true true true true true f t = (tt, t)
+      parts true true true true false f t = absurd t
+      parts true true true false e f t = absurd t
+      parts true true false d e f t = absurd t
+      parts true false c d e f t = absurd t
+      parts false b c d e f t = absurd t
+
+      both : T (leb 17 (length w)) × T (codesFit (countsOf w) 0 0)
+      both = parts (leb 17 (length w)) (leb (byte w 0 / 16) 1) (leb (byte w 0 % 16) 3) (within 1 256 (sum (countsOf w))) (leb (17 + sum (countsOf w)) (length w)) (codesFit (countsOf w) 0 0) t
+
+      same : countsOf w ≡ take 16 (drop (h .at + 1) s)
+      same = counts-same (h .at) e (le-trans (leb→le 17 (length w) (both .0)) (window-short (h .at) e))
+
+      ok : TableOk s (h .at + (17 + sum (countsOf w))) (h .at + 1)
+      ok = record { fitting = subst (λ l. T (codesFit l 0 0)) same (both .1); by = subst (λ l. h .at + 1 + 16 + sum l ≤ h .at + (17 + sum (countsOf w))) same (omega arith) }
+
+  quant-kept : (h : Header) → Inv h → (e : ℕ) → T (quantizerFits (window s (h .at) e)) → Inv (withQuantizer (window s (h .at) e) h)
+  quant-kept h v e t =
+      record {
+        dcs = places-map _ _ (later (h .at) (h .at + 65) (omega arith)) (h .dcs) (v .dcs);
+        acs = places-map _ _ (later (h .at) (h .at + 65) (omega arith)) (h .acs) (v .acs);
+        quants = places-set (QuantOk s (h .at + 65)) (h .quants) (byte w 0) (h .at + 1) (places-map _ _ (later-q (h .at) (h .at + 65) (omega arith)) (h .quants) (v .quants)) ok;
+        lum = v .lum;
+      }
+    where
+      w : List ℕ
+      w = window s (h .at) e
+
+      room : 65 ≤ length w
+      room = leb→le 65 (length w) (and-left (leb 65 (length w)) (leb (byte w 0) 3 and all (ltb 0) (take 64 (drop 1 w))) t)
+
+      same : take 64 (drop 1 w) ≡ take 64 (drop (h .at + 1) s)
+      same = take-drop-take 1 64 (e - h .at) (drop (h .at) s) (omega (arith, window-short (h .at) e, room)) ∙ ap (take 64) (drop-next s (h .at))
+
+      ok : QuantOk s (h .at + 65) (h .at + 1)
+      ok = record { nonzero = subst (λ l. T (all (ltb 0) l)) same (and-right (leb (byte w 0) 3) (all (ltb 0) (take 64 (drop 1 w))) (and-right (leb 65 (length w)) (leb (byte w 0) 3 and all (ltb 0) (take 64 (drop 1 w))) t)); by = omega arith }
+
+  marker-kept : (h : Header) → Inv h → Kept (marker s colour h)
+  marker-kept h v =
+      refused-or Kept off (ltb (length s) (h .at + 2) or not (eqb (byte s (h .at)) 255)) Malformed _ (λ t1. chosen-or Kept (eqb (byte s (h .at + 1)) 255) _ _ (λ t2. on _ (kept h v (moved h (h .at + 1) Marker) refl refl refl (omega arith) (v .lum)))
+      (λ t2. refused-or Kept off (eqb (byte s (h .at + 1)) 217) Malformed _ (λ t3. refused-or Kept off (ltb (length s) (h .at + 4) or ltb (word s (h .at + 2)) 2 or ltb (length s) (segmentEnd s (h .at))) CutShort _
+      (λ t4. segment-kept h v (kindOf (byte s (h .at + 1))) (window s (h .at + 4) (segmentEnd s (h .at))) (h .at + 4) (segmentEnd s (h .at)) (omega arith)
+      (long (h .at) (word s (h .at + 2)) (not-lt (word s (h .at + 2)) 2 (or-left (ltb (word s (h .at + 2)) 2) (ltb (length s) (segmentEnd s (h .at))) (or-right (ltb (length s) (h .at + 4)) (ltb (word s (h .at + 2)) 2 or ltb (length s) (segmentEnd s (h .at))) t4))))))))
+    where
+      long : (p w : ℕ) → 2 ≤ w → p + 4 ≤ p + 2 + w
+      long p w q = omega arith
+
+  -- inside a segment of tables the place stays below its end
+  stepIn-kept : (h : Header) → Inv h → (c : Case) → Kept (stepIn s colour h c)
+  stepIn-kept h v Marker = marker-kept h v
+  stepIn-kept h v (Quantizers e) = chosen-or Kept (eqb (h .at) e) _ _ (λ t. on _ (kept h v (moved h e Marker) refl refl refl (omega (arith, eqb→eq (h .at) e (subst⁻¹ T t tt))) (v .lum))) (λ t. refused-or Kept off (not (quantizerFits (window s (h .at) e))) Malformed _ (λ u. on _ (quant-kept h v e (is-so (quantizerFits (window s (h .at) e)) u))))
+  stepIn-kept h v (Huffman e) = chosen-or Kept (eqb (h .at) e) _ _ (λ t. on _ (kept h v (moved h e Marker) refl refl refl (omega (arith, eqb→eq (h .at) e (subst⁻¹ T t tt))) (v .lum))) (λ t. refused-or Kept off (not (tableFits (window s (h .at) e))) Malformed _ (λ u. on _ (table-kept h v e (is-so (tableFits (window s (h .at) e)) u))))
+
+  abbrev ends-ready : Stage → Type 0
+  ends-ready (more h) = Unit {0}
+  ends-ready (done r) = Ready r
+  ends-ready (stop x) = Unit {0}
+
+  steps-kept : (k : ℕ) (st : Stage) → Kept st → ends-ready (steps s colour k st)
+  steps-kept zero st (on h v) = tt
+  steps-kept zero st (ready r q) = q
+  steps-kept zero st (off x) = tt
+  steps-kept (suc k) st (on h v) = steps-kept k (step s colour h) (stepIn-kept h v (h .case))
+  steps-kept (suc k) st (ready r q) = q
+  steps-kept (suc k) st (off x) = tt
+
+  pub header-ready : (r : Record) → header s colour ≡ done r → Ready r
+  unfolding header
+  header-ready r e = subst ends-ready e (steps-kept (2 * length s + 1) (started s) (refused-or Kept off (not (leb 2 (length s) and eqb (byte s 0) 255 and eqb (byte s 1) 216)) Malformed (more opening) (λ t. on opening (record { dcs = zero-places; acs = zero-places; quants = zero-quants; lum = λ k. absurd (not-suc-le-zero k) }))))
+    where
+      zero-quants : Places (QuantOk s 2) (replicate 4 0)
+      zero-quants = ((λ k. absurd (not-suc-le-zero k)), ((λ k. absurd (not-suc-le-zero k)), ((λ k. absurd (not-suc-le-zero k)), ((λ k. absurd (not-suc-le-zero k)), tt))))
+
+      zero-places : Places (TableOk s 2) (replicate 4 0)
+      zero-places = ((λ k. absurd (not-suc-le-zero k)), ((λ k. absurd (not-suc-le-zero k)), ((λ k. absurd (not-suc-le-zero k)), ((λ k. absurd (not-suc-le-zero k)), tt))))
+
+-- ---- the plan of an accepted record
+
+-- a table that ends by m is read alike from the first m bytes, and is good
+pub good-table : (s : List ℕ) (m x : ℕ) → m ≤ length s → TableOk s m x → Good (tableAt (take m s) x)
+good-table s m x h t = record { fitting = subst⁻¹ (λ l. T (codesFit l 0 0)) same (t .fitting); full = full }
+  where
+    same : take 16 (drop x (take m s)) ≡ take 16 (drop x s)
+    same = take-drop-take x 16 m s (omega (arith, t .by))
+
+    k : ℕ
+    k = sum (take 16 (drop x (take m s)))
+
+    room : x + 16 + k ≤ m
+    room = subst⁻¹ (λ l. x + 16 + sum l ≤ m) same (t .by)
+
+    full : length (take k (drop (x + 16) (take m s))) ≡ k
+    full = length-take k (drop (x + 16) (take m s)) ∙ ap (min k) (length-drop (x + 16) (take m s) ∙ ap (λ i. i - (x + 16)) (length-take m s)) ∙ fits
+      where
+        fits : min k (min m (length s) - (x + 16)) ≡ k
+        fits = omega (arith, room, h)
+
+-- what a test of each channel says of one
+pub all-at : (p : ℕ → Bool) (n i : ℕ) → T (allFrom n i p) → (c : ℕ) → i ≤ c → c < i + n → T (p c)
+all-at p zero i t c a b = absurd (none-left a b)
+  where
+    none-left : i ≤ c → c < i + 0 → ⊥
+    none-left x y = omega arith
+all-at p (suc n) i t c a b = go (eqb i c) refl (all-at p n (suc i) (and-right (p i) (allFrom n (suc i) p) t) c)
+  where
+    go : (e : Bool) → eqb i c ≡ e → (suc i ≤ c → c < suc i + n → T (p c)) → T (p c)
+    go true q ih = subst (λ k. T (p k)) (eqb→eq i c (subst⁻¹ T q tt)) (and-left (p i) (allFrom n (suc i) p) t)
+    go false q ih = ih (omega (arith, a, apart)) (omega (arith, b))
+      where
+        apart : i ≡ c → ⊥
+        apart r = absurd (subst T (sym (eq-eqb i c r) ∙ q) tt)
+
+-- what an accepted record says of the tables of one channel of its picture
+pub record Stands (s : List ℕ) (r : Record) (c : ℕ) : Type 0 where
+  pub quant : QuantOk s (r .start) (quantAt r c)
+  pub dc : TableOk s (r .start) (dcAt r c)
+  pub ac : TableOk s (r .start) (acAt r c)
+
+pub tables-stand : (s : List ℕ) (colour : Bool) (r : Record) → header s colour ≡ done r → (k : ℕ) → Stands s r (channelOf (shapeIn r) k)
+tables-stand s colour r e k =
+    record {
+      quant = places-at _ (r .quants) (getD (r .qids) c 0) (q .quants) (ltb→lt 0 _ (and-left (ltb 0 (quantAt r c)) _ there));
+      dc = places-at _ (r .dcs) (getD (r .dcids) c 0) (q .dcs) (ltb→lt 0 _ (and-left (ltb 0 (dcAt r c)) (ltb 0 (acAt r c)) (and-right (ltb 0 (quantAt r c)) _ there)));
+      ac = places-at _ (r .acs) (getD (r .acids) c 0) (q .acs) (ltb→lt 0 _ (and-right (ltb 0 (dcAt r c)) (ltb 0 (acAt r c)) (and-right (ltb 0 (quantAt r c)) _ there)));
+    }
+  where
+    c : ℕ
+    c = channelOf (shapeIn r) k
+
+    q : Ready s colour r
+    q = header-ready s colour r e
+
+    none : (n : ℕ) → 0 + n ≡ n
+    none n = omega arith
+
+    there : T (ltb 0 (quantAt r (channelOf (shapeIn r) k)) and ltb 0 (dcAt r (channelOf (shapeIn r) k)) and ltb 0 (acAt r (channelOf (shapeIn r) k)))
+    there = all-at (λ c. ltb 0 (quantAt r c) and ltb 0 (dcAt r c) and ltb 0 (acAt r c)) (r .channels) 0 (q .whole) (channelOf (shapeIn r) k) zero-le (subst (λ i. channelOf (shapeIn r) k < i) (sym (none (r .channels))) (channel-in (r .width) (r .height) (r .hs) (r .vs) (r .channels) k (q .some-channel) (q .lum)))
+
+pub good-plan : (s : List ℕ) (colour : Bool) (r : Record) → header s colour ≡ done r → GoodPlan (planOf s r)
+good-plan s colour r e =
+    record {
+      dcs = λ k. good-table s (r .start) (dcAt r (channelOf (shapeIn r) k)) (header-within s colour r e) (tables-stand s colour r e k .dc);
+      acs = λ k. good-table s (r .start) (acAt r (channelOf (shapeIn r) k)) (header-within s colour r e) (tables-stand s colour r e k .ac);
+    }

@@ -1,0 +1,45 @@
+-- What the code's answers say, as readings. Each map is by cases and loses nothing, so that a contract through it still fixes
+-- the answer.
+use Prim.Native.Nat.{ℕ}
+use mathlib.Core.List.{List}
+use lib.IntN.{ℤ, pos}
+use lib.ListN.{getD}
+use Rattle.reading.specs.declared.Bits.{Bits}
+use Rattle.reading.specs.declared.BitRead.{BitRead}
+use Rattle.reading.specs.declared.BitRead.the-variants as bit
+use Rattle.reading.specs.declared.NumberRead.{NumberRead}
+use Rattle.reading.specs.declared.NumberRead.the-variants as number
+use Rattle.reading.specs.declared.AmplitudeRead.{AmplitudeRead}
+use Rattle.reading.specs.declared.AmplitudeRead.the-variants as amplitude
+use Rattle.reading.specs.declared.BlockRead.{BlockRead}
+use Rattle.reading.specs.declared.BlockRead.the-variants as block
+use Rattle.reading.specs.Reader.{Read, got, fault}
+use Rattle.reading.specs.Block.{zeros, places}
+
+abbrev pub bitRead : BitRead → Read Bits ℕ
+bitRead (bit.Got x b) = got x b
+bitRead (bit.Stop f) = fault f
+
+abbrev pub numberRead : NumberRead → Read Bits ℕ
+numberRead (number.Got x b) = got x b
+numberRead (number.Stop f) = fault f
+
+abbrev pub amplitudeRead : AmplitudeRead → Read Bits ℤ
+amplitudeRead (amplitude.Got x b) = got x b
+amplitudeRead (amplitude.Stop f) = fault f
+
+-- what is answered of a block: the place after it, its first level and how many places its levels reach
+unfoldable pub said : Read Bits (List ℤ) → BlockRead
+unfolding places
+said (got l b) = block.Got b (getD l 0 (pos 0)) (places l)
+said (fault f) = block.Stop f
+
+-- the levels where a block was read, else the others
+unfoldable pub levelsOr : Read Bits (List ℤ) → List ℤ → List ℤ
+levelsOr (got l b) others = l
+levelsOr (fault f) others = others
+
+-- the levels that a block leaves behind: zeros where it was refused
+unfoldable pub levelsOf : Read Bits (List ℤ) → List ℤ
+unfolding levelsOr
+levelsOf r = levelsOr r (zeros 64)

@@ -1,0 +1,202 @@
+-- The bench pieces of the rules, as one table that is computed: what is found, and what the rules say.
+use Prim.Native.Nat.{ℕ, zero, suc, _+_, _*_, _-_}
+use mathlib.Core.Bool.{Bool, true, false}
+use mathlib.Core.List.{List, [], _∷_, _++_, map}
+use lib.Dec.{T, eqb}
+use lib.ListN.{length, take, replicate}
+use lib.IntN.{ℤ, pos, negsuc}
+use Rattle.whole.specs.Expressions.{neg}
+use Rattle.reading.specs.declared.Limits.{Limits}
+use Rattle.reading.specs.declared.Budget.{Budget}
+use Rattle.reading.specs.declared.Record.{Record}
+use Rattle.reading.specs.declared.Inspection.{Inspection}
+use Rattle.reading.specs.declared.Decoding.{Decoding}
+use Rattle.reading.specs.declared.Settling.{Settling}
+use Rattle.reading.specs.Tests.{_and_, all}
+use Rattle.reading.specs.Bits.{meaning}
+use Rattle.reading.specs.Block.{zeros}
+use Rattle.reading.specs.Colour.{red, green, blue}
+use Rattle.reading.specs.Transform.{clamped, coefficients, samples}
+use Rattle.reading.specs.Layout.{Shape, factorsOf, blockCount, outputLength, workOf}
+use Rattle.reading.specs.Calls.{inspect, Decoded, decode, Rewritten, settle, number, eqList, eqBool}
+
+-- ---- files
+
+-- a marker segment: its code and its body, of at most 253 bytes
+abbrev segment : ℕ → List ℕ → List ℕ
+segment code body = 255 ∷ code ∷ 0 ∷ (2 + length body) ∷ body
+
+-- one channel, 8 high: its width, its quantizer, what stands before the tables, the DC and the AC table as counts and symbols, and
+-- the coded bytes
+abbrev file : ℕ → List ℕ → List ℕ → List ℕ → List ℕ → List ℕ → List ℕ
+file width quantizer before dc ac coded =
+    255 ∷ 216 ∷ segment 219 (0 ∷ quantizer)
+    ++ segment 192 (8 ∷ 0 ∷ 8 ∷ 0 ∷ width ∷ 1 ∷ 1 ∷ 17 ∷ 0 ∷ [])
+    ++ before
+    ++ segment 196 (0 ∷ dc)
+    ++ segment 196 (16 ∷ ac)
+    ++ segment 218 (1 ∷ 1 ∷ 0 ∷ 0 ∷ 63 ∷ 0 ∷ [])
+    ++ coded
+    ++ 255 ∷ 217 ∷ []
+
+-- 8 x 8, a quantizer of ones
+abbrev square : List ℕ → List ℕ → List ℕ → List ℕ
+square dc ac coded = file 8 (replicate 64 1) [] dc ac coded
+
+-- one 1-bit code for a symbol
+abbrev oneCode : ℕ → List ℕ
+oneCode x = 1 ∷ replicate 15 0 ++ x ∷ []
+
+-- codes 0 and 10 for two symbols
+abbrev twoCodes : ℕ → ℕ → List ℕ
+twoCodes x y = 1 ∷ 1 ∷ replicate 14 0 ++ x ∷ y ∷ []
+
+abbrev F : List ℕ
+F = square (oneCode 0) (oneCode 0) (63 ∷ [])
+
+-- end and 240
+abbrev runs : List ℕ → List ℕ
+runs coded = square (oneCode 0) (twoCodes 0 240) coded
+
+-- both codes mean 0
+abbrev twice : List ℕ → List ℕ
+twice coded = square (twoCodes 0 0) (oneCode 0) coded
+
+-- 240, and a run of 14 with a value of a size: no end code
+abbrev long : ℕ → List ℕ → List ℕ
+long size coded = square (oneCode 0) (twoCodes 240 (224 + size)) coded
+
+-- two blocks; DC codes 0, 10 and 110 for the categories 11, 1 and 2
+abbrev falling : List ℕ → List ℕ
+falling coded = file 16 (replicate 64 1) [] (1 ∷ 1 ∷ 1 ∷ replicate 13 0 ++ 11 ∷ 1 ∷ 2 ∷ []) (oneCode 0) coded
+
+-- two blocks, a restart before the second, a quantizer of 16 at the first place; the DC code 0 for category 3
+abbrev restarting : List ℕ
+restarting = file 16 (16 ∷ replicate 63 1) (segment 221 (0 ∷ 1 ∷ [])) (oneCode 3) (oneCode 0) (87 ∷ 255 ∷ 208 ∷ 87 ∷ [])
+
+-- ---- answers as numbers
+
+abbrev wide : Limits
+wide = record { input = 65536; side = 65535; output = 65536 }
+
+abbrev holding : ℕ → Budget
+holding n = record { left = n }
+
+-- a budget that suffices for all of them
+abbrev plenty : Budget
+plenty = holding 1000000
+
+-- inspect's number and what it leaves of the budget
+abbrev inspected : List ℕ → ℕ → List ℕ
+inspected s budget = let i = inspect s false wide (holding budget) in number (i .verdict) ∷ i .budget .left ∷ []
+
+-- settle's number and its buffer, which had room for the file and held zeros
+abbrev settled : List ℕ → List ℕ
+settled s = let w = settle s wide plenty (replicate (length s) 0) in number (w .answer .verdict) ∷ w .output
+
+-- decode's number, what it leaves of the budget, output and scratch, which held 7 and 9
+abbrev decoded : List ℕ → ℕ → ℕ → List ℕ
+decoded s room budget =
+    let d = decode s (inspect s false wide plenty .found) (replicate room 7) (replicate room 9) (holding budget) in
+    number (d .answer .verdict) ∷ d .answer .budget .left ∷ d .output ++ d .scratch
+
+-- the samples of a block with only a DC coefficient
+abbrev flat : ℤ → List ℕ
+flat d = samples (d ∷ zeros 63)
+
+-- the record, field by field
+abbrev flag : Bool → ℕ
+flag true = 1
+flag false = 0
+
+abbrev pub numbers : Record → List ℕ
+numbers r =
+    r .width ∷ r .height ∷ r .channels ∷ r .hs ∷ r .vs
+    ∷ r .ids ++ r .qids ++ r .dcids ++ r .acids ++ r .quants ++ r .dcs ++ r .acs
+    ++ r .interval ∷ r .start ∷ r .blocks ∷ r .scratch ∷ r .output ∷ r .work ∷ flag (r .colour) ∷ []
+
+-- ---- the table
+
+-- what is found, and what the rules say
+pub data Piece : Type 0 where
+  gives : List ℕ → List ℕ → Piece
+  means : List ℤ → List ℤ → Piece
+
+abbrev eqZ : ℤ → ℤ → Bool
+eqZ (pos a) (pos b) = eqb a b
+eqZ (pos a) (negsuc b) = false
+eqZ (negsuc a) (pos b) = false
+eqZ (negsuc a) (negsuc b) = eqb a b
+
+abbrev eqZs : List ℤ → List ℤ → Bool
+eqZs [] [] = true
+eqZs [] (y ∷ ys) = false
+eqZs (x ∷ xs) [] = false
+eqZs (x ∷ xs) (y ∷ ys) = eqZ x y and eqZs xs ys
+
+abbrev right : Piece → Bool
+right (gives found wanted) = eqList found wanted
+right (means found wanted) = eqZs found wanted
+
+abbrev pub table : List Piece
+table =
+    -- F: its length, its price, its record, its samples
+    gives (length F ∷ []) (141 ∷ [])
+    ∷ gives (inspected F 3483) (0 ∷ 0 ∷ [])
+    ∷ gives (inspected F 3482) (2 ∷ 3199 ∷ [])
+    ∷ gives (inspected F 282) (2 ∷ 282 ∷ [])
+    ∷ gives (numbers (inspect F true wide plenty .found))
+    (8 ∷ 8 ∷ 1 ∷ 1 ∷ 1 ∷ 1 ∷ replicate 11 0 ++ 7 ∷ 0 ∷ 0 ∷ 0 ∷ 89 ∷ 0 ∷ 0 ∷ 0 ∷ 111 ∷ 0 ∷ 0 ∷ 0 ∷ 0 ∷ 138 ∷ 1 ∷ 64 ∷ 64 ∷ 3200 ∷ 1 ∷ [])
+    ∷ gives (decoded F 65 3483) (0 ∷ 0 ∷ replicate 64 128 ++ 7 ∷ replicate 64 128 ++ 9 ∷ [])
+    ∷ gives (decoded F 63 3483) (7 ∷ 3483 ∷ replicate 63 7 ++ replicate 63 9)
+    -- P1: byte 63 in F is settled
+    ∷ gives (settled F) (0 ∷ F)
+    -- P2, P3, P4: runs of 16
+    ∷ gives (settled (runs (79 ∷ []))) (0 ∷ runs (63 ∷ []))
+    ∷ gives (settled (runs (84 ∷ []))) (0 ∷ runs (63 ∷ []))
+    ∷ gives (settled (runs (85 ∷ 127 ∷ []))) (4 ∷ replicate 143 0)
+    -- P5: a symbol that is listed twice
+    ∷ gives (settled (twice (159 ∷ []))) (0 ∷ twice (63 ∷ []))
+    -- P6 to P10: a block with only a DC coefficient
+    ∷ gives (flat (pos 4)) (replicate 64 128)
+    ∷ gives (flat (pos 5)) (replicate 64 129)
+    ∷ gives (flat (neg 5)) (replicate 64 127)
+    ∷ gives (flat (pos 1012)) (replicate 64 254)
+    ∷ gives (flat (pos 1013)) (replicate 64 255)
+    ∷ gives (flat (neg 1020)) (replicate 64 1)
+    ∷ gives (flat (neg 1021)) (replicate 64 0)
+    -- P11: 11-bit fields
+    ∷ means (meaning 11 0 ∷ meaning 11 1023 ∷ meaning 11 1024 ∷ []) (neg 2047 ∷ neg 1024 ∷ pos 1024 ∷ [])
+    -- P12: a colour
+    ∷ gives (red 100 127 ∷ green 100 128 127 ∷ blue 100 128 ∷ []) (99 ∷ 101 ∷ 100 ∷ [])
+    -- the empty file
+    ∷ gives (inspected [] 0) (2 ∷ 0 ∷ [])
+    ∷ gives (inspected [] 1) (4 ∷ 0 ∷ [])
+    -- prediction -2048 is taken, -2049 refused: 2047 and then 1 or 2 down
+    ∷ gives (take 1 (inspected (falling (0 ∷ 4 ∷ 127 ∷ [])) 10000)) (0 ∷ [])
+    ∷ gives (take 1 (inspected (falling (0 ∷ 6 ∷ 95 ∷ [])) 10000)) (4 ∷ [])
+    -- the largest picture at 1 x 1 sampling
+    ∷ gives (let p : Shape = record { width = 65535; height = 65535; factors = factorsOf 1 1 3 } in blockCount p ∷ outputLength p ∷ workOf p ∷ [])
+    (201326592 ∷ 12884508675 ∷ 644244701187 ∷ [])
+    -- a value at place 63: no end code is read or written, and the table has none
+    ∷ gives (settled (long 1 (11 ∷ []))) (0 ∷ long 1 (11 ∷ []))
+    -- a 240 that reaches place 64 ends its block; settled, the block wants an end code, and there is none
+    ∷ gives (take 1 (inspected (long 1 (81 ∷ [])) 10000)) (0 ∷ [])
+    ∷ gives (take 1 (settled (long 1 (81 ∷ [])))) (9 ∷ [])
+    -- a value at place 63 whose last bits and one bit of padding are a 255: a 0 follows it
+    ∷ gives (settled (long 9 (11 ∷ 255 ∷ 0 ∷ []))) (0 ∷ long 9 (11 ∷ 255 ∷ 0 ∷ []))
+    -- at a restart the predictors become 0: 16 x 5 in both blocks
+    ∷ gives (decoded restarting 128 10000) (0 ∷ (10000 - 301 - 6400) ∷ replicate 256 138)
+    -- the quantizer is taken by zigzag place: place 2 is natural place 8
+    ∷ means (take 10 (coefficients (1 ∷ 1 ∷ 100 ∷ replicate 61 1) (zeros 2 ++ pos 1 ∷ zeros 61))) (zeros 8 ++ pos 100 ∷ pos 0 ∷ [])
+    -- green's two products are rounded together
+    ∷ gives (green 100 129 130 ∷ []) (98 ∷ [])
+    -- the clamp's bounds
+    ∷ gives (clamped (neg 1) ∷ clamped (pos 0) ∷ clamped (pos 1073741823) ∷ clamped (pos 1073741824) ∷ clamped (pos 273804165119) ∷ clamped (pos 273804165120) ∷ [])
+    (0 ∷ 0 ∷ 0 ∷ 1 ∷ 254 ∷ 255 ∷ [])
+    ∷ []
+
+-- every piece is as the rules say
+pub pieces : T (all right table)
+unfolding inspect decode settle samples coefficients clamped red green blue blockCount outputLength workOf
+pieces = tt

@@ -1,0 +1,91 @@
+-- Bits, highest first, from the bytes of a file; fields of n bits and what they mean.
+use Prim.Native.Nat.{ℕ, zero, suc, _+_, _*_, _-_, _/_, _%_, _^_}
+use mathlib.Core.Bool.{Bool, true, false, cond}
+use mathlib.Core.List.{List, [], _∷_}
+use mathlib.Core.Option.{Option, none, some}
+use lib.Dec.{leb, ltb, eqb}
+use lib.ListN.{getElem?, length}
+use lib.IntN.{ℤ, pos, negsuc, subℕ}
+use Rattle.reading.specs.declared.Bits.{Bits}
+use Rattle.reading.specs.declared.Fault.{Fault}
+use Rattle.reading.specs.declared.Fault.the-variants.{RanOut, Bare, NoCode, Broken}
+use Rattle.reading.specs.Reader.{Read, got, fault, Reader, _>>=_, _>>_, give, fail, rule}
+use Rattle.reading.specs.Tests.{_and_, isAt}
+
+-- the first bit of a data byte x that stands before `at`
+abbrev pub opened : ℕ → ℕ → Read Bits ℕ
+opened x at = got (x / 128 % 2) (record { at = at; byte = x; left = 7 })
+
+-- a data byte 255 must be followed by 0, which is skipped
+abbrev pub afterFull : ℕ → Option ℕ → Read Bits ℕ
+afterFull at none = fault RanOut
+afterFull at (some y) = cond (eqb y 0) (opened 255 (at + 2)) (fault Bare)
+
+abbrev pub freshFrom : List ℕ → ℕ → Option ℕ → Read Bits ℕ
+freshFrom s at none = fault RanOut
+freshFrom s at (some x) = cond (eqb x 255) (afterFull at (getElem? s (at + 1))) (opened x (at + 1))
+
+-- the first bit of the next data byte
+abbrev pub fresh : List ℕ → ℕ → Read Bits ℕ
+fresh s at = freshFrom s at (getElem? s at)
+
+-- the next bit of the file: the highest unread bit of the current byte, or the first of the next data byte
+abbrev pub oneAt : List ℕ → ℕ → ℕ → ℕ → Read Bits ℕ
+oneAt s at byte zero = fresh s at
+oneAt s at byte (suc n) = got ((byte / 2 ^ n) % 2) (record { at = at; byte = byte; left = n })
+
+unfoldable pub one : List ℕ → Reader Bits ℕ
+one s = λ b. oneAt s (b .at) (b .byte) (b .left)
+
+-- the unread bits of the current byte are all ones
+abbrev pub padded : Bits → Bool
+padded b = eqb (b .byte % 2 ^ b .left) (2 ^ b .left - 1)
+
+-- padding, then 255 and the code given: the place behind the marker
+abbrev pub mark : List ℕ → ℕ → Reader Bits (Unit {0})
+mark s code =
+    λ b.
+    cond (padded b and isAt s (b .at) 255 and isAt s (b .at + 1) code)
+    (got tt (record { at = b .at + 2; byte = 0; left = 0 }))
+    (fault Broken)
+
+-- padding, then 255 217 as the file's last two bytes
+abbrev pub ended : List ℕ → Bits → Bool
+ended s b = padded b and isAt s (b .at) 255 and isAt s (b .at + 1) 217 and eqb (b .at + 2) (length s)
+
+-- where bits come from: the next bit; padding and a marker; the end
+pub record Source (S : Type 0) : Type 0 where
+  pub next : Reader S ℕ
+  pub marker : ℕ → Reader S (Unit {0})
+  pub ends : S → Bool
+
+unfoldable pub file : List ℕ → Source Bits
+unfolding one
+file s = record { next = one s; marker = mark s; ends = ended s }
+
+-- n more bits behind the number v
+abbrev pub fieldFrom : {S : Type 0} → Reader S ℕ → ℕ → ℕ → Reader S ℕ
+fieldFrom next zero v = give v
+fieldFrom next (suc n) v = next >>= λ b. fieldFrom next n (2 * v + b)
+
+-- an n-bit number, highest bit first
+unfoldable pub field : {S : Type 0} → Reader S ℕ → ℕ → Reader S ℕ
+field next n = fieldFrom next n 0
+
+-- a field that fits the code's numbers: one of over 16 bits, which no rule asks for, is Broken
+unfoldable pub shortField : {S : Type 0} → Reader S ℕ → ℕ → Reader S ℕ
+unfolding field
+shortField next n = rule (leb n 16) >> field next n
+
+-- what an n-bit field v means: 0 if n = 0, v + 1 - 2^n if v < 2^(n-1), else v
+abbrev pub meaning : ℕ → ℕ → ℤ
+meaning zero v = pos 0
+meaning (suc n) v = cond (ltb v (2 ^ n)) (subℕ (v + 1) (2 ^ suc n)) (pos v)
+
+unfoldable pub amplitude : {S : Type 0} → Reader S ℕ → ℕ → Reader S ℤ
+unfolding field
+amplitude next n = field next n >>= λ v. give (meaning n v)
+
+unfoldable pub shortAmplitude : {S : Type 0} → Reader S ℕ → ℕ → Reader S ℤ
+unfolding shortField field
+shortAmplitude next n = shortField next n >>= λ v. give (meaning n v)

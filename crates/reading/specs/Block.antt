@@ -1,0 +1,86 @@
+-- A block: 64 levels in zigzag order.
+use Prim.Native.Nat.{ℕ, zero, suc, _+_, _*_, _-_, _/_, _%_, _^_, max}
+use mathlib.Core.Bool.{Bool, true, false, cond}
+use mathlib.Core.List.{List, [], _∷_, _++_, map}
+use mathlib.Core.Option.{Option, none, some}
+use lib.Dec.{leb, ltb, eqb}
+use lib.ListN.{getD, take, drop, replicate}
+use lib.IntN.{ℤ, pos, negsuc, _+ℤ_, _*ℤ_}
+use lib.Signed.{leZ}
+use Rattle.reading.specs.declared.Fault.the-variants.{Broken}
+use Rattle.reading.specs.Reader.{Read, Reader, _>>=_, _>>_, give, fail, rule}
+use Rattle.reading.specs.Bits.{field, amplitude}
+use Rattle.reading.specs.Huffman.{Table, symbol}
+use Rattle.reading.specs.Tests.{_and_, within}
+
+-- -2048..2047
+abbrev pub predictable : ℤ → Bool
+predictable d = leZ (negsuc 2047) d and leZ d (pos 2047)
+
+-- the first level: category 0..11; prediction plus difference lies in -2048..2047
+abbrev pub first : {S : Type 0} → Reader S ℕ → Table → ℤ → Reader S ℤ
+first next dc p = do
+  c ← symbol next dc
+  rule (leb c 11)
+  d ← amplitude next c
+  rule (predictable (p +ℤ d))
+  give (p +ℤ d)
+
+-- what a later symbol asks for at a place: the end, 16 zeros, or a run of zeros and a value of a size
+pub data Ask : Type 0 where
+  end : Ask
+  skip : Ask
+  value : ℕ → ℕ → Ask
+  wrong : Ask
+
+abbrev pub asked : ℕ → ℕ → Ask
+asked place x =
+    cond (eqb x 0) end
+    (cond (eqb x 240) (cond (leb place 48) skip wrong)
+    (cond (within 1 10 (x % 16) and ltb (place + x / 16) 64) (value (x / 16) (x % 16)) wrong))
+
+abbrev pub zeros : ℕ → List ℤ
+zeros n = replicate n (pos 0)
+
+-- what an answer gives at a place: the levels from there to 63. `more` reads the levels from a later place
+abbrev pub answered : {S : Type 0} → Reader S ℕ → ℕ → (ℕ → Reader S (List ℤ)) → Ask → Reader S (List ℤ)
+answered next place more end = give (zeros (64 - place))
+answered next place more skip = more (place + 16) >>= λ l. give (zeros 16 ++ l)
+answered next place more (value run size) =
+    amplitude next size >>= λ v. more (place + run + 1) >>= λ l. give (zeros run ++ v ∷ l)
+answered next place more wrong = fail Broken
+
+-- the levels from a place to 63: they stop at the end code, at place 64 or at a fault. `n` bounds the symbols that are left
+unfoldable pub rest : {S : Type 0} → Reader S ℕ → Table → ℕ → ℕ → Reader S (List ℤ)
+unfolding symbol amplitude field
+rest next ac zero place = give []
+rest next ac (suc n) place =
+    cond (leb 64 place) (give []) (symbol next ac >>= λ x. answered next place (rest next ac n) (asked place x))
+
+unfoldable pub block : {S : Type 0} → Reader S ℕ → Table → Table → ℤ → Reader S (List ℤ)
+unfolding symbol amplitude field rest
+block next dc ac p = do
+  v ← first next dc p
+  l ← rest next ac 63 1
+  give (v ∷ l)
+
+-- ---- how many places the levels of a block reach
+
+abbrev pub isZero : ℤ → Bool
+isZero (pos zero) = true
+isZero (pos (suc n)) = false
+isZero (negsuc n) = false
+
+abbrev pub oneMore : Bool → ℕ → ℕ
+oneMore true zero = zero
+oneMore true (suc n) = suc (suc n)
+oneMore false n = suc n
+
+-- one more than the last place that is not 0
+abbrev pub last : List ℤ → ℕ
+last [] = 0
+last (z ∷ l) = oneMore (isZero z) (last l)
+
+-- all levels from this place on are 0; the first place always counts
+unfoldable pub places : List ℤ → ℕ
+places l = max 1 (last l)

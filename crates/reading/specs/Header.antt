@@ -1,0 +1,330 @@
+-- From SOI to SOS.
+use Prim.Native.Nat.{ℕ, zero, suc, _+_, _*_, _-_, _/_, _%_, _^_}
+use mathlib.Core.Bool.{Bool, true, false, not, cond}
+use mathlib.Core.List.{List, [], _∷_, _++_, map}
+use lib.Dec.{leb, ltb, eqb}
+use lib.ListN.{getD, take, drop, set, length, replicate}
+use Rattle.reading.specs.declared.Refusal.{Refusal}
+use Rattle.reading.specs.declared.Refusal.the-variants.{CutShort, Malformed, Unsupported}
+use Rattle.reading.specs.declared.Case.{Case}
+use Rattle.reading.specs.declared.Case.the-variants.{Marker, Quantizers, Huffman}
+use Rattle.reading.specs.declared.Kind.{Kind}
+use Rattle.reading.specs.declared.Kind.the-variants.{Quants, Tables, Frames, Scans, Intervals, Skips, Others}
+use Rattle.reading.specs.declared.Frame.{Frame}
+use Rattle.reading.specs.declared.Header.{Header}
+use Rattle.reading.specs.declared.Record.{Record}
+use Rattle.reading.specs.declared.Verdict.{Verdict}
+use Rattle.reading.specs.declared.Verdict.the-variants.{Accepted, Refused}
+use Rattle.reading.specs.declared.Head.{Head}
+use Rattle.reading.specs.Tests.{_and_, _or_, within, all, allFrom}
+use Rattle.reading.specs.Huffman.{Table, tableAt, sum, codesFit}
+use Rattle.reading.specs.Tables.{quantAt, dcAt, acAt}
+use Rattle.reading.specs.Layout.{Shape, factorsOf, blockCount, outputLength, workOf}
+
+-- where the header stands: more to read, the scan with its record, or a refusal
+pub data Stage : Type 0 where
+  more : Header → Stage
+  done : Record → Stage
+  stop : Refusal → Stage
+
+-- a refusal where the test passes, else what follows
+unfoldable pub refuse-if : Bool → Refusal → Stage → Stage
+refuse-if true x st = stop x
+refuse-if false x st = st
+
+abbrev pub byte : List ℕ → ℕ → ℕ
+byte s p = getD s p 0
+
+-- two bytes, high byte first
+abbrev pub word : List ℕ → ℕ → ℕ
+word s p = 256 * byte s p + byte s (p + 1)
+
+abbrev pub moved : Header → ℕ → Case → Header
+moved h at c =
+    record { at = at; case = c; quants = h .quants; dcs = h .dcs; acs = h .acs; frame = h .frame; interval = h .interval }
+
+-- the bytes from a to e: a segment's body, or what is left of it. Every rule below reads such a list, never the file
+abbrev pub window : List ℕ → ℕ → ℕ → List ℕ
+window s a e = take (e - a) (drop a s)
+
+-- a quantizer is an id 0..3 and 64 nonzero bytes
+abbrev pub quantizerFits : List ℕ → Bool
+quantizerFits b = leb 65 (length b) and leb (byte b 0) 3 and all (ltb 0) (take 64 (drop 1 b))
+
+abbrev pub withQuantizer : List ℕ → Header → Header
+withQuantizer b h =
+    record { at = h .at + 65; case = h .case; quants = set (h .quants) (byte b 0) (h .at + 1); dcs = h .dcs; acs = h .acs; frame = h .frame; interval = h .interval }
+
+abbrev pub quantizer : List ℕ → Header → ℕ → Stage
+quantizer b h e =
+    cond (eqb (h .at) e) (more (moved h e Marker))
+    (refuse-if (not (quantizerFits b)) Malformed (more (withQuantizer b h)))
+
+-- the 16 counts behind a table's first byte
+abbrev pub countsOf : List ℕ → List ℕ
+countsOf b = take 16 (drop 1 b)
+
+-- a Huffman table is class 0 or 1, id 0..3, 16 counts, 1 to 256 symbols, inside its segment, and its codes fit
+abbrev pub tableFits : List ℕ → Bool
+tableFits b =
+    leb 17 (length b) and leb (byte b 0 / 16) 1 and leb (byte b 0 % 16) 3 and within 1 256 (sum (countsOf b))
+    and leb (17 + sum (countsOf b)) (length b) and codesFit (countsOf b) 0 0
+
+abbrev pub put : Bool → List ℕ → ℕ → ℕ → List ℕ
+put true l i x = set l i x
+put false l i x = l
+
+abbrev pub withTable : List ℕ → Header → Header
+withTable b h =
+    record {
+      at = h .at + (17 + sum (countsOf b));
+      case = h .case;
+      quants = h .quants;
+      dcs = put (eqb (byte b 0 / 16) 0) (h .dcs) (byte b 0 % 16) (h .at + 1);
+      acs = put (eqb (byte b 0 / 16) 1) (h .acs) (byte b 0 % 16) (h .at + 1);
+      frame = h .frame;
+      interval = h .interval;
+    }
+
+abbrev pub huffman : List ℕ → Header → ℕ → Stage
+huffman b h e =
+    cond (eqb (h .at) e) (more (moved h e Marker)) (refuse-if (not (tableFits b)) Malformed (more (withTable b h)))
+
+-- for each of three channels, f of it; 0 behind the last channel
+abbrev pub each : ℕ → (ℕ → ℕ) → List ℕ
+each ch f = cond (ltb 0 ch) (f 0) 0 ∷ cond (ltb 1 ch) (f 1) 0 ∷ cond (ltb 2 ch) (f 2) 0 ∷ []
+
+-- the first channel's sampling, across and down
+abbrev pub acrossOf : List ℕ → ℕ
+acrossOf b = byte b 7 / 16
+
+abbrev pub downOf : List ℕ → ℕ
+downOf b = byte b 7 % 16
+
+-- the frame of a body
+abbrev pub frameOf : List ℕ → Frame
+frameOf b =
+    let ch = byte b 5 in
+    record {
+      width = word b 3;
+      height = word b 1;
+      channels = ch;
+      hs = cond (eqb ch 1) 1 (acrossOf b);
+      vs = cond (eqb ch 1) 1 (downOf b);
+      ids = each ch (λ c. byte b (6 + 3 * c));
+      qids = each ch (λ c. byte b (8 + 3 * c));
+    }
+
+-- in three channels: a sampling product up to 4, ids apart, chroma 17
+abbrev pub threeFit : List ℕ → Frame → Bool
+threeFit b f =
+    leb (acrossOf b * downOf b) 4
+    and not (eqb (getD (f .ids) 0 0) (getD (f .ids) 1 0))
+    and not (eqb (getD (f .ids) 0 0) (getD (f .ids) 2 0))
+    and not (eqb (getD (f .ids) 1 0) (getD (f .ids) 2 0))
+    and eqb (byte b 10) 17 and eqb (byte b 13) 17
+
+-- quantizer ids 0..3
+abbrev pub quantsFit : Frame → Bool
+quantsFit f = leb (getD (f .qids) 0 0) 3 and leb (getD (f .qids) 1 0) 3 and leb (getD (f .qids) 2 0) 3
+
+-- the frame is one that is read: no zero side, sampling 1..4, quantizer ids 0..3, and what three channels ask
+abbrev pub frameFits : List ℕ → Frame → Bool
+frameFits b f =
+    ltb 0 (f .width) and ltb 0 (f .height) and within 1 4 (acrossOf b) and within 1 4 (downOf b) and quantsFit f
+    and (eqb (f .channels) 1 or threeFit b f)
+
+-- the body can be read as a frame: long enough to hold a count, 8 bits, one channel or three
+abbrev pub frameKnown : List ℕ → Bool
+frameKnown b = leb 6 (length b) and eqb (byte b 0) 8 and (eqb (byte b 5) 1 or eqb (byte b 5) 3)
+
+abbrev pub hasFrame : Header → Bool
+hasFrame h = ltb 0 (h .frame .channels)
+
+abbrev pub withFrame : Header → ℕ → Frame → Header
+withFrame h e f =
+    record { at = e; case = Marker; quants = h .quants; dcs = h .dcs; acs = h .acs; frame = f; interval = h .interval }
+
+abbrev pub frame : List ℕ → Header → ℕ → Stage
+frame b h e =
+    refuse-if (hasFrame h) Malformed
+    (refuse-if (not (frameKnown b)) Unsupported
+    (refuse-if (not (eqb (length b) (6 + 3 * byte b 5))) Malformed
+    (refuse-if (not (frameFits b (frameOf b))) Unsupported
+    (more (withFrame h e (frameOf b))))))
+
+abbrev pub withInterval : Header → ℕ → ℕ → Header
+withInterval h e n =
+    record { at = e; case = Marker; quants = h .quants; dcs = h .dcs; acs = h .acs; frame = h .frame; interval = n }
+
+abbrev pub interval : List ℕ → Header → ℕ → Stage
+interval b h e = refuse-if (not (eqb (length b) 2)) Malformed (more (withInterval h e (word b 0)))
+
+abbrev pub shapeOf : Frame → Shape
+shapeOf f = record { width = f .width; height = f .height; factors = factorsOf (f .hs) (f .vs) (f .channels) }
+
+-- the DC and AC table ids of channel c in a scan's body
+abbrev pub dcId : List ℕ → ℕ → ℕ
+dcId b c = byte b (2 + 2 * c) / 16
+
+abbrev pub acId : List ℕ → ℕ → ℕ
+acId b c = byte b (2 + 2 * c) % 16
+
+abbrev pub recordOf : List ℕ → Bool → Header → ℕ → Record
+recordOf b colour h e =
+    let f = h .frame in
+    let sh = shapeOf f in
+    record {
+      width = f .width;
+      height = f .height;
+      channels = f .channels;
+      hs = f .hs;
+      vs = f .vs;
+      ids = f .ids;
+      qids = f .qids;
+      dcids = each (f .channels) (dcId b);
+      acids = each (f .channels) (acId b);
+      quants = h .quants;
+      dcs = h .dcs;
+      acs = h .acs;
+      interval = h .interval;
+      start = e;
+      blocks = blockCount sh;
+      scratch = 64 * blockCount sh;
+      output = outputLength sh;
+      work = workOf sh;
+      colour = colour;
+    }
+
+-- a property of each channel
+abbrev pub eachChannel : ℕ → (ℕ → Bool) → Bool
+eachChannel ch p = allFrom ch 0 p
+
+-- every channel has its quantizer and its two Huffman tables
+abbrev pub complete : Record → Bool
+complete r =
+    eachChannel (r .channels) (λ c. ltb 0 (quantAt r c) and ltb 0 (dcAt r c) and ltb 0 (acAt r c))
+
+-- the scan's last three bytes are 0 63 0
+abbrev pub sequential : List ℕ → ℕ → Bool
+sequential b ch = eqb (byte b (1 + 2 * ch)) 0 and eqb (byte b (2 + 2 * ch)) 63 and eqb (byte b (3 + 2 * ch)) 0
+
+-- the body can be read as the scan of a picture with ch channels
+abbrev pub scanKnown : List ℕ → ℕ → Bool
+scanKnown b ch = eqb (byte b 0) ch and eqb (length b) (4 + 2 * ch) and sequential b ch
+
+-- the scan names the channels in the frame's order
+abbrev pub inOrder : List ℕ → List ℕ → ℕ → Bool
+inOrder b ids ch = eachChannel ch (λ c. eqb (byte b (1 + 2 * c)) (getD ids c 0))
+
+-- each channel's two table ids are at most 3
+abbrev pub selected : List ℕ → ℕ → Bool
+selected b ch = eachChannel ch (λ c. leb (dcId b c) 3 and leb (acId b c) 3)
+
+abbrev pub scan : List ℕ → Bool → Header → ℕ → Stage
+scan b colour h e =
+    let ch = h .frame .channels in
+    refuse-if (not (hasFrame h)) Malformed
+    (refuse-if (not (scanKnown b ch)) Unsupported
+    (refuse-if (not (inOrder b (h .frame .ids) ch)) Malformed
+    (refuse-if (not (selected b ch)) Unsupported
+    (refuse-if (not (complete (recordOf b colour h e))) Malformed
+    (done (recordOf b colour h e))))))
+
+-- what a marker code asks for
+abbrev pub kindOf : ℕ → Kind
+kindOf c =
+    cond (within 192 193 c) Frames
+    (cond (eqb c 196) Tables
+    (cond (eqb c 218) Scans
+    (cond (eqb c 219) Quants
+    (cond (eqb c 221) Intervals
+    (cond (within 224 239 c or eqb c 254) Skips Others)))))
+
+-- a segment from a to e with its body
+abbrev pub segment : Bool → Header → Kind → List ℕ → ℕ → ℕ → Stage
+segment colour h Quants b a e = refuse-if (eqb a e) Malformed (more (moved h a (Quantizers e)))
+segment colour h Tables b a e = refuse-if (eqb a e) Malformed (more (moved h a (Huffman e)))
+segment colour h Frames b a e = frame b h e
+segment colour h Scans b a e = scan b colour h e
+segment colour h Intervals b a e = interval b h e
+segment colour h Skips b a e = more (moved h e Marker)
+segment colour h Others b a e = stop Unsupported
+
+-- the end of the segment whose marker stands at p
+abbrev pub segmentEnd : List ℕ → ℕ → ℕ
+segmentEnd s p = p + 2 + word s (p + 2)
+
+abbrev pub marker : List ℕ → Bool → Header → Stage
+marker s colour h =
+    let p = h .at in
+    refuse-if (ltb (length s) (p + 2) or not (eqb (byte s p) 255)) Malformed
+    (cond (eqb (byte s (p + 1)) 255) (more (moved h (p + 1) Marker))
+    (refuse-if (eqb (byte s (p + 1)) 217) Malformed
+    (refuse-if (ltb (length s) (p + 4) or ltb (word s (p + 2)) 2 or ltb (length s) (segmentEnd s p)) CutShort
+    (segment colour h (kindOf (byte s (p + 1))) (window s (p + 4) (segmentEnd s p)) (p + 4) (segmentEnd s p)))))
+
+-- one step of the header
+abbrev pub stepIn : List ℕ → Bool → Header → Case → Stage
+stepIn s colour h Marker = marker s colour h
+stepIn s colour h (Quantizers e) = quantizer (window s (h .at) e) h e
+stepIn s colour h (Huffman e) = huffman (window s (h .at) e) h e
+
+abbrev pub step : List ℕ → Bool → Header → Stage
+step s colour h = stepIn s colour h (h .case)
+
+-- n steps, or fewer where it stops before
+abbrev pub steps : List ℕ → Bool → ℕ → Stage → Stage
+steps s colour zero st = st
+steps s colour (suc n) (more h) = steps s colour n (step s colour h)
+steps s colour (suc n) (done r) = done r
+steps s colour (suc n) (stop x) = stop x
+
+abbrev pub noFrame : Frame
+noFrame = record { width = 0; height = 0; channels = 0; hs = 0; vs = 0; ids = replicate 3 0; qids = replicate 3 0 }
+
+abbrev pub opening : Header
+opening =
+    record { at = 2; case = Marker; quants = replicate 4 0; dcs = replicate 4 0; acs = replicate 4 0; frame = noFrame; interval = 0 }
+
+-- the file opens 255 216
+abbrev pub opens : List ℕ → Bool
+opens s = leb 2 (length s) and eqb (byte s 0) 255 and eqb (byte s 1) 216
+
+abbrev pub started : List ℕ → Stage
+started s = refuse-if (not (opens s)) Malformed (more opening)
+
+unfoldable pub header : List ℕ → Bool → Stage
+unfolding refuse-if blockCount outputLength workOf
+header s colour = steps s colour (2 * length s + 1) (started s)
+
+-- the record of a refusal
+abbrev pub noRecord : Record
+noRecord =
+    record {
+      width = 0;
+      height = 0;
+      channels = 0;
+      hs = 0;
+      vs = 0;
+      ids = replicate 3 0;
+      qids = replicate 3 0;
+      dcids = replicate 3 0;
+      acids = replicate 3 0;
+      quants = replicate 4 0;
+      dcs = replicate 4 0;
+      acs = replicate 4 0;
+      interval = 0;
+      start = 0;
+      blocks = 0;
+      scratch = 0;
+      output = 0;
+      work = 0;
+      colour = false;
+    }
+
+-- the header as the code answers it (the first line is never met: `header-finishes`)
+abbrev pub headed : Stage → Head
+headed (more h) = record { verdict = Refused CutShort; found = noRecord }
+headed (done r) = record { verdict = Accepted; found = r }
+headed (stop x) = record { verdict = Refused x; found = noRecord }

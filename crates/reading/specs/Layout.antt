@@ -1,0 +1,126 @@
+-- MCUs, blocks, restarts, and where each sample stands, stated over the sampling factors of each channel. The pictures that are
+-- read today have the factors hs x vs and then 1 x 1 (`factorsOf`); the laws in proofs/Places say what that instance is.
+use Prim.Native.Nat.{ℕ, zero, suc, _+_, _*_, _-_, _/_, _%_, max}
+use mathlib.Core.Bool.{Bool, true, false, cond}
+use mathlib.Core.List.{List, [], _∷_}
+use lib.Dec.{leb, ltb, eqb}
+use lib.ListN.{replicate, length}
+use Rattle.reading.specs.Tests.{_and_}
+
+-- how many blocks of a channel stand side by side in an MCU, and how many one below the other
+pub record Factors : Type 0 where
+  pub across : ℕ
+  pub down : ℕ
+
+-- the sides of a picture and the factors of its channels
+pub record Shape : Type 0 where
+  pub width : ℕ
+  pub height : ℕ
+  pub factors : List Factors
+
+abbrev pub oneByOne : Factors
+oneByOne = record { across = 1; down = 1 }
+
+-- first the factors hs x vs, then 1 x 1 for each other channel
+abbrev pub factorsOf : ℕ → ℕ → ℕ → List Factors
+factorsOf hs vs channels = record { across = hs; down = vs } ∷ replicate (channels - 1) oneByOne
+
+-- ceiling of a/b, b above 0
+abbrev pub ceiling : ℕ → ℕ → ℕ
+ceiling a b = (a + (b - 1)) / b
+
+-- the largest factors: an MCU is 8 times that wide and high
+abbrev pub widest : List Factors → ℕ
+widest [] = 0
+widest (f ∷ fs) = max (f .across) (widest fs)
+
+abbrev pub highest : List Factors → ℕ
+highest [] = 0
+highest (f ∷ fs) = max (f .down) (highest fs)
+
+-- MCUs across = ceiling of width/(8hs); down likewise
+abbrev pub mcusAcross : Shape → ℕ
+mcusAcross p = ceiling (p .width) (8 * widest (p .factors))
+
+abbrev pub mcusDown : Shape → ℕ
+mcusDown p = ceiling (p .height) (8 * highest (p .factors))
+
+-- the blocks of a channel in an MCU
+abbrev pub area : Factors → ℕ
+area f = f .across * f .down
+
+-- the blocks of an MCU: hs x vs first-channel blocks, then one per chroma channel
+abbrev pub areas : List Factors → ℕ
+areas [] = 0
+areas (f ∷ fs) = area f + areas fs
+
+unfoldable pub perMcu : Shape → ℕ
+perMcu p = areas (p .factors)
+
+unfoldable pub blockCount : Shape → ℕ
+unfolding perMcu
+blockCount p = mcusAcross p * mcusDown p * perMcu p
+
+-- the bytes of the picture: one for each channel of each pixel
+unfoldable pub outputLength : Shape → ℕ
+outputLength p = p .width * p .height * length (p .factors)
+
+-- work = 3136 x blocks + output bytes
+unfoldable pub workOf : Shape → ℕ
+unfolding blockCount outputLength
+workOf p = 3136 * blockCount p + outputLength p
+
+-- the channel of block j of an MCU
+abbrev pub channelIn : List Factors → ℕ → ℕ
+channelIn [] j = 0
+channelIn (f ∷ fs) j = cond (ltb j (area f)) 0 (suc (channelIn fs (j - area f)))
+
+-- the channel of block k of the scan
+unfoldable pub channelOf : Shape → ℕ → ℕ
+unfolding perMcu
+channelOf p k = channelIn (p .factors) (k % perMcu p)
+
+-- the MCU of block k
+abbrev pub mcuOf : Shape → ℕ → ℕ
+mcuOf p k = k / perMcu p
+
+-- a restart is due before MCU m > 0 with m a multiple of the interval; 0 is none
+abbrev pub dueBefore : ℕ → ℕ → Bool
+dueBefore interval m = ltb 0 m and ltb 0 interval and eqb (m % interval) 0
+
+-- a restart is due before block k: it opens such an MCU
+unfoldable pub restartDue : Shape → ℕ → ℕ → Bool
+unfolding perMcu
+restartDue p interval k = eqb (k % perMcu p) 0 and dueBefore interval (mcuOf p k)
+
+-- the code of the restart marker before MCU m
+abbrev pub restartBefore : ℕ → ℕ → ℕ
+restartBefore interval m = 208 + (m / interval - 1) % 8
+
+abbrev pub restartCode : Shape → ℕ → ℕ → ℕ
+restartCode p interval k = restartBefore interval (mcuOf p k)
+
+-- the MCU of a pixel
+abbrev pub mcuAt : Shape → ℕ → ℕ → ℕ
+mcuAt p x y = y / (8 * highest (p .factors)) * mcusAcross p + x / (8 * widest (p .factors))
+
+-- a place on one side of an MCU, in a channel's own samples: floor(place in MCU x its factor / largest factor)
+abbrev pub scaled : ℕ → ℕ → ℕ → ℕ
+scaled place factor largest = place % (8 * largest) * factor / largest
+
+-- where sample (x, y) of the channel with the factors f stands among that channel's samples in an MCU: its block, row by row,
+-- and its place in the block
+abbrev pub placeIn : Factors → ℕ → ℕ → ℕ
+placeIn f u v = 64 * (v / 8 * f .across + u / 8) + (8 * (v % 8) + u % 8)
+
+-- the same for channel c, behind the channels before it
+abbrev pub placeOfChannel : List Factors → ℕ → ℕ → ℕ → ℕ → ℕ → ℕ
+placeOfChannel [] h v x y c = 0
+placeOfChannel (f ∷ fs) h v x y zero = placeIn f (scaled x (f .across) h) (scaled y (f .down) v)
+placeOfChannel (f ∷ fs) h v x y (suc c) = 64 * area f + placeOfChannel fs h v x y c
+
+-- the place of sample (x, y) of channel c among all block samples
+unfoldable pub sampleAt : Shape → ℕ → ℕ → ℕ → ℕ
+unfolding perMcu
+sampleAt p x y c =
+    64 * (mcuAt p x y * perMcu p) + placeOfChannel (p .factors) (widest (p .factors)) (highest (p .factors)) x y c

@@ -1,0 +1,66 @@
+-- The reading of a file, limits set aside, and its picture.
+use Prim.Native.Nat.{ℕ, zero, suc, _+_, _*_, _-_, _/_, _%_}
+use mathlib.Core.Bool.{Bool, true, false, cond}
+use mathlib.Core.List.{List, [], _∷_, _++_, map}
+use lib.Dec.{leb, ltb, eqb}
+use lib.ListN.{getD}
+use lib.IntN.{ℤ, pos}
+use Rattle.reading.specs.declared.Refusal.{Refusal}
+use Rattle.reading.specs.declared.Refusal.the-variants.{CutShort, Malformed, Scan}
+use Rattle.reading.specs.declared.Record.{Record}
+use Rattle.reading.specs.declared.Bits.{Bits}
+use Rattle.reading.specs.Reader.{Read, got, fault}
+use Rattle.whole.specs.Lists.{from, listOf}
+use Rattle.reading.specs.Tests.{_and_}
+use Rattle.reading.specs.Header.{Stage, more, done, stop, header}
+use Rattle.reading.specs.Layout.{Shape, channelOf, sampleAt}
+use Rattle.reading.specs.Transform.{coefficients, samples}
+use Rattle.reading.specs.Colour.{colourOf}
+use Rattle.reading.specs.Scan.{Plan, planOf, levels}
+use Rattle.reading.specs.Tables.{shapeIn}
+
+-- a file is accepted with its record and its levels, or refused
+pub data Reading : Type 0 where
+  accepted : Record → List (List ℤ) → Reading
+  refused : Refusal → Reading
+
+abbrev pub scanned : Record → Read Bits (List (List ℤ)) → Reading
+scanned r (got ls b) = accepted r ls
+scanned r (fault f) = refused (Scan f)
+
+-- (the header is never left unfinished: `header-finishes`)
+abbrev pub readFrom : List ℕ → Stage → Reading
+readFrom s (more h) = refused CutShort
+readFrom s (done r) = scanned r (levels s r)
+readFrom s (stop x) = refused x
+
+-- the reading of a file, limits set aside
+abbrev pub reading : List ℕ → Bool → Reading
+reading s colour = readFrom s (header s colour)
+
+-- the coefficients of block k and those behind it, in natural order
+abbrev pub dequantized : Plan → ℕ → List (List ℤ) → List (List ℤ)
+dequantized p k [] = []
+dequantized p k (l ∷ ls) =
+    coefficients (p .channels (channelOf (p .shape) k) .quant) l ∷ dequantized p (suc k) ls
+
+-- the samples of the blocks, one block after another
+abbrev pub blockSamples : List (List ℤ) → List ℕ
+blockSamples [] = []
+blockSamples (c ∷ cs) = samples c ++ blockSamples cs
+
+abbrev pub allSamples : List ℕ → Record → List (List ℤ) → List ℕ
+allSamples s r ls = blockSamples (dequantized (planOf s r) 0 ls)
+
+-- channel c of pixel (x, y)
+abbrev pub pixel : Record → List ℕ → ℕ → ℕ → ℕ → ℕ
+pixel r t x y c =
+    let f = shapeIn r in
+    let v : ℕ → ℕ = λ d. getD t (sampleAt f x y d) 0 in
+    cond (r .colour and eqb (r .channels) 3) (colourOf c (v 0) (v 1) (v 2)) (v c)
+
+-- the picture, row by row, channels interleaved
+abbrev pub picture : Record → List ℕ → List ℕ
+picture r t =
+    listOf (r .output)
+    (λ k. pixel r t (k / r .channels % r .width) (k / r .channels / r .width) (k % r .channels))

@@ -1,0 +1,60 @@
+-- Tests on numbers as Booleans, and small functions on lists.
+use Prim.Native.Nat.{ℕ, zero, suc, _+_, _*_, _-_}
+use mathlib.Core.Bool.{Bool, true, false, not, cond}
+use mathlib.Core.List.{List, [], _∷_, _++_}
+use mathlib.Core.Option.{Option, none, some}
+use lib.Dec.{leb, ltb, eqb}
+use lib.ListN.{getElem?, length, drop}
+
+infixr 40 _and_
+abbrev pub _and_ : Bool → Bool → Bool
+true and b = b
+false and b = false
+
+infixr 35 _or_
+abbrev pub _or_ : Bool → Bool → Bool
+true or b = true
+false or b = b
+
+-- lo ≤ n ≤ hi
+abbrev pub within : ℕ → ℕ → ℕ → Bool
+within lo hi n = leb lo n and leb n hi
+
+-- the first place of x in a list, counted from i
+abbrev pub placeFrom : List ℕ → ℕ → ℕ → Option ℕ
+placeFrom [] x i = none
+placeFrom (y ∷ ys) x i = cond (eqb x y) (some i) (placeFrom ys x (suc i))
+
+abbrev pub placeOf : List ℕ → ℕ → Option ℕ
+placeOf ys x = placeFrom ys x 0
+
+abbrev pub isSome : Option ℕ → ℕ → Bool
+isSome none x = false
+isSome (some y) x = eqb y x
+
+-- the byte at a place is the number given
+abbrev pub isAt : List ℕ → ℕ → ℕ → Bool
+isAt s i x = isSome (getElem? s i) x
+
+-- every element passes
+abbrev pub all : {A : Type 0} → (A → Bool) → List A → Bool
+all p [] = true
+all p (x ∷ xs) = p x and all p xs
+
+-- p holds of the n numbers from c on
+abbrev pub allFrom : ℕ → ℕ → (ℕ → Bool) → Bool
+allFrom zero c p = true
+allFrom (suc n) c p = p c and allFrom n (suc c) p
+
+-- what an option holds, or 0
+abbrev pub orZero : Option ℕ → ℕ
+orZero none = 0
+orZero (some n) = n
+
+abbrev pub isNone : {A : Type 0} → Option A → Bool
+isNone none = true
+isNone (some a) = false
+
+-- what is left behind in a buffer: what is written, then the old tail
+abbrev pub over : List ℕ → List ℕ → List ℕ
+over new old = new ++ drop (length new) old

@@ -1,0 +1,432 @@
+// What the code and the definitions of specs/ share: the types, their fresh values, and the numbers that belong to them
+// (prices, clamp bounds, limits).
+ghost use mathlib.Core.Path.{_≡_};
+ghost use Prim.Native.Nat.{_-_};
+ghost use lib.Dec.{leb};
+ghost use Rattle.reading.specs.Header.{noFrame, opening, moved, withFrame, withInterval, noRecord, headed, stop};
+ghost use Rattle.reading.specs.Scan.{firstBit, opened};
+ghost use Rattle.reading.specs.Calls.{numberOf, number};
+
+// The bit place of a scan: the next byte of the file, the current byte, and how many of its low bits are unread.
+pub struct Bits {
+    pub at: usize,
+    pub byte: u8,
+    pub left: u8,
+}
+
+impl Bits {
+    // the place before the first bit of the byte at `at`
+    pub fn first(at: usize) -> Self
+        ensures { λ r. ⌜ r ≡ firstBit at ⌝ }
+    {
+        Self {
+            at: at,
+            byte: 0,
+            left: 0,
+        }
+    }
+}
+
+// Each scan keeps the bit place, three predictors and the count of blocks done.
+pub struct ScanCursor {
+    pub bits: Bits,
+    pub predictors: [i32; 3],
+    pub done: usize,
+}
+
+impl ScanCursor {
+    // before the first block of a scan whose first coded byte is at `at`
+    pub fn fresh(at: usize) -> Self
+        ensures { λ r. ⌜ r ≡ opened at ⌝ }
+    {
+        let bits = Bits::first(at);
+        Self {
+            bits: bits,
+            predictors: [0; 3],
+            done: 0,
+        }
+    }
+}
+
+// Why a scan broke.
+pub enum Fault {
+    // the bytes ran out
+    RanOut,
+    // a 255 that is followed by neither 0 nor the end
+    Bare,
+    // sixteen bits that are no code
+    NoCode,
+    // anything else
+    Broken,
+}
+
+// A refusal, by the rule that gave it.
+pub enum Refusal {
+    TooLong,
+    OverBudget,
+    CutShort,
+    Malformed,
+    Unsupported,
+    TooLarge,
+    ShortRoom,
+    NotItsRecord,
+    NoEndCode,
+    Scan(Fault),
+}
+
+// What a marker code asks for.
+pub enum Kind {
+    Quants,
+    Tables,
+    Frames,
+    Scans,
+    Intervals,
+    Skips,
+    Others,
+}
+
+// What the header reads next: a marker, or the tables of a segment that ends at the place given.
+pub enum Case {
+    Marker,
+    Quantizers(usize),
+    Huffman(usize),
+}
+
+// The frame: one or three channels. Ids, quantizer ids; all zero where no frame was read.
+pub struct Frame {
+    pub width: usize,
+    pub height: usize,
+    pub channels: usize,
+    pub hs: usize,
+    pub vs: usize,
+    pub ids: [usize; 3],
+    pub qids: [usize; 3],
+}
+
+// The header's state: the next byte, the case, where each table starts (0: absent), the frame and the restart interval.
+pub struct Header {
+    pub at: usize,
+    pub case: Case,
+    pub quants: [usize; 4],
+    pub dcs: [usize; 4],
+    pub acs: [usize; 4],
+    pub frame: Frame,
+    pub interval: usize,
+}
+
+// What inspect finds. For each channel its id and the ids of its tables (0 behind the last channel); by id the place of each table
+// that stands when the scan is met (absent is 0); the first coded byte; the sizes and the work that follow from the frame.
+pub struct Record {
+    pub width: usize,
+    pub height: usize,
+    pub channels: usize,
+    pub hs: usize,
+    pub vs: usize,
+    pub ids: [usize; 3],
+    pub qids: [usize; 3],
+    pub dcids: [usize; 3],
+    pub acids: [usize; 3],
+    pub quants: [usize; 4],
+    pub dcs: [usize; 4],
+    pub acs: [usize; 4],
+    pub interval: usize,
+    pub start: usize,
+    pub blocks: usize,
+    pub scratch: usize,
+    pub output: usize,
+    pub work: u64,
+    pub colour: bool,
+}
+
+impl Frame {
+    // no frame yet
+    pub fn none() -> Self
+        ensures { λ r. ⌜ r ≡ noFrame ⌝ }
+    {
+        Self {
+            width: 0,
+            height: 0,
+            channels: 0,
+            hs: 0,
+            vs: 0,
+            ids: [0; 3],
+            qids: [0; 3],
+        }
+    }
+}
+
+impl Header {
+    // the state behind the file's first two bytes
+    pub fn fresh() -> Self
+        ensures { λ r. ⌜ r ≡ opening ⌝ }
+    {
+        let frame = Frame::none();
+        Self {
+            at: 2,
+            case: Case::Marker,
+            quants: [0; 4],
+            dcs: [0; 4],
+            acs: [0; 4],
+            frame: frame,
+            interval: 0,
+        }
+    }
+
+    // the same tables, frame and interval at another place
+    pub fn moved(self, at: usize, c: Case) -> Self
+        ensures { λ r. ⌜ r ≡ moved self at c ⌝ }
+    {
+        let quants = self.quants;
+        let dcs = self.dcs;
+        let acs = self.acs;
+        let frame = self.frame;
+        Self {
+            at: at,
+            case: c,
+            quants: quants,
+            dcs: dcs,
+            acs: acs,
+            frame: frame,
+            interval: self.interval,
+        }
+    }
+
+    // behind a frame's segment
+    pub fn with_frame(self, at: usize, frame: Frame) -> Self
+        ensures { λ r. ⌜ r ≡ withFrame self at frame ⌝ }
+    {
+        let quants = self.quants;
+        let dcs = self.dcs;
+        let acs = self.acs;
+        Self {
+            at: at,
+            case: Case::Marker,
+            quants: quants,
+            dcs: dcs,
+            acs: acs,
+            frame: frame,
+            interval: self.interval,
+        }
+    }
+
+    // behind a segment that sets the restart interval
+    pub fn with_interval(self, at: usize, interval: usize) -> Self
+        ensures { λ r. ⌜ r ≡ withInterval self at interval ⌝ }
+    {
+        let quants = self.quants;
+        let dcs = self.dcs;
+        let acs = self.acs;
+        let frame = self.frame;
+        Self {
+            at: at,
+            case: Case::Marker,
+            quants: quants,
+            dcs: dcs,
+            acs: acs,
+            frame: frame,
+            interval: interval,
+        }
+    }
+}
+
+impl Record {
+    // the record of a refusal
+    pub fn none() -> Self
+        ensures { λ r. ⌜ r ≡ noRecord ⌝ }
+    {
+        Self {
+            width: 0,
+            height: 0,
+            channels: 0,
+            hs: 0,
+            vs: 0,
+            ids: [0; 3],
+            qids: [0; 3],
+            dcids: [0; 3],
+            acids: [0; 3],
+            quants: [0; 4],
+            dcs: [0; 4],
+            acs: [0; 4],
+            interval: 0,
+            start: 0,
+            blocks: 0,
+            scratch: 0,
+            output: 0,
+            work: 0,
+            colour: false,
+        }
+    }
+}
+
+// The most bytes of input, the longest side, and the most samples of blocks or of the picture that a caller takes.
+pub struct Limits {
+    pub input: usize,
+    pub side: usize,
+    pub output: usize,
+}
+
+impl Limits {
+    // the longest side that a frame can name
+    pub const SIDE: usize = 65535;
+    // the bytes of each of the program's three buffers
+    pub const BUFFER: usize = 65536;
+}
+
+// What a caller lets a call take. The header's price is 2 for each byte of the file and 1; a block's is 3136 and an output byte's 1.
+pub struct Budget {
+    pub left: u64,
+}
+
+impl Budget {
+    pub const FILE_BYTE: u64 = 2;
+
+    pub const FILE: u64 = 1;
+
+    pub const BLOCK: u64 = 3136;
+
+    pub fn fresh(left: u64) -> Self
+        ensures { λ r. ⌜ r ≡ record { left = left } ⌝ }
+    {
+        Self { left: left }
+    }
+
+    // a budget equal to the price suffices
+    pub fn covers(self, price: u64) -> bool
+        ensures { λ r. ⌜ r ≡ leb price (self .left) ⌝ }
+    {
+        price <= self.left
+    }
+
+    // what is left behind a price; nothing where the price is the larger
+    pub fn less(self, price: u64) -> Self
+        ensures { λ r. ⌜ r ≡ record { left = self .left - price } ⌝ }
+    {
+        if self.left < price {
+            return Self { left: 0 };
+        }
+        Self {
+            left: self.left - price,
+        }
+    }
+}
+
+// What turns a block's double sum v into a sample: MIDDLE is added; 0 and below is 0, TOP and above is 255, else one step of
+// the sample is STEP.
+pub struct Sample;
+
+impl Sample {
+    pub const MIDDLE: i64 = 137975824384;
+
+    pub const TOP: i64 = 273804165120;
+
+    pub const STEP: i64 = 1073741824;
+}
+
+// A level of a block; the first lies between these two.
+pub struct Level;
+
+impl Level {
+    pub const LEAST: i64 = -2048;
+
+    pub const MOST: i64 = 2047;
+}
+
+impl Refusal {
+    // the number of the rules
+    pub fn number(self) -> u8
+        ensures { λ r. ⌜ r ≡ numberOf self ⌝ }
+    {
+        match self {
+            Self::TooLong => 1,
+            Self::OverBudget => 2,
+            Self::CutShort => 3,
+            Self::Malformed => 4,
+            Self::Unsupported => 5,
+            Self::TooLarge => 6,
+            Self::ShortRoom => 7,
+            Self::NotItsRecord => 8,
+            Self::NoEndCode => 9,
+            Self::Scan(_) => 4,
+        }
+    }
+}
+
+pub enum Verdict {
+    Accepted,
+    Refused(Refusal),
+}
+
+impl Verdict {
+    // 0 where accepted
+    pub fn number(self) -> u8
+        ensures { λ r. ⌜ r ≡ number self ⌝ }
+    {
+        match self {
+            Self::Accepted => 0,
+            Self::Refused(x) => x.number(),
+        }
+    }
+}
+
+// What reading the header answers: the record, which is zero in every field where it is refused.
+pub struct Head {
+    pub verdict: Verdict,
+    pub found: Record,
+}
+
+impl Head {
+    pub fn refused(x: Refusal) -> Self
+        ensures { λ r. ⌜ r ≡ headed (stop x) ⌝ }
+    {
+        let found = Record::none();
+        Self {
+            verdict: Verdict::Refused(x),
+            found: found,
+        }
+    }
+}
+
+// What inspect answers.
+pub struct Inspection {
+    pub verdict: Verdict,
+    pub budget: Budget,
+    pub found: Record,
+}
+
+// What decode answers, beside the two buffers.
+pub struct Decoding {
+    pub verdict: Verdict,
+    pub budget: Budget,
+}
+
+// What settle answers, beside the buffer.
+pub struct Settling {
+    pub verdict: Verdict,
+    pub budget: Budget,
+    pub length: usize,
+}
+
+// What reading a bit answers.
+pub enum BitRead {
+    Got(u8, Bits),
+    Stop(Fault),
+}
+
+// What reading a field or a symbol answers.
+pub enum NumberRead {
+    Got(usize, Bits),
+    Stop(Fault),
+}
+
+// What reading an amplitude answers.
+pub enum AmplitudeRead {
+    Got(i32, Bits),
+    Stop(Fault),
+}
+
+// What reading a block answers, beside its levels: the bit place after it, its first level, which predicts the channel's next
+// one, and how many places its levels reach.
+pub enum BlockRead {
+    Got(Bits, i32, usize),
+    Stop(Fault),
+}

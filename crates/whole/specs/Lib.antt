@@ -1,0 +1,5 @@
+-- The definitions and laws that other crates cite.
+pub mod Ring
+pub mod Lists
+pub mod Signs
+pub mod Expressions

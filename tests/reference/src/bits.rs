@@ -1,0 +1,124 @@
+//! The scan's bits and the fields made of them.
+
+/// A place in the coded bytes.
+pub struct Bits<'a> {
+    file: &'a [u8],
+    /// The first byte not yet taken.
+    at: usize,
+    /// The byte taken last, and how many of its bits are unread.
+    current: u8,
+    unread: u32,
+}
+
+impl<'a> Bits<'a> {
+    /// The first bit of the byte at `at`.
+    pub fn new(file: &'a [u8], at: usize) -> Bits<'a> {
+        Bits { file, at, current: 0, unread: 0 }
+    }
+
+    /// "A data byte 255 must be followed by 0, which is skipped."
+    fn take_byte(&mut self) -> Option<()> {
+        let byte = *self.file.get(self.at)?;
+        self.at += 1;
+        if byte == 255 {
+            if *self.file.get(self.at)? != 0 {
+                return None;
+            }
+            self.at += 1;
+        }
+        self.current = byte;
+        self.unread = 8;
+        Some(())
+    }
+
+    /// "Bits come highest first."
+    pub fn bit(&mut self) -> Option<u32> {
+        if self.unread == 0 {
+            self.take_byte()?;
+        }
+        self.unread -= 1;
+        Some(u32::from(self.current >> self.unread) & 1)
+    }
+
+    /// A field of `n` bits.
+    pub fn field(&mut self, n: u32) -> Option<u32> {
+        let mut value = 0;
+        for _ in 0..n {
+            value = 2 * value + self.bit()?;
+        }
+        Some(value)
+    }
+
+    /// "The unread bits of the current byte are all ones", then 255 and `code`.
+    pub fn marker(&mut self, code: u8) -> Option<()> {
+        while self.unread > 0 {
+            if self.bit()? == 0 {
+                return None;
+            }
+        }
+        if self.file.get(self.at..self.at + 2)? != [255, code] {
+            return None;
+        }
+        self.at += 2;
+        Some(())
+    }
+
+    /// Whether every byte of the file has been taken.
+    pub fn at_end(&self) -> bool {
+        self.at == self.file.len()
+    }
+}
+
+/// "An n-bit field v means 0 if n = 0, v + 1 - 2^n if v < 2^(n-1), else v."
+pub fn meaning(n: u32, v: u32) -> i32 {
+    if n == 0 {
+        0
+    } else if v < 1 << (n - 1) {
+        v as i32 + 1 - (1 << n)
+    } else {
+        v as i32
+    }
+}
+
+#[cfg(test)]
+mod tests {
+    use super::*;
+
+    #[test]
+    fn p11_fields_of_eleven_bits() {
+        assert_eq!(meaning(11, 0), -2047);
+        assert_eq!(meaning(11, 1023), -1024);
+        assert_eq!(meaning(11, 1024), 1024);
+        assert_eq!(meaning(11, 2047), 2047);
+        assert_eq!(meaning(0, 0), 0);
+        assert_eq!((meaning(1, 0), meaning(1, 1)), (-1, 1));
+    }
+
+    #[test]
+    fn stuffing_is_skipped() {
+        let mut bits = Bits::new(&[255, 0, 128], 0);
+        assert_eq!(bits.field(9), Some(511));
+        assert_eq!(bits.field(7), Some(0));
+        assert_eq!(bits.bit(), None);
+    }
+
+    #[test]
+    fn bare_255_and_cuts_are_faults() {
+        assert_eq!(Bits::new(&[255, 217], 0).bit(), None);
+        assert_eq!(Bits::new(&[255], 0).bit(), None);
+        assert_eq!(Bits::new(&[], 0).bit(), None);
+    }
+
+    #[test]
+    fn padding_is_ones_and_less_than_a_byte() {
+        let mut bits = Bits::new(&[0x3f, 255, 217], 0);
+        bits.field(2);
+        assert!(bits.marker(217).is_some() && bits.at_end());
+        let mut bits = Bits::new(&[0x3e, 255, 217], 0);
+        bits.field(2);
+        assert!(bits.marker(217).is_none());
+        let mut bits = Bits::new(&[0x3f, 255, 0, 255, 217], 0);
+        bits.field(8);
+        assert!(bits.marker(217).is_none());
+    }
+}
