@@ -1,0 +1,278 @@
+//! The bench pieces of the rules, run against this reader.
+
+use crate::calls::{decode, inspect, settle, Limits, UNLIMITED};
+use crate::picture;
+use crate::record::Record;
+
+/// A Huffman segment of one table: codes given as (length, symbol), shortest first.
+fn huffman(class_and_id: u8, codes: &[(usize, u8)]) -> Vec<u8> {
+    let mut counts = [0; 16];
+    codes.iter().for_each(|&(length, _)| counts[length - 1] += 1);
+    let mut bytes = vec![255, 196, 0, 19 + codes.len() as u8, class_and_id];
+    bytes.extend(counts);
+    bytes.extend(codes.iter().map(|&(_, symbol)| symbol));
+    bytes
+}
+
+/// File F with other codes and another scan.
+fn file(dc: &[(usize, u8)], ac: &[(usize, u8)], scan: &[u8]) -> Vec<u8> {
+    let mut bytes = vec![255, 216, 255, 219, 0, 67, 0];
+    bytes.extend([1; 64]);
+    bytes.extend([255, 192, 0, 11, 8, 0, 8, 0, 8, 1, 1, 17, 0]);
+    bytes.extend(huffman(0, dc));
+    bytes.extend(huffman(16, ac));
+    bytes.extend([255, 218, 0, 8, 1, 1, 0, 0, 63, 0]);
+    bytes.extend(scan);
+    bytes.extend([255, 217]);
+    bytes
+}
+
+const ZERO: &[(usize, u8)] = &[(1, 0)];
+const END_AND_RUN: &[(usize, u8)] = &[(1, 0), (2, 240)];
+
+fn f() -> Vec<u8> {
+    file(ZERO, ZERO, &[63])
+}
+
+fn number(file: &[u8]) -> u8 {
+    inspect(file, 1, &Limits::NONE, UNLIMITED).0.number
+}
+
+fn settled(file: &[u8]) -> Vec<u8> {
+    let mut buffer = vec![0; 1000];
+    let (answer, length) = settle(file, &Limits::NONE, UNLIMITED, &mut buffer);
+    assert_eq!(answer.number, 0);
+    buffer.truncate(length as usize);
+    buffer
+}
+
+#[test]
+fn file_f() {
+    let f = f();
+    assert_eq!(f.len(), 141);
+    let (answer, record) = inspect(&f, 1, &Limits::NONE, 3483);
+    assert_eq!((answer.number, answer.left), (0, 0));
+    let wanted = Record {
+        width: 8,
+        height: 8,
+        channels: 1,
+        hs: 1,
+        vs: 1,
+        ids: [1, 0, 0],
+        quantizers: [7, 0, 0, 0],
+        dc_tables: [89, 0, 0, 0],
+        ac_tables: [111, 0, 0, 0],
+        first_coded: 138,
+        blocks: 1,
+        scratch: 64,
+        output: 64,
+        work: 3200,
+        colour: 1,
+        ..Record::default()
+    };
+    assert_eq!(record, wanted);
+    let (mut output, mut scratch) = ([9; 65], [7; 66]);
+    let answer = decode(&f, &record, &mut output, &mut scratch, 3484);
+    assert_eq!((answer.number, answer.left), (0, 1));
+    assert_eq!((output[..64].to_vec(), output[64]), (vec![128; 64], 9));
+    assert_eq!((scratch[..64].to_vec(), &scratch[64..]), (vec![128; 64], &[7, 7][..]));
+}
+
+#[test]
+fn budgets_of_f() {
+    let f = f();
+    let at = |budget| {
+        let (answer, record) = inspect(&f, 1, &Limits::NONE, budget);
+        (answer.number, answer.left, record == Record::default())
+    };
+    assert_eq!(at(282), (2, 282, true));
+    assert_eq!(at(283), (2, 0, true));
+    assert_eq!(at(3482), (2, 3199, true));
+    assert_eq!(at(3483), (0, 0, false));
+}
+
+#[test]
+fn limits_of_f() {
+    let f = f();
+    let at = |input, side, output| {
+        let (answer, _) = inspect(&f, 0, &Limits { input, side, output }, 4000);
+        (answer.number, answer.left)
+    };
+    assert_eq!(at(140, 0, 0), (1, 4000));
+    assert_eq!(at(141, 7, 64), (6, 3717));
+    assert_eq!(at(141, 8, 63), (6, 3717));
+    assert_eq!(at(141, 8, 64), (0, 517));
+}
+
+#[test]
+fn program_on_f() {
+    let mut wanted = b"P5\n8 8\n255\n".to_vec();
+    wanted.extend([128; 64]);
+    assert_eq!(wanted.len(), 75);
+    assert_eq!(picture::written(&f(), &picture::PROGRAM), wanted);
+    assert_eq!(picture::written(&[], &picture::PROGRAM), b"refused 4\n");
+    assert_eq!(picture::written(&[0; 65_537], &picture::PROGRAM), b"refused 1\n");
+}
+
+#[test]
+fn program_on_a_wide_picture() {
+    let mut wide = f();
+    (wide[76], wide[77]) = (0, 1);
+    (wide[78], wide[79]) = (32, 1);
+    assert_eq!(picture::written(&wide, &picture::PROGRAM), b"refused 6\n");
+    (wide[78], wide[79]) = (32, 0);
+    assert_eq!(picture::written(&wide, &picture::PROGRAM), b"refused 4\n");
+}
+
+#[test]
+fn empty_file() {
+    let at = |budget| {
+        let (answer, _) = inspect(&[], 0, &Limits::NONE, budget);
+        (answer.number, answer.left)
+    };
+    assert_eq!(at(0), (2, 0));
+    assert_eq!(at(1), (4, 0));
+}
+
+#[test]
+fn p1_to_p5_settled() {
+    assert_eq!(settled(&f()), f());
+    let with = |scan: u8| file(ZERO, END_AND_RUN, &[scan]);
+    assert_eq!(settled(&with(79)), with(63));
+    assert_eq!(settled(&with(84)), with(63));
+    // DC 0, then 10 10 10 10 and the end code.
+    assert_eq!(number(&file(ZERO, END_AND_RUN, &[0b0101_0101, 0b0011_1111])), 4);
+    let twice: &[(usize, u8)] = &[(1, 0), (2, 0)];
+    assert_eq!(settled(&file(twice, ZERO, &[159])), file(twice, ZERO, &[63]));
+}
+
+#[test]
+fn settle_room_and_price() {
+    let f = f();
+    let at = |budget, room: usize| {
+        let mut buffer = vec![3; room];
+        let (answer, length) = settle(&f, &Limits::NONE, budget, &mut buffer);
+        (answer.number, answer.left, length, buffer.iter().all(|&byte| byte == 3))
+    };
+    assert_eq!(at(3482, 0), (2, 3199, 0, true));
+    assert_eq!(at(3483, 140), (7, 0, 141, true));
+    assert_eq!(at(3483, 141), (0, 0, 141, false));
+    // AC lists no end code, but 15 places and 240: the block ends at place 64 with zeros.
+    let no_end = file(ZERO, &[(1, 0xe1), (2, 240)], &[0b0011_0101, 0b0111_1111]);
+    assert_eq!(number(&no_end), 0);
+    let (answer, length) = settle(&no_end, &Limits::NONE, UNLIMITED, &mut []);
+    assert_eq!((answer.number, length), (9, 0));
+}
+
+/// The samples of a file with one block whose first value alone is not 0.
+fn first_value(value: i32) -> u8 {
+    let size = 32 - value.unsigned_abs().leading_zeros();
+    let field = if value < 0 { value + (1 << size) - 1 } else { value } as u32;
+    // The DC code 0, the field, the end code 0, then ones.
+    let bits = field << 1;
+    let used = size + 2;
+    let padded = (bits << (16 - used)) | ((1 << (16 - used)) - 1);
+    let scan = if used > 8 { vec![(padded >> 8) as u8, padded as u8] } else { vec![(padded >> 8) as u8] };
+    let stuffed: Vec<u8> = scan.iter().flat_map(|&b| if b == 255 { vec![255, 0] } else { vec![b] }).collect();
+    let file = file(&[(1, size as u8)], ZERO, &stuffed);
+    let (_, record) = inspect(&file, 0, &Limits::NONE, UNLIMITED);
+    let (mut output, mut scratch) = ([0; 64], [0; 64]);
+    assert_eq!(decode(&file, &record, &mut output, &mut scratch, UNLIMITED).number, 0);
+    assert!(output.iter().all(|&sample| sample == output[0]));
+    output[0]
+}
+
+#[test]
+fn p6_to_p10_in_files() {
+    let values = [4, 5, -5, 1012, 1013, -1020, -1021];
+    assert_eq!(values.map(first_value), [128, 129, 127, 254, 255, 1, 0]);
+}
+
+#[test]
+fn predictions_at_the_edge() {
+    // Two blocks side by side: -2047, then -1 is taken; then -2 is not.
+    let two = |codes: &[(usize, u8)], scan: &[u8]| {
+        let mut file = file(codes, ZERO, scan);
+        file[79] = 16;
+        file
+    };
+    // Codes: 0 for 11, 10 for 1, 110 for 2. Eleven zeros mean -2047; field 0 of one bit -1.
+    let codes: &[(usize, u8)] = &[(1, 11), (2, 1), (3, 2)];
+    let taken = two(codes, &[0, 0b0000_0100, 0b0111_1111]);
+    assert_eq!(number(&taken), 0);
+    // 110 and field 01 mean -2.
+    let refused = two(codes, &[0, 0b0000_0110, 0b0101_1111]);
+    assert_eq!(number(&refused), 4);
+}
+
+#[test]
+fn decode_order_of_refusals() {
+    let f = f();
+    let (_, own) = inspect(&f, 0, &Limits::NONE, UNLIMITED);
+    let at = |record: &Record, rooms: (usize, usize), budget| {
+        let (mut output, mut scratch) = (vec![5; rooms.0], vec![6; rooms.1]);
+        let answer = decode(&f, record, &mut output, &mut scratch, budget);
+        (answer.number, answer.left)
+    };
+    assert_eq!(at(&own, (63, 64), 0), (7, 0));
+    assert_eq!(at(&own, (64, 63), 9), (7, 9));
+    assert_eq!(at(&own, (64, 64), 3482), (2, 3482));
+    assert_eq!(at(&own, (64, 64), 3483), (0, 0));
+    let zero = Record::default();
+    assert_eq!(at(&zero, (0, 0), 282), (2, 282));
+    assert_eq!(at(&zero, (0, 0), 283), (8, 0));
+    let heavy = Record { work: u64::MAX - 282, ..own.clone() };
+    assert_eq!(at(&heavy, (64, 64), UNLIMITED), (2, UNLIMITED));
+    let heavy = Record { work: u64::MAX - 283, ..own.clone() };
+    assert_eq!(at(&heavy, (64, 64), UNLIMITED), (8, 0));
+    let coloured = Record { colour: 1, ..own };
+    assert_eq!(at(&coloured, (64, 64), 4000), (0, 517));
+}
+
+/// F with the bytes from `at` on replaced, then tested.
+fn changed(at: usize, bytes: &[u8]) -> u8 {
+    let mut file = f();
+    file[at..at + bytes.len()].copy_from_slice(bytes);
+    number(&file)
+}
+
+#[test]
+fn header_refusals_of_f() {
+    assert_eq!(changed(0, &[254]), 4);
+    assert_eq!(changed(2, &[254]), 4);
+    assert_eq!(changed(3, &[217]), 4);
+    assert_eq!(changed(3, &[220]), 5);
+    assert_eq!(changed(3, &[220, 255, 255]), 3);
+    assert_eq!(changed(4, &[0, 1]), 3);
+    assert_eq!(changed(4, &[0, 140]), 3);
+    assert_eq!(changed(6, &[4]), 4);
+    assert_eq!(changed(6, &[16]), 4);
+    assert_eq!(changed(70, &[0]), 4);
+    assert_eq!(changed(75, &[7]), 5);
+    assert_eq!(changed(80, &[3]), 4);
+    assert_eq!(changed(80, &[2]), 5);
+    assert_eq!(changed(82, &[0x44]), 0);
+    assert_eq!(changed(82, &[0x51]), 5);
+    assert_eq!(changed(83, &[1]), 4);
+    assert_eq!(changed(83, &[4]), 5);
+    assert_eq!(changed(89, &[2]), 4);
+    assert_eq!(changed(132, &[3]), 5);
+    assert_eq!(changed(133, &[2]), 4);
+    assert_eq!(changed(134, &[0x40]), 5);
+    assert_eq!(changed(134, &[0x10]), 4);
+    assert_eq!(changed(136, &[62]), 5);
+}
+
+#[test]
+fn cuts_of_f() {
+    // Cut inside a segment 3; at a segment's end, inside a marker or in the scan 4.
+    let whole = f();
+    let ends = [2, 71, 84, 106, 128, 138];
+    let four = |length: usize| {
+        length < 2 || length >= 138 || ends.iter().any(|&end| length == end || length == end + 1)
+    };
+    for length in 0..141 {
+        let wanted = if four(length) { 4 } else { 3 };
+        assert_eq!(number(&whole[..length]), wanted, "cut to {length}");
+    }
+}

@@ -1,0 +1,75 @@
+//! Compares two runs of answers to the same cases.
+
+use crate::cases::Case;
+use std::fs::{self, File};
+use std::io::{self, BufRead, BufReader, Lines};
+
+/// So many differences are shown.
+const SHOWN: u64 = 5;
+
+type FileLines = Lines<BufReader<File>>;
+
+/// True if every line agrees. Prints how many did, or the first differences.
+pub fn run(a: &str, b: &str, cases: &str) -> io::Result<bool> {
+    let mut a = BufReader::new(File::open(a)?).lines();
+    let mut b = BufReader::new(File::open(b)?).lines();
+    let mut input = BufReader::new(File::open(cases)?);
+    let (mut index, mut different) = (0, 0);
+    while let Ok(case) = Case::read(&mut input)? {
+        let (left, right) = (next(&mut a)?, next(&mut b)?);
+        if left != right || left.is_none() {
+            different += 1;
+            show(index, left, right, &case, cases)?;
+            if different == SHOWN {
+                return Ok(false);
+            }
+        }
+        index += 1;
+    }
+    let (left, right) = (next(&mut a)?, next(&mut b)?);
+    if left.is_some() || right.is_some() {
+        println!("lines after the last case: {left:?} {right:?}");
+        different += 1;
+    }
+    if different == 0 {
+        println!("{index} lines agreed");
+    }
+    Ok(different == 0)
+}
+
+fn next(lines: &mut FileLines) -> io::Result<Option<String>> {
+    lines.next().transpose()
+}
+
+/// Prints a difference and keeps the case and its file beside the cases.
+fn show(
+    index: u64,
+    left: Option<String>,
+    right: Option<String>,
+    case: &Case,
+    cases: &str,
+) -> io::Result<()> {
+    let file = format!("{cases}.{index}.jpg");
+    let whole = format!("{cases}.{index}.case");
+    fs::write(&file, &case.file)?;
+    fs::write(&whole, case.bytes())?;
+    let line = |line: Option<String>| line.unwrap_or("(no line)".to_string());
+    println!("case {index} differs");
+    println!("  first  {}", line(left));
+    println!("  second {}", line(right));
+    println!("  its file is in {file}, the whole case in {whole}");
+    let limits = case.limits;
+    println!(
+        "  job {} colour {} limits {} {} {} budget {} rooms {} {} n {}",
+        case.job,
+        case.colour,
+        limits.input,
+        limits.side,
+        limits.output,
+        case.budget,
+        case.room,
+        case.scratch_room,
+        case.file.len()
+    );
+    Ok(())
+}

@@ -1,0 +1,373 @@
+//! A writer of scans: valid ones, and ones with a single chosen fault.
+
+use super::plan::Shape;
+use super::tables;
+use crate::random::Random;
+
+/// A fault in the scan. Each is written so that a careless reader would go on.
+#[derive(Clone, Copy, Debug, PartialEq, Eq)]
+pub enum Fault {
+    /// A category above 11.
+    Category,
+    /// Prediction plus difference is 2048 or -2049.
+    Beyond,
+    /// Size above 10, or size 0 with a run of 1 to 14.
+    Size,
+    /// Place plus run is 64 or more.
+    RunPast,
+    /// 240 at place 49 or later.
+    SkipPast,
+    /// Sixteen ones.
+    NoCode,
+    RestartNumber,
+    RestartMissing,
+    RestartNotDue,
+    RestartAfterLast,
+    /// A 0 among the padding.
+    Padding,
+    /// A whole byte of padding.
+    PaddingByte,
+    /// A 255 in the data without its 0.
+    Bare,
+    /// A 255 in the data with another byte than 0.
+    Stuffing,
+    /// Fill before a marker of the scan.
+    Fill,
+    AfterEnd,
+    NoEnd,
+    EarlyEnd,
+    ExtraBlock,
+    /// A predictor carried over a restart; often valid, with other values.
+    Carried,
+}
+
+pub const FAULTS: [Fault; 20] = [
+    Fault::Category,
+    Fault::Beyond,
+    Fault::Size,
+    Fault::RunPast,
+    Fault::SkipPast,
+    Fault::NoCode,
+    Fault::RestartNumber,
+    Fault::RestartMissing,
+    Fault::RestartNotDue,
+    Fault::RestartAfterLast,
+    Fault::Padding,
+    Fault::PaddingByte,
+    Fault::Bare,
+    Fault::Stuffing,
+    Fault::Fill,
+    Fault::AfterEnd,
+    Fault::NoEnd,
+    Fault::EarlyEnd,
+    Fault::ExtraBlock,
+    Fault::Carried,
+];
+
+/// A table ready for writing.
+struct Ready {
+    /// Codes by symbol: length and bits.
+    codes: Vec<Vec<(u32, u32)>>,
+    /// The distinct symbols.
+    listed: Vec<u8>,
+    finishes: [bool; 65],
+}
+
+struct Coder<'a> {
+    shape: &'a Shape,
+    random: &'a mut Random,
+    dc: Vec<Ready>,
+    ac: Vec<Ready>,
+    bytes: Vec<u8>,
+    started: u32,
+    filled: u32,
+    predictors: [i32; 3],
+    /// The fault still to come, and the MCU from which on it may.
+    fault: Option<Fault>,
+    fault_from: u64,
+    mcu: u64,
+}
+
+/// The coded bytes of a scan with its end, and whether the fault came about.
+pub fn scan(shape: &Shape, random: &mut Random, fault: Option<Fault>) -> (Vec<u8>, bool) {
+    let fault_from = random.between(0, shape.mcus() - 1);
+    let mut coder = Coder {
+        dc: shape.dc.iter().map(Ready::new).collect(),
+        ac: shape.ac.iter().map(Ready::new).collect(),
+        shape,
+        random,
+        bytes: Vec::new(),
+        started: 0,
+        filled: 0,
+        predictors: [0; 3],
+        fault,
+        fault_from,
+        mcu: 0,
+    };
+    coder.mcus();
+    coder.end();
+    (coder.bytes, coder.fault != fault)
+}
+
+impl Ready {
+    fn new(table: &tables::Table) -> Ready {
+        let mut codes = vec![Vec::new(); 256];
+        for (symbol, length, bits) in table.codes() {
+            codes[symbol as usize].push((length, bits));
+        }
+        let listed = (0..=255).filter(|&symbol| table.lists(symbol)).collect();
+        Ready { codes, listed, finishes: tables::finishes(&table.symbols) }
+    }
+
+    fn lists(&self, symbol: u8) -> bool {
+        !self.codes[symbol as usize].is_empty()
+    }
+}
+
+/// The category or size of a value.
+fn category(value: i32) -> u8 {
+    (32 - value.unsigned_abs().leading_zeros()) as u8
+}
+
+impl Coder<'_> {
+    /// Whether this fault is due now; it comes once.
+    fn due(&mut self, fault: Fault) -> bool {
+        let due = self.fault == Some(fault) && self.mcu >= self.fault_from;
+        if due {
+            self.fault = None;
+        }
+        due
+    }
+
+    fn wanted(&self, fault: Fault) -> bool {
+        self.fault == Some(fault) && self.mcu >= self.fault_from
+    }
+
+    fn bit(&mut self, bit: u32) {
+        self.started = 2 * self.started + bit;
+        self.filled += 1;
+        if self.filled < 8 {
+            return;
+        }
+        self.bytes.push(self.started as u8);
+        if self.started == 255 {
+            if self.due(Fault::Stuffing) {
+                let other = self.random.pick(&[1, 255, 208, 217, 128]);
+                self.bytes.push(other);
+            } else if !self.due(Fault::Bare) {
+                self.bytes.push(0);
+            }
+        }
+        (self.started, self.filled) = (0, 0);
+    }
+
+    fn bits(&mut self, length: u32, value: u32) {
+        (0..length).rev().for_each(|place| self.bit(value >> place & 1));
+    }
+
+    /// One of the symbol's codes.
+    fn symbol(&mut self, dc: bool, channel: usize, symbol: u8) {
+        let ready = if dc { &self.dc[channel] } else { &self.ac[channel] };
+        let codes = &ready.codes[symbol as usize];
+        let (length, bits) = codes[self.random.below(codes.len())];
+        self.bits(length, bits);
+    }
+
+    /// A field, often at an edge.
+    fn field(&mut self, size: u32) -> u32 {
+        let ones = (1u32 << size) - 1;
+        let any = self.random.between(0, ones.into()) as u32;
+        let top = if size > 0 { 1 << (size - 1) } else { 0 };
+        self.random.pick(&[any, any, any, any, any, any, ones, ones, 0, top])
+    }
+
+    /// Padding, then a marker.
+    fn marker(&mut self, code: u8) {
+        if self.filled > 0 && self.due(Fault::Padding) {
+            let wrong = self.random.between(self.filled.into(), 7) as u32;
+            while self.filled != 0 {
+                self.bit(u32::from(self.filled != wrong));
+            }
+        }
+        while self.filled != 0 {
+            self.bit(1);
+        }
+        if self.due(Fault::PaddingByte) {
+            self.bytes.extend([255, 0]);
+        }
+        if self.due(Fault::Fill) {
+            self.bytes.push(255);
+        }
+        self.bytes.extend([255, code]);
+    }
+
+    fn mcus(&mut self) {
+        for mcu in 0..self.shape.mcus() {
+            self.mcu = mcu;
+            if mcu > 0 && self.wanted(Fault::EarlyEnd) {
+                self.fault = None;
+                return;
+            }
+            self.restart(mcu);
+            for channel in self.shape.mcu() {
+                self.block(channel);
+            }
+        }
+    }
+
+    fn restart(&mut self, mcu: u64) {
+        let interval = self.shape.interval;
+        if interval == 0 || mcu == 0 || mcu % interval != 0 {
+            if mcu > 0 && self.due(Fault::RestartNotDue) {
+                let code = 208 + self.random.between(0, 7) as u8;
+                self.marker(code);
+            }
+            return;
+        }
+        let number = (mcu / interval - 1) % 8;
+        if self.due(Fault::RestartMissing) {
+            return;
+        }
+        let wrong = if self.due(Fault::RestartNumber) { self.random.pick(&[1, 7, 2, 4]) } else { 0 };
+        self.marker(208 + ((number + wrong) % 8) as u8);
+        if !self.due(Fault::Carried) {
+            self.predictors = [0; 3];
+        }
+    }
+
+    fn end(&mut self) {
+        if self.due(Fault::ExtraBlock) {
+            self.block(0);
+        }
+        if self.due(Fault::RestartAfterLast) {
+            let interval = self.shape.interval.max(1);
+            self.marker(208 + ((self.shape.mcus() / interval + 7) % 8) as u8);
+        }
+        self.marker(217);
+        if self.due(Fault::NoEnd) {
+            let kept = self.bytes.len() - self.random.between(1, 2) as usize;
+            self.bytes.truncate(kept);
+        }
+        if self.due(Fault::AfterEnd) {
+            let after = self.random.pick(&[&[0][..], &[255], &[255, 217], &[10], &[217]]);
+            self.bytes.extend(after);
+        }
+    }
+
+    fn block(&mut self, channel: usize) {
+        if self.due(Fault::NoCode) {
+            self.bits(16, 65535);
+        }
+        self.first(channel);
+        let mut place = 1;
+        while place < 64 {
+            let symbol = self.next_symbol(channel, place);
+            self.symbol(false, channel, symbol);
+            if symbol == 0 {
+                break;
+            }
+            if symbol != 240 {
+                let size = u32::from(symbol % 16);
+                let field = self.field(size);
+                self.bits(size, field);
+            }
+            place += usize::from(symbol / 16) + 1;
+        }
+    }
+
+    /// A symbol that may stand here, or a faulty one where it is time for it.
+    fn next_symbol(&mut self, channel: usize, place: usize) -> u8 {
+        if let Some(symbol) = self.faulty_symbol(channel, place) {
+            return symbol;
+        }
+        let ready = &self.ac[channel];
+        let manner = self.shape.manner;
+        let length = if manner.short { 2 } else { manner.length };
+        if ready.lists(0) && self.random.chance(1, length) {
+            return 0;
+        }
+        let may = |symbol: u8| tables::step(symbol, place).is_some_and(|next| ready.finishes[next]);
+        for _ in 0..4 {
+            let symbol = ready.listed[self.random.below(ready.listed.len())];
+            if may(symbol) {
+                return symbol;
+            }
+        }
+        ready.listed.iter().copied().find(|&symbol| may(symbol)).unwrap_or(0)
+    }
+
+    fn faulty_symbol(&mut self, channel: usize, place: usize) -> Option<u8> {
+        let fault = self.fault?;
+        let wrong = |&symbol: &u8| {
+            let (run, size) = (symbol / 16, symbol % 16);
+            match fault {
+                Fault::Size => size > 10 || (size == 0 && (1..15).contains(&run)),
+                Fault::RunPast => (1..=10).contains(&size) && place + usize::from(run) >= 64,
+                Fault::SkipPast => symbol == 240 && place > 48,
+                _ => false,
+            }
+        };
+        if self.mcu < self.fault_from {
+            return None;
+        }
+        let found: Vec<u8> = self.ac[channel].listed.iter().copied().filter(wrong).collect();
+        if found.is_empty() {
+            return None;
+        }
+        self.fault = None;
+        Some(self.random.pick(&found))
+    }
+
+    /// The first symbol and its field, often towards the edges -2048 and 2047.
+    fn first(&mut self, channel: usize) {
+        if self.wanted(Fault::Category) && self.dc[channel].listed.iter().any(|&s| s > 11) {
+            self.fault = None;
+            let unusable: Vec<u8> = self.dc[channel].listed.iter().copied().filter(|&s| s > 11).collect();
+            let symbol = self.random.pick(&unusable);
+            self.symbol(true, channel, symbol);
+            let field = self.field(u32::from(symbol.min(16)));
+            self.bits(symbol.min(16).into(), field);
+            return;
+        }
+        let predictor = self.predictors[channel];
+        let difference = self.difference(channel, predictor);
+        self.predictors[channel] = (predictor + difference).clamp(-2048, 2047);
+        let size = category(difference);
+        self.symbol(true, channel, size);
+        let field = if difference < 0 { difference + (1 << size) - 1 } else { difference };
+        self.bits(size.into(), field as u32);
+    }
+
+    /// A difference whose category the table lists.
+    fn difference(&mut self, channel: usize, predictor: i32) -> i32 {
+        let ready = &self.dc[channel];
+        let lists = |difference: &i32| {
+            difference.abs() <= 2047 && ready.lists(category(*difference))
+        };
+        let edge = self.random.pick(&[-2048, 2047]);
+        if self.wanted(Fault::Beyond) {
+            let past = [2048 - predictor, -2049 - predictor];
+            if let Some(&difference) = past.iter().find(|&difference| lists(difference)) {
+                self.fault = None;
+                return difference;
+            }
+        }
+        let towards = (edge - predictor).clamp(-2047, 2047);
+        let steer = self.fault == Some(Fault::Beyond) || !self.shape.manner.mild;
+        if steer && self.random.chance(1, 3) && lists(&towards) {
+            return towards;
+        }
+        let usable: Vec<u8> = ready.listed.iter().copied().filter(|&symbol| symbol <= 11).collect();
+        let size = self.random.pick(&usable);
+        if size == 0 {
+            return 0;
+        }
+        let low = 1u64 << (size - 1);
+        let amount = self.random.between(low, 2 * low - 1) as i32;
+        let sign = self.random.pick(&[1, -1]);
+        let fits = |difference: i32| (-2048..=2047).contains(&(predictor + difference));
+        // From any prediction one of the two signs stays within -2048..2047.
+        let both = [sign * amount, -sign * amount];
+        both.into_iter().find(|&difference| fits(difference)).expect("one sign fits")
+    }
+}

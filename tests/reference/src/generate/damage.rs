@@ -1,0 +1,373 @@
+//! Damage: to fields of the head one at a time, and to bytes anywhere.
+
+use super::draft::Draft;
+use super::plan::{Length, Segment};
+use crate::random::Random;
+
+type Damage = fn(&mut Draft, &mut Random);
+
+/// Each changes one thing around a boundary of the rules.
+const HEAD_DAMAGE: [Damage; 24] = [
+    frame_field,
+    frame_field,
+    frame_sampling,
+    frame_component,
+    frame_size,
+    frame_body,
+    frame_twice,
+    frame_gone,
+    scan_field,
+    scan_field,
+    scan_component,
+    scan_body,
+    table_gone,
+    quantizer_field,
+    quantizer_body,
+    huffman_field,
+    huffman_counts,
+    huffman_body,
+    interval_body,
+    marker_code,
+    length_field,
+    order,
+    before_marker,
+    opening,
+];
+
+/// One to three kinds of damage to the head.
+pub fn head(draft: &mut Draft, random: &mut Random) {
+    for _ in 0..random.pick(&[1, 1, 1, 1, 1, 2, 2, 3]) {
+        random.pick(&HEAD_DAMAGE)(draft, random);
+    }
+}
+
+/// A segment with one of these codes, if there is one.
+fn find<'a>(draft: &'a mut Draft, random: &mut Random, codes: &[u8]) -> Option<&'a mut Segment> {
+    let at = find_place(draft, random, codes)?;
+    Some(&mut draft.segments[at])
+}
+
+fn find_place(draft: &Draft, random: &mut Random, codes: &[u8]) -> Option<usize> {
+    let found = |&at: &usize| codes.contains(&draft.segments[at].code);
+    let places: Vec<usize> = (0..draft.segments.len()).filter(found).collect();
+    (!places.is_empty()).then(|| random.pick(&places))
+}
+
+const FRAME: [u8; 2] = [192, 193];
+
+/// Sets a byte of a segment's body, if it has that place.
+fn set(segment: Option<&mut Segment>, at: usize, value: u8) {
+    if let Some(byte) = segment.and_then(|segment| segment.body.get_mut(at)) {
+        *byte = value;
+    }
+}
+
+fn frame_field(draft: &mut Draft, random: &mut Random) {
+    let value = if random.chance(1, 2) {
+        (0, random.pick(&[0, 7, 9, 12, 16, 255]))
+    } else {
+        (5, random.pick(&[0, 1, 2, 3, 4, 255]))
+    };
+    set(find(draft, random, &FRAME), value.0, value.1);
+}
+
+fn frame_sampling(draft: &mut Draft, random: &mut Random) {
+    let edges = [0x00, 0x10, 0x01, 0x15, 0x51, 0x55, 0x44, 0x23, 0x32, 0x33, 0x24, 0x42, 0x34];
+    let any = random.byte();
+    let first = if random.chance(2, 3) { random.pick(&edges) } else { any };
+    let other = random.pick(&[0x00, 0x10, 0x01, 0x12, 0x21, 0x22, 0x41, any]);
+    let (at, value) = random.pick(&[(7, first), (7, first), (10, other), (13, other)]);
+    set(find(draft, random, &FRAME), at, value);
+}
+
+/// Quantizer ids above 3 or absent, equal or other component ids.
+fn frame_component(draft: &mut Draft, random: &mut Random) {
+    let channel = random.below(3);
+    let Some(frame) = find(draft, random, &FRAME) else { return };
+    if random.chance(1, 2) {
+        let id = random.pick(&[0, 1, 2, 3, 4, 5, 16, 255]);
+        set(Some(frame), 8 + 3 * channel, id);
+    } else {
+        let any = random.byte();
+        let id = frame.body.get(6 + 3 * random.below(3)).copied().unwrap_or(any);
+        set(Some(frame), 6 + 3 * channel, id);
+    }
+}
+
+/// Other sides, also the largest, for the same scan.
+fn frame_size(draft: &mut Draft, random: &mut Random) {
+    let Some(frame) = find(draft, random, &FRAME) else { return };
+    let at = random.pick(&[1, 3]);
+    if frame.body.len() < 5 {
+        return;
+    }
+    let old = 256 * u16::from(frame.body[at]) + u16::from(frame.body[at + 1]);
+    let any = random.between(1, 65535) as u16;
+    let side = random.pick(&[0, 65535, any, old.wrapping_add(1), old.wrapping_sub(1), old.wrapping_add(8)]);
+    frame.body[at..at + 2].copy_from_slice(&side.to_be_bytes());
+    if random.chance(1, 4) {
+        frame.body[1..5].copy_from_slice(&[255; 4]);
+    }
+}
+
+/// A body of another length.
+fn resize(random: &mut Random, body: &mut Vec<u8>, lengths: &[usize]) {
+    let length = body.len();
+    let fixed = random.pick(lengths);
+    let near = random.pick(&[length.saturating_sub(1), length + 1, length + 3, length.saturating_sub(3)]);
+    let wanted = random.pick(&[fixed, near]);
+    while body.len() < wanted {
+        let value = random.pick(&[0, 1, 17, 255]);
+        body.push(value);
+    }
+    body.truncate(wanted);
+}
+
+fn frame_body(draft: &mut Draft, random: &mut Random) {
+    if let Some(frame) = find(draft, random, &FRAME) {
+        resize(random, &mut frame.body, &[0, 5, 6, 8, 9, 10, 15]);
+    }
+}
+
+/// A second frame, sometimes with a fault of its own.
+fn frame_twice(draft: &mut Draft, random: &mut Random) {
+    let Some(at) = find_place(draft, random, &FRAME) else { return };
+    let mut second = draft.segments[at].clone();
+    match random.below(4) {
+        0 => second.body.truncate(random.below(6)),
+        1 => set(Some(&mut second), 0, 12),
+        2 => second.code ^= 1,
+        _ => {}
+    }
+    let to = random.below(draft.segments.len() + 1);
+    draft.segments.insert(to, second);
+}
+
+fn frame_gone(draft: &mut Draft, random: &mut Random) {
+    let Some(at) = find_place(draft, random, &FRAME) else { return };
+    let frame = draft.segments.remove(at);
+    if random.chance(1, 3) {
+        draft.segments.push(frame);
+    } else if random.chance(1, 2) {
+        scan_body(draft, random);
+    }
+}
+
+fn scan_field(draft: &mut Draft, random: &mut Random) {
+    let Some(scan) = find(draft, random, &[218]) else { return };
+    let length = scan.body.len();
+    let (back, value) = random.pick(&[
+        (length, 0),
+        (length, 1),
+        (length, 2),
+        (length, 3),
+        (length, 4),
+        (3, 1),
+        (3, 63),
+        (2, 62),
+        (2, 64),
+        (2, 0),
+        (1, 1),
+        (1, 16),
+    ]);
+    if back <= length {
+        set(Some(scan), length - back, value);
+    }
+}
+
+/// Component ids out of order, table ids above 3 or of other tables.
+fn scan_component(draft: &mut Draft, random: &mut Random) {
+    let channel = random.below(3);
+    let Some(scan) = find(draft, random, &[218]) else { return };
+    match random.below(4) {
+        0 => set(Some(scan), 1 + 2 * channel, random.byte()),
+        1 if scan.body.len() >= 8 => scan.body.swap(1, random.pick(&[3, 5])),
+        1 => set(Some(scan), 1, random.byte()),
+        _ => {
+            let (dc, ac) = (random.between(0, 3) as u8, random.between(0, 3) as u8);
+            let ids = [0x40, 0x04, 0xf0, 0x0f, 0x80, 16 * dc + ac, 16 * dc + 4, 64 + ac];
+            set(Some(scan), 2 + 2 * channel, random.pick(&ids));
+        }
+    }
+}
+
+fn scan_body(draft: &mut Draft, random: &mut Random) {
+    if let Some(scan) = find(draft, random, &[218]) {
+        resize(random, &mut scan.body, &[0, 1, 2, 6, 8, 10]);
+    }
+}
+
+/// A segment of tables left out, or moved behind the scan's.
+fn table_gone(draft: &mut Draft, random: &mut Random) {
+    let Some(at) = find_place(draft, random, &[196, 219]) else { return };
+    let segment = draft.segments.remove(at);
+    if random.chance(1, 4) {
+        draft.segments.push(segment);
+    }
+}
+
+fn quantizer_field(draft: &mut Draft, random: &mut Random) {
+    let Some(segment) = find(draft, random, &[219]) else { return };
+    let table = 65 * random.below((segment.body.len() / 65).max(1));
+    if random.chance(1, 2) {
+        set(Some(segment), table, random.pick(&[0, 1, 2, 3, 4, 5, 16, 17, 255]));
+    } else {
+        set(Some(segment), table + random.pick(&[1, 2, 33, 63, 64]), 0);
+    }
+}
+
+fn quantizer_body(draft: &mut Draft, random: &mut Random) {
+    if let Some(segment) = find(draft, random, &[219]) {
+        resize(random, &mut segment.body, &[0, 1, 64, 65, 66, 129, 130]);
+    }
+}
+
+fn huffman_field(draft: &mut Draft, random: &mut Random) {
+    let value = random.pick(&[0x00, 0x01, 0x03, 0x04, 0x13, 0x14, 0x20, 0x23, 0x10, 0xf0, 0xff, 0x0f]);
+    set(find(draft, random, &[196]), 0, value);
+}
+
+/// One more code than fits, exactly as many as fit, none at all, or too many symbols.
+fn huffman_counts(draft: &mut Draft, random: &mut Random) {
+    let Some(segment) = find(draft, random, &[196]) else { return };
+    if segment.body.len() < 17 {
+        return;
+    }
+    let old: usize = segment.body[1..17].iter().map(|&count| usize::from(count)).sum();
+    match random.below(4) {
+        0 => segment.body[1..17].fill(0),
+        1 => {
+            let at = random.between(1, 16) as usize;
+            segment.body[at] = random.pick(&[255, segment.body[at].wrapping_add(1)]);
+        }
+        2 => fill_length(random, &mut segment.body),
+        _ => {
+            segment.body[1..17].fill(0);
+            let last = random.pick(&[0, 1, 2]);
+            (segment.body[15], segment.body[16]) = (random.pick(&[255, 254]), last);
+        }
+    }
+    let new: usize = segment.body[1..17].iter().map(|&count| usize::from(count)).sum();
+    let kept = random.chance(1, 4);
+    for _ in old..if kept { old } else { new } {
+        segment.body.insert(17, 0);
+    }
+}
+
+/// Gives one length just as many codes as fit there, or one more.
+fn fill_length(random: &mut Random, body: &mut [u8]) {
+    let length = random.between(1, 8) as usize;
+    let next = (1..length).fold(0u64, |next, at| 2 * (next + u64::from(body[at])));
+    let most = ((1u64 << length) - 1).saturating_sub(next);
+    body[length] = (most + random.between(0, 1)).min(255) as u8;
+    if random.chance(1, 2) {
+        body[length + 1..17].fill(0);
+    }
+}
+
+fn huffman_body(draft: &mut Draft, random: &mut Random) {
+    if let Some(segment) = find(draft, random, &[196]) {
+        resize(random, &mut segment.body, &[0, 1, 16, 17, 18, 19]);
+    }
+}
+
+/// An interval segment of another length, or one that was not there.
+fn interval_body(draft: &mut Draft, random: &mut Random) {
+    if find_place(draft, random, &[221]).is_none() {
+        let at = random.below(draft.segments.len() + 1);
+        draft.segments.insert(at, Segment::new(221, vec![0, random.between(0, 3) as u8]));
+    }
+    if let Some(segment) = find(draft, random, &[221]) {
+        resize(random, &mut segment.body, &[0, 1, 2, 3, 4]);
+    }
+}
+
+/// Another code, sometimes with a length that is cut too.
+fn marker_code(draft: &mut Draft, random: &mut Random) {
+    let at = random.below(draft.segments.len());
+    let any = random.byte();
+    let code = random.pick(&[
+        0, 1, 2, 191, 192, 194, 195, 196, 197, 199, 200, 204, 207, 208, 215, 216, 217, 217, 218,
+        219, 220, 221, 222, 223, 224, 239, 240, 247, 253, 254, any, any,
+    ]);
+    draft.segments[at].code = code;
+    if random.chance(1, 4) {
+        draft.segments[at].length = Length::Given(random.pick(&[0, 1, 65535]));
+    }
+}
+
+fn length_field(draft: &mut Draft, random: &mut Random) {
+    let at = random.below(draft.segments.len());
+    let length = draft.segments[at].body.len() as u16 + 2;
+    draft.segments[at].length = match random.below(3) {
+        0 => Length::ToEnd(random.pick(&[-3, -2, -1, 0, 1, 2])),
+        _ => Length::Given(random.pick(&[0, 1, 2, 3, length - 1, length + 1, length + 2, 65535])),
+    };
+}
+
+/// Two segments swapped, one twice, or one left out.
+fn order(draft: &mut Draft, random: &mut Random) {
+    let (a, b) = (random.below(draft.segments.len()), random.below(draft.segments.len()));
+    match random.below(3) {
+        0 => draft.segments.swap(a, b),
+        1 => draft.segments.insert(a, draft.segments[b].clone()),
+        _ if draft.segments.len() > 1 => {
+            draft.segments.remove(a);
+        }
+        _ => {}
+    }
+}
+
+fn before_marker(draft: &mut Draft, random: &mut Random) {
+    let at = random.below(draft.segments.len());
+    let bytes = random.pick(&[&[0][..], &[255, 0], &[0, 255], &[217], &[255, 217], &[255, 255, 1], &[254]]);
+    draft.segments[at].before = bytes.to_vec();
+}
+
+fn opening(draft: &mut Draft, random: &mut Random) {
+    let openings = [&[255, 217][..], &[255], &[216], &[254, 216], &[255, 255, 216], &[255, 215], &[]];
+    draft.opening = random.pick(&openings).to_vec();
+}
+
+/// One to three kinds of damage to bytes anywhere.
+pub fn bytes(file: &mut Vec<u8>, head: usize, random: &mut Random) {
+    for _ in 0..random.pick(&[1, 1, 1, 1, 2, 2, 3]) {
+        let (from, to) = if random.chance(1, 2) { (0, head) } else { (head, file.len()) };
+        let (from, to) = (from.min(file.len()), to.min(file.len()));
+        let at = random.between(from as u64, to.max(from) as u64) as usize;
+        one_place(file, at, random);
+    }
+}
+
+fn one_place(file: &mut Vec<u8>, at: usize, random: &mut Random) {
+    let some = random.between(1, 4) as usize;
+    let end = (at + some).min(file.len());
+    match random.below(8) {
+        0 | 1 => {
+            if let Some(byte) = file.get_mut(at) {
+                *byte ^= 1 << random.below(8);
+            }
+        }
+        2 => {
+            if let Some(byte) = file.get_mut(at) {
+                *byte = random.pick(&[0, 255, 217, 208, 254, 1]);
+            }
+        }
+        3 => file.truncate(at),
+        4 => {
+            let value = random.pick(&[0, 255, 217, 7]);
+            file.splice(at..at, vec![value; some]);
+        }
+        5 => {
+            file.drain(at..end);
+        }
+        6 => {
+            let twice = file[at..end].to_vec();
+            file.splice(at..at, twice);
+        }
+        _ => {
+            let kept = file.len().saturating_sub(some);
+            file.truncate(kept);
+        }
+    }
+}

@@ -1,0 +1,118 @@
+//! Random files: valid, with one fault in the scan, with a damaged head, with damaged bytes.
+
+use super::coder::{self, Fault, FAULTS};
+use super::damage;
+use super::draft::Draft;
+use super::plan::{self, Plan, Segment};
+use crate::cases::MOST;
+use crate::random::Random;
+
+/// Files made from one head; the first one's record may be tried on the others.
+pub type Group = Vec<Vec<u8>>;
+
+/// A random group whose files are short enough for a case.
+pub fn group(random: &mut Random) -> Group {
+    loop {
+        let group = match random.between(1, 100) {
+            1..=40 => valid_group(random),
+            41..=60 => vec![faulty(random)],
+            61..=87 => vec![damaged_head(random)],
+            88..=98 => vec![damaged_bytes(random)],
+            _ => vec![scrap(random)],
+        };
+        if group.iter().all(|file| file.len() as u64 <= MOST) {
+            return group;
+        }
+    }
+}
+
+/// A valid file with its plan.
+pub fn valid(random: &mut Random) -> (Plan, Vec<u8>) {
+    let plan = plan::plan(random);
+    let (scan, _) = coder::scan(&plan.shape, random, None);
+    let file = Draft::new(&plan, scan).bytes();
+    (plan, file)
+}
+
+fn valid_group(random: &mut Random) -> Group {
+    let (plan, file) = valid(random);
+    let mut group = vec![file];
+    while random.chance(1, 3) && group.len() < 4 {
+        group.push(sibling(random, &plan));
+    }
+    group
+}
+
+/// Another file with the same head, or nearly the same.
+fn sibling(random: &mut Random, plan: &Plan) -> Vec<u8> {
+    let fault = random.chance(1, 4).then(|| random.pick(&FAULTS));
+    let mut plan = plan.clone();
+    let change = random.below(7);
+    for segment in &mut plan.segments {
+        change_unrecorded(random, segment, change);
+    }
+    if change == 4 {
+        plan.segments.insert(0, Segment::new(254, vec![]));
+    }
+    let (scan, _) = coder::scan(&plan.shape, random, fault);
+    Draft::new(&plan, scan).bytes()
+}
+
+/// What the record does not hold: 192 against 193, quantizer values, skipped bodies.
+fn change_unrecorded(random: &mut Random, segment: &mut Segment, change: usize) {
+    match (change, segment.code) {
+        (1, 192 | 193) => segment.code ^= 1,
+        (2, 219) => {
+            let at = random.between(1, 64) as usize;
+            segment.body[at] = random.between(1, 255) as u8;
+        }
+        (3, 224..=239 | 254) => segment.body.fill(random.byte()),
+        (5, 221) => segment.body[1] ^= 1,
+        _ => {}
+    }
+}
+
+/// A file with one fault in its scan; a few heads are tried until it comes about.
+fn faulty(random: &mut Random) -> Vec<u8> {
+    let fault = random.pick(&FAULTS);
+    faulty_with(random, fault).0
+}
+
+/// The file, and whether the fault came about.
+pub fn faulty_with(random: &mut Random, fault: Fault) -> (Vec<u8>, bool) {
+    let mut tries = 8;
+    loop {
+        let plan = plan::plan(random);
+        let (scan, came) = coder::scan(&plan.shape, random, Some(fault));
+        tries -= 1;
+        if came || tries == 0 {
+            return (Draft::new(&plan, scan).bytes(), came);
+        }
+    }
+}
+
+fn damaged_head(random: &mut Random) -> Vec<u8> {
+    let plan = plan::plan(random);
+    let (scan, _) = coder::scan(&plan.shape, random, None);
+    let mut draft = Draft::new(&plan, scan);
+    damage::head(&mut draft, random);
+    draft.bytes()
+}
+
+fn damaged_bytes(random: &mut Random) -> Vec<u8> {
+    let (plan, mut file) = valid(random);
+    let head = Draft::new(&plan, Vec::new()).bytes().len();
+    damage::bytes(&mut file, head, random);
+    file
+}
+
+/// A few bytes, mostly markers.
+fn scrap(random: &mut Random) -> Vec<u8> {
+    let mut file = if random.chance(3, 4) { vec![255, 216] } else { vec![] };
+    for _ in 0..random.between(0, 6) {
+        let any = random.byte();
+        let byte = random.pick(&[255, 255, 216, 217, 218, 192, 196, 219, 221, 224, 254, 0, 0, 1, 2, 3, 4, any]);
+        file.push(byte);
+    }
+    file
+}

@@ -1,0 +1,230 @@
+//! Random quantizers and Huffman tables, and the codes to write with.
+
+use crate::random::Random;
+
+/// How a file's blocks are to look.
+#[derive(Clone, Copy)]
+pub struct Manner {
+    /// Small values and quantizers, so that few samples are clamped.
+    pub mild: bool,
+    /// Short blocks only, for pictures of many blocks.
+    pub short: bool,
+    /// A block goes on after each value unless one chance in this many comes true.
+    pub length: u64,
+}
+
+/// A Huffman table as it stands in a segment.
+#[derive(Clone, Debug)]
+pub struct Table {
+    pub counts: [u8; 16],
+    pub symbols: Vec<u8>,
+}
+
+impl Table {
+    fn new(random: &mut Random, symbols: Vec<u8>) -> Table {
+        Table { counts: counts(random, symbols.len()), symbols }
+    }
+
+    pub fn bytes(&self) -> Vec<u8> {
+        [&self.counts[..], &self.symbols].concat()
+    }
+
+    /// Every code, as symbol, length and bits.
+    pub fn codes(&self) -> Vec<(u8, u32, u32)> {
+        let (mut list, mut bits) = (Vec::new(), 0);
+        let mut symbols = self.symbols.iter();
+        for (i, &count) in self.counts.iter().enumerate() {
+            bits <<= 1;
+            for &symbol in symbols.by_ref().take(count.into()) {
+                list.push((symbol, i as u32 + 1, bits));
+                bits += 1;
+            }
+        }
+        list
+    }
+
+    pub fn lists(&self, symbol: u8) -> bool {
+        self.symbols.contains(&symbol)
+    }
+}
+
+/// Counts for so many symbols (1 to 256) that fit, in one of several shapes.
+fn counts(random: &mut Random, total: usize) -> [u8; 16] {
+    let shape = random.below(5);
+    let mut counts = [0; 16];
+    let (mut next, mut left) = (0u64, total as u64);
+    for length in 1..=16u32 {
+        next *= 2;
+        let here = (1u64 << length) - 1 - next;
+        let mut count = match shape {
+            0 => 1,
+            1 => if here >= left { left } else { 0 },
+            2 => random.between(0, 3),
+            3 => random.between(0, here.min(left)),
+            _ => if random.chance(1, 6) { random.between(0, left) } else { 0 },
+        };
+        if length == 16 {
+            count = left;
+        }
+        count = count.min(here).min(left).min(255);
+        // 256 symbols cannot all stand at one length.
+        if left == 256 && length >= 10 {
+            count = count.max(1);
+        }
+        while (1u64 << 16) - 1 < ((next + count) << (16 - length)) + (left - count) {
+            count -= 1;
+        }
+        counts[length as usize - 1] = count as u8;
+        next += count;
+        left -= count;
+    }
+    assert_eq!(left, 0);
+    counts
+}
+
+pub fn quantizer(random: &mut Random, manner: Manner) -> [u8; 64] {
+    match random.below(if manner.mild { 2 } else { 4 }) {
+        0 => [1; 64],
+        1 => std::array::from_fn(|_| random.between(1, 12) as u8),
+        2 => [random.between(1, 255) as u8; 64],
+        _ => std::array::from_fn(|_| random.between(1, 255) as u8),
+    }
+}
+
+/// A DC table with at least one usable category.
+pub fn dc_table(random: &mut Random, manner: Manner) -> Table {
+    let most = if manner.mild { 6 } else { 11 };
+    let mut symbols = match random.below(5) {
+        0 => vec![0],
+        1 => (0..=11).collect(),
+        2 => vec![random.between(0, most) as u8],
+        _ => (0..=most as u8).filter(|_| random.chance(1, 2)).collect(),
+    };
+    if symbols.is_empty() || manner.short {
+        symbols.push(0);
+    }
+    let unusable = |random: &mut Random| random.between(12, 255) as u8;
+    finish(random, manner, symbols, unusable)
+}
+
+/// An AC table with which every block can be ended.
+pub fn ac_table(random: &mut Random, manner: Manner) -> Table {
+    let mut symbols = ac_symbols(random, manner);
+    if manner.short {
+        symbols.push(0);
+    }
+    if !finishes(&symbols)[1] {
+        symbols.push(if random.chance(2, 3) { 0 } else { 1 });
+    }
+    let unusable = |random: &mut Random| {
+        let run = random.between(0, 15) as u8;
+        let size = random.pick(&[0, 11, 12, 13, 14, 15]);
+        if size == 0 { 16 * run.clamp(1, 14) } else { 16 * run + size }
+    };
+    finish(random, manner, symbols, unusable)
+}
+
+fn ac_symbols(random: &mut Random, manner: Manner) -> Vec<u8> {
+    let most = if manner.mild { 3 } else { 10 };
+    let size = random.between(1, most) as u8;
+    let any = |random: &mut Random| (16 * random.between(0, 15) + random.between(1, most)) as u8;
+    match random.below(9) {
+        0 => vec![0],
+        1 => vec![0, 240, size, 16 + size],
+        2 => (0..=255).filter(|s| [0, 240].contains(s) || (1..=most as u8).contains(&(s % 16))).collect(),
+        // No end code: steps of 1, 3, 7 or 9 places reach place 64 exactly.
+        3 => vec![16 * random.pick(&[0, 2, 6, 8]) + size],
+        // No end code: 15 places, then three times 16.
+        4 => vec![0xe0 + size, 240],
+        5 => vec![size, 240, 0xf0 + size],
+        6 => (0..16).map(|run| 16 * run + size).collect(),
+        _ => {
+            let mut symbols: Vec<u8> = (0..random.between(1, 20)).map(|_| any(random)).collect();
+            symbols.extend([0, 240].iter().filter(|_| random.chance(2, 3)));
+            symbols
+        }
+    }
+}
+
+/// From which places a block can be ended with these symbols.
+pub fn finishes(symbols: &[u8]) -> [bool; 65] {
+    let mut can = [false; 65];
+    can[64] = true;
+    for place in (1..64).rev() {
+        can[place] = symbols.iter().any(|&symbol| match step(symbol, place) {
+            Some(next) => can[next],
+            None => symbol == 0,
+        });
+    }
+    can
+}
+
+/// Where a symbol other than the end code leads from a place, if it may stand there.
+pub fn step(symbol: u8, place: usize) -> Option<usize> {
+    let (run, size) = ((symbol / 16) as usize, symbol % 16);
+    if symbol == 240 {
+        return (place <= 48).then_some(place + 16);
+    }
+    ((1..=10).contains(&size) && place + run < 64).then_some(place + run + 1)
+}
+
+/// Adds unusable and repeated symbols, mixes the order and gives codes.
+fn finish(
+    random: &mut Random,
+    manner: Manner,
+    mut symbols: Vec<u8>,
+    unusable: impl Fn(&mut Random) -> u8,
+) -> Table {
+    let usable = symbols.clone();
+    if random.chance(1, 3) {
+        (0..random.between(1, 4)).for_each(|_| symbols.push(unusable(random)));
+    }
+    if random.chance(1, 4) {
+        (0..random.between(1, 6)).for_each(|_| symbols.push(random.pick(&usable)));
+    }
+    if random.chance(1, 60) {
+        let full = random.pick(&[256, 255]).max(symbols.len());
+        while symbols.len() < full {
+            symbols.push(if random.chance(1, 2) { random.pick(&usable) } else { unusable(random) });
+        }
+    }
+    random.shuffle(&mut symbols);
+    if manner.short || random.chance(1, 3) {
+        // Frequent symbols first: smaller files.
+        symbols.sort_by_key(|&symbol| if symbol == 0 { 0 } else { 1 });
+    }
+    Table::new(random, symbols)
+}
+
+#[cfg(test)]
+mod tests {
+    use super::*;
+    use crate::huffman;
+
+    #[test]
+    fn tables_fit_and_use_every_length() {
+        let mut random = Random::new(1);
+        let mut used = [false; 16];
+        let mut largest = 0;
+        for round in 0..4000 {
+            let manner = Manner { mild: round % 2 == 0, short: round % 5 == 0, length: 4 };
+            for table in [dc_table(&mut random, manner), ac_table(&mut random, manner)] {
+                assert!(huffman::fits(&table.counts));
+                assert_eq!(huffman::total(&table.counts), table.symbols.len());
+                assert_eq!(table.codes().len(), table.symbols.len());
+                largest = largest.max(table.symbols.len());
+                (0..16).for_each(|i| used[i] |= table.counts[i] > 0);
+            }
+        }
+        assert_eq!(used, [true; 16]);
+        assert_eq!(largest, 256);
+    }
+
+    #[test]
+    fn every_total_gets_counts() {
+        let mut random = Random::new(2);
+        for total in 1..=256 {
+            (0..20).for_each(|_| assert_eq!(huffman::total(&counts(&mut random, total)), total));
+        }
+    }
+}

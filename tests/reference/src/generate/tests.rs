@@ -1,0 +1,120 @@
+//! Checks on generated files: valid ones are accepted, settling is steady, every
+//! refusal number comes up.
+
+use super::coder::FAULTS;
+use super::*;
+use crate::answer;
+use crate::calls::{self, Limits, UNLIMITED};
+use crate::scan;
+
+fn inspect(file: &[u8]) -> (u8, Record) {
+    let (answer, record) = calls::inspect(file, 1, &Limits::NONE, UNLIMITED);
+    (answer.number, record)
+}
+
+fn levels(file: &[u8], record: &Record) -> Vec<scan::Levels> {
+    let mut all = Vec::new();
+    scan::read(file, record, &mut |_, _, levels| all.push(*levels)).unwrap();
+    all
+}
+
+#[test]
+fn valid_files_are_accepted() {
+    let mut random = Random::new(11);
+    for _ in 0..3000 {
+        let (plan, file) = files::valid(&mut random);
+        let (number, record) = inspect(&file);
+        assert_eq!(number, 0);
+        assert_eq!((record.width, record.height), (plan.shape.width, plan.shape.height));
+        assert_eq!(record.interval, plan.shape.interval);
+    }
+}
+
+#[test]
+fn settling_keeps_the_levels_and_is_steady() {
+    let (mut random, mut settled_count) = (Random::new(12), 0);
+    for _ in 0..3000 {
+        let (_, file) = files::valid(&mut random);
+        let (_, record) = inspect(&file);
+        let settle = |file: &[u8], buffer: &mut [u8]| {
+            calls::settle(file, &Limits::NONE, UNLIMITED, buffer)
+        };
+        let mut buffer = vec![0; 2 * file.len() + 100 * record.blocks as usize];
+        let (answer, length) = settle(&file, &mut buffer);
+        if answer.number == 9 {
+            continue;
+        }
+        assert_eq!(answer.number, 0);
+        let once = buffer[..length as usize].to_vec();
+        let (number, again) = inspect(&once);
+        assert_eq!((number, &again), (0, &record));
+        assert_eq!(levels(&once, &again), levels(&file, &record));
+        let (answer, length) = settle(&once, &mut buffer);
+        assert_eq!((answer.number, length), (0, once.len() as u64));
+        assert_eq!(buffer[..length as usize], once);
+        settled_count += 1;
+    }
+    assert!(settled_count > 1500);
+}
+
+#[test]
+fn faults_are_refused() {
+    let mut random = Random::new(13);
+    for fault in FAULTS {
+        let (mut came, mut refused) = (0, 0);
+        for _ in 0..200 {
+            let (file, happened) = files::faulty_with(&mut random, fault);
+            let number = inspect(&file).0;
+            assert!(number == 0 || number == 4, "{fault:?} gives {number}");
+            came += u32::from(happened);
+            refused += u32::from(happened && number == 4);
+        }
+        assert!(came >= 100, "{fault:?} came about {came} times");
+        let steady = fault == super::coder::Fault::Carried || refused == came;
+        assert!(steady || refused * 10 > came * 8, "{fault:?}: {refused} of {came}");
+    }
+}
+
+#[test]
+fn every_number_comes_up_in_its_jobs() {
+    let mut generator = Generator::new(Random::new(14));
+    let mut seen = [[0u32; 10]; 5];
+    for _ in 0..60_000 {
+        let line = answer::line(&generator.next());
+        let mut words = line.split(' ').map(|word| word.parse::<u64>().unwrap());
+        let (job, number) = (words.next().unwrap(), words.next().unwrap());
+        seen[job as usize][number as usize] += 1;
+    }
+    let expected: [&[usize]; 5] =
+        [&[], &[0, 1, 2, 3, 4, 5, 6], &[0, 2, 7, 8], &[0, 1, 2, 3, 4, 5, 6, 7, 9], &[0, 2, 7, 8]];
+    for job in 1..5 {
+        for number in 0..10 {
+            let wanted = expected[job].contains(&number);
+            let enough = if wanted { seen[job][number] >= 50 } else { seen[job][number] == 0 };
+            assert!(enough, "job {job} number {number}: {}", seen[job][number]);
+        }
+    }
+}
+
+#[test]
+fn the_same_seed_gives_the_same_cases() {
+    let run = |seed, part| {
+        let mut bytes = Vec::new();
+        write(500, seed, part, &mut bytes).unwrap();
+        bytes
+    };
+    assert!(run(1, 0) == run(1, 0));
+    assert!(run(1, 0) != run(1, 1));
+    assert!(run(1, 0) != run(2, 0));
+}
+
+#[test]
+fn cases_stay_within_their_bounds() {
+    let mut generator = Generator::new(Random::new(15));
+    for _ in 0..30_000 {
+        let case = generator.next();
+        let bytes = case.bytes();
+        let back = Case::read(&mut &bytes[..]).unwrap();
+        assert!(back == Ok(case));
+    }
+}
