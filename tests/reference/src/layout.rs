@@ -100,7 +100,7 @@ mod tests {
     #[test]
     fn p12_one_colour() {
         assert_eq!(colour(100, 128, 127), [99, 101, 100]);
-        assert_eq!(colour(255, 255, 255), [255, 125, 255]);
+        assert_eq!(colour(255, 255, 255), [255, 121, 255]);
         assert_eq!(colour(0, 0, 0), [0, 135, 0]);
     }
 

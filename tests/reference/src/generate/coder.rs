@@ -293,7 +293,9 @@ impl Coder<'_> {
                 return symbol;
             }
         }
-        ready.listed.iter().copied().find(|&symbol| may(symbol)).unwrap_or(0)
+        // Nothing may stand here with a way to the end: end, or after a fault go on anyhow.
+        let last = if ready.lists(0) { 0 } else { ready.listed[0] };
+        ready.listed.iter().copied().find(|&symbol| may(symbol)).unwrap_or(last)
     }
 
     fn faulty_symbol(&mut self, channel: usize, place: usize) -> Option<u8> {
