@@ -13,6 +13,8 @@ use Rattle.reading.specs.declared.AmplitudeRead.{AmplitudeRead}
 use Rattle.reading.specs.declared.AmplitudeRead.the-variants as amplitude
 use Rattle.reading.specs.declared.BlockRead.{BlockRead}
 use Rattle.reading.specs.declared.BlockRead.the-variants as block
+use Rattle.reading.specs.declared.ScanRead.{ScanRead}
+use Rattle.reading.specs.declared.ScanRead.the-variants as scan
 use Rattle.reading.specs.Reader.{Read, got, fault}
 use Rattle.reading.specs.Block.{zeros, places}
 
@@ -43,3 +45,8 @@ levelsOr (fault f) others = others
 unfoldable pub levelsOf : Read Bits (List ℤ) → List ℤ
 unfolding levelsOr
 levelsOf r = levelsOr r (zeros 64)
+
+-- what is answered of a whole scan
+unfoldable pub scanRead : Read Bits (List (List ℤ)) → ScanRead
+scanRead (got ls b) = scan.Done
+scanRead (fault f) = scan.Stop f

@@ -3,9 +3,10 @@ use Prim.Native.Nat.{ℕ, zero, suc, _+_, _*_, _-_, _/_, _%_}
 use mathlib.Core.Bool.{Bool, true, false, cond}
 use mathlib.Core.List.{List, [], _∷_, _++_, map}
 use lib.Dec.{leb, ltb, eqb}
-use lib.ListN.{getD, take, drop, set, replicate}
+use lib.ListN.{getD, take, drop, set, length}
 use lib.IntN.{ℤ, pos}
 use Rattle.reading.specs.declared.Bits.{Bits}
+use Rattle.reading.specs.declared.Fault.the-variants.{Broken}
 use Rattle.reading.specs.declared.Record.{Record}
 use Rattle.reading.specs.declared.ScanCursor.{ScanCursor}
 use Rattle.reading.specs.Reader.{Read, got, fault, Reader, _>>=_, _>>_, give, fail, rule}
@@ -13,6 +14,7 @@ use Rattle.reading.specs.Bits.{Source, file}
 use Rattle.reading.specs.Huffman.{Table, tableAt}
 use Rattle.reading.specs.Block.{block, zeros}
 use Rattle.reading.specs.Layout.{Shape, channelOf, restartDue, restartCode}
+use Rattle.reading.specs.Tests.{_and_, within}
 use Rattle.reading.specs.Tables.{shapeIn, quantAt, dcAt, acAt}
 
 -- a channel's tables
@@ -78,3 +80,12 @@ opened at = record { bits = firstBit at; predictors = noPredictors; done = 0 }
 unfoldable pub levels : List ℕ → Record → Read Bits (List (List ℤ))
 unfolding block file channelOf restartDue
 levels s r = scan (file s) (planOf s r) (r .blocks) (firstBit (r .start))
+
+-- a record's numbers by which a scan can be read: the first coded byte lies within the file, factors 1 to 4, 1 to 3 channels
+unfoldable pub readable : List ℕ → Record → Bool
+readable s r = leb (r .start) (length s) and within 1 4 (r .hs) and within 1 4 (r .vs) and within 1 3 (r .channels)
+
+-- the scan as the code reads it: a record with other numbers, which no header gives, is Broken
+unfoldable pub scanOf : List ℕ → Record → Read Bits (List (List ℤ))
+unfolding readable levels
+scanOf s r = cond (readable s r) (levels s r) (fault Broken)

@@ -16,6 +16,10 @@ use Rattle.reading.specs.Tests.{_and_, _or_, isNone}
 abbrev pub Written : Type 0
 Written = Option (List ℕ)
 
+-- how a symbol is written: its first code, or none. One definition serves a table and whatever stands in for it
+abbrev pub Coder : Type 0
+Coder = ℕ → Written
+
 infixr 30 _then_
 abbrev pub _then_ : Written → Written → Written
 none then b = none
@@ -40,29 +44,33 @@ abbrev pub valueBits : ℤ → List ℕ
 valueBits v = bitsOf (size v) (fieldOf (size v) v)
 
 -- the first level: its difference's category and field
-abbrev pub firstBits : Table → ℤ → Written
-firstBits dc d = codeOf dc (size d) then some (valueBits d)
+abbrev pub firstBits : Coder → ℤ → Written
+firstBits code d = code (size d) then some (valueBits d)
 
 -- n times the symbol 240
-abbrev pub skips : Table → ℕ → Written
-skips ac zero = some []
-skips ac (suc n) = codeOf ac 240 then skips ac n
+abbrev pub skips : Coder → ℕ → Written
+skips code zero = some []
+skips code (suc n) = code 240 then skips code n
 
 -- a level behind a run of zeros: one more zero, or the runs of 16, then run and size, and the value. `more` writes what follows, behind a run
-abbrev pub levelBits : Table → ℕ → ℤ → (ℕ → Written) → Bool → Written
-levelBits ac run v more true = more (suc run)
-levelBits ac run v more false =
-    skips ac (run / 16) then codeOf ac (16 * (run % 16) + size v) then some (valueBits v) then more 0
+abbrev pub levelBits : Coder → ℕ → ℤ → (ℕ → Written) → Bool → Written
+levelBits code run v more true = more (suc run)
+levelBits code run v more false =
+    skips code (run / 16) then code (16 * (run % 16) + size v) then some (valueBits v) then more 0
 
 -- the later levels, behind a run of zeros; the end code where the last of them is zero
-abbrev pub restBits : Table → List ℤ → ℕ → Written
-restBits ac [] zero = some []
-restBits ac [] (suc run) = codeOf ac 0
-restBits ac (v ∷ l) run = levelBits ac run v (restBits ac l) (eqb (natAbs v) 0)
+abbrev pub restBits : Coder → List ℤ → ℕ → Written
+restBits code [] zero = some []
+restBits code [] (suc run) = code 0
+restBits code (v ∷ l) run = levelBits code run v (restBits code l) (eqb (natAbs v) 0)
+
+-- a block behind the prediction p: its first level's difference, then the others
+abbrev pub blockBy : Coder → Coder → ℤ → List ℤ → Written
+blockBy dc ac p [] = none
+blockBy dc ac p (v ∷ l) = firstBits dc (v -ℤ p) then restBits ac l 0
 
 abbrev pub blockBits : Channel → ℤ → List ℤ → Written
-blockBits ch p [] = none
-blockBits ch p (v ∷ l) = firstBits (ch .dc) (v -ℤ p) then restBits (ch .ac) l 0
+blockBits ch p l = blockBy (codeOf (ch .dc)) (codeOf (ch .ac)) p l
 
 -- 0 follows every 255
 abbrev pub stuffed : ℕ → List ℕ → List ℕ

@@ -430,3 +430,9 @@ pub enum BlockRead {
     Got(Bits, i32, usize),
     Stop(Fault),
 }
+
+// What reading a whole scan answers.
+pub enum ScanRead {
+    Done,
+    Stop(Fault),
+}
