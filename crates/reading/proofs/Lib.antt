@@ -1,4 +1,5 @@
 pub mod Places
+pub mod Equal
 pub mod Theorems
 pub mod Plain
 pub mod Written

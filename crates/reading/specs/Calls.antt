@@ -117,16 +117,26 @@ eqBool true b = b
 eqBool false true = false
 eqBool false false = true
 
--- two records are equal in every field
-abbrev pub same : Record → Record → Bool
-same a b =
-    eqb (a .width) (b .width) and eqb (a .height) (b .height) and eqb (a .channels) (b .channels)
-    and eqb (a .hs) (b .hs) and eqb (a .vs) (b .vs)
-    and eqList (a .ids) (b .ids) and eqList (a .qids) (b .qids) and eqList (a .dcids) (b .dcids) and eqList (a .acids) (b .acids)
-    and eqList (a .quants) (b .quants) and eqList (a .dcs) (b .dcs) and eqList (a .acs) (b .acs)
-    and eqb (a .interval) (b .interval) and eqb (a .start) (b .start) and eqb (a .blocks) (b .blocks)
-    and eqb (a .scratch) (b .scratch) and eqb (a .output) (b .output) and eqb (a .work) (b .work)
-    and eqBool (a .colour) (b .colour)
+-- two records are equal in every field: the frame's numbers, the ids, the places of tables, and what follows from them
+abbrev pub sameFrame : Record → Record → Bool
+sameFrame a b =
+    eqb (a .width) (b .width) and eqb (a .height) (b .height) and eqb (a .channels) (b .channels) and eqb (a .hs) (b .hs)
+    and eqb (a .vs) (b .vs)
+
+abbrev pub sameIds : Record → Record → Bool
+sameIds a b =
+    eqList (a .ids) (b .ids) and eqList (a .qids) (b .qids) and eqList (a .dcids) (b .dcids) and eqList (a .acids) (b .acids)
+
+abbrev pub sameTables : Record → Record → Bool
+sameTables a b = eqList (a .quants) (b .quants) and eqList (a .dcs) (b .dcs) and eqList (a .acs) (b .acs)
+
+abbrev pub sameSizes : Record → Record → Bool
+sameSizes a b =
+    eqb (a .interval) (b .interval) and eqb (a .start) (b .start) and eqb (a .blocks) (b .blocks) and eqb (a .scratch) (b .scratch)
+    and eqb (a .output) (b .output) and eqb (a .work) (b .work) and eqBool (a .colour) (b .colour)
+
+unfoldable pub same : Record → Record → Bool
+same a b = sameFrame a b and sameIds a b and sameTables a b and sameSizes a b
 
 abbrev pub undecoded : Refusal → Budget → List ℕ → List ℕ → Decoded
 undecoded x left out scratch =
@@ -147,7 +157,7 @@ decodedFrom s r out scratch left (accepted q ls) =
     cond (same q r) (decodedWith r out scratch left (allSamples s r ls)) (undecoded NotItsRecord left out scratch)
 
 unfoldable pub decode : List ℕ → Record → List ℕ → List ℕ → Budget → Decoded
-unfolding header levels channelOf coefficients samples from sampleAt red green blue
+unfolding header levels same channelOf coefficients samples from sampleAt red green blue
 decode s r out scratch budget =
     cond (ltb (length out) (r .output) or ltb (length scratch) (r .scratch)) (undecoded ShortRoom budget out scratch)
     (cond (ltb (budget .left) (headerPrice s + r .work)) (undecoded OverBudget budget out scratch)
