@@ -9,6 +9,8 @@ mod plan;
 mod tables;
 
 #[cfg(test)]
+mod coverage;
+#[cfg(test)]
 mod tests;
 
 use crate::cases::{Case, DECODE_GIVEN, DECODE_OWN, INSPECT, MOST, SETTLE};

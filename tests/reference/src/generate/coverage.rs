@@ -1,0 +1,148 @@
+//! That the valid files really hold what they are meant to hold.
+
+use super::files;
+use crate::bits::{meaning, Bits};
+use crate::calls::{self, Limits, UNLIMITED};
+use crate::huffman::Codes;
+use crate::layout;
+use crate::random::Random;
+use crate::record::Record;
+use std::collections::BTreeMap;
+
+type Seen = BTreeMap<String, u32>;
+
+fn note(seen: &mut Seen, what: &str) {
+    *seen.entry(what.to_string()).or_default() += 1;
+}
+
+/// The next symbol, noting its code's length and whether it is not the symbol's first.
+fn symbol(bits: &mut Bits, codes: &Codes, seen: &mut Seen) -> u8 {
+    let mut code = 0;
+    for length in 1..=16 {
+        code = 2 * code + bits.bit().unwrap();
+        if let Some(symbol) = codes.symbol(length, code) {
+            note(seen, &format!("code of {length} bits"));
+            if codes.code(symbol) != Some((length as u32, code)) {
+                note(seen, "later code of a repeated symbol");
+            }
+            return symbol;
+        }
+    }
+    panic!("no code");
+}
+
+/// Walks one block of a valid file; returns the new predictor.
+fn block(bits: &mut Bits, dc: &Codes, ac: &Codes, predictor: i32, seen: &mut Seen) -> i32 {
+    let category = u32::from(symbol(bits, dc, seen));
+    note(seen, &format!("category {category}"));
+    let value = predictor + meaning(category, bits.field(category).unwrap());
+    note(seen, if value == -2048 { "first value -2048" } else { "first value" });
+    note(seen, if value == 2047 { "first value 2047" } else { "first value" });
+    let (mut place, mut runs) = (1, 0);
+    while place < 64 {
+        let symbol = symbol(bits, ac, seen);
+        if symbol == 0 {
+            note(seen, if runs > 0 { "end code after 240" } else { "end code" });
+            return value;
+        }
+        runs = if symbol == 240 { runs + 1 } else { 0 };
+        place += usize::from(symbol / 16) + 1;
+        if symbol != 240 {
+            note(seen, &format!("size {}", symbol % 16));
+            note(seen, &format!("run {}", symbol / 16));
+            bits.field(u32::from(symbol % 16)).unwrap();
+        }
+    }
+    let has_end = ac.code(0).is_some();
+    note(seen, if runs > 0 { "240 to place 64" } else { "value at place 63" });
+    note(seen, if has_end { "no end code read" } else { "block of a table without end code" });
+    value
+}
+
+fn walk(file: &[u8], record: &Record, seen: &mut Seen) {
+    let mut bits = Bits::new(file, record.first_coded as usize);
+    let table = |list: &[u64; 4], id: u64| Codes::at(file, list[id as usize]);
+    let channels = 0..record.channels as usize;
+    let dc: Vec<Codes> = channels.clone().map(|c| table(&record.dc_tables, record.dc_ids[c])).collect();
+    let ac: Vec<Codes> = channels.map(|c| table(&record.ac_tables, record.ac_ids[c])).collect();
+    let (per_mcu, mut predictors) = (layout::blocks_per_mcu(record), [0; 3]);
+    for number in 0..record.blocks {
+        if number % per_mcu == 0 {
+            if let Some(code) = layout::restart_before(record, number / per_mcu) {
+                note(seen, &format!("restart {code}"));
+                bits.marker(code).unwrap();
+                predictors = [0; 3];
+            }
+        }
+        let c = layout::channel_of(record, number % per_mcu);
+        predictors[c] = block(&mut bits, &dc[c], &ac[c], predictors[c], seen);
+    }
+}
+
+/// What the bytes show without reading symbols.
+fn look(file: &[u8], record: &Record, seen: &mut Seen) {
+    note(seen, &format!("{} channels {} x {}", record.channels, record.hs, record.vs));
+    let scan = &file[record.first_coded as usize..];
+    if scan.windows(2).any(|pair| pair == [255, 0]) {
+        note(seen, "255 in the data");
+    }
+    if scan.windows(4).any(|four| four[..3] == [255, 0, 255] && four[3] >= 208) {
+        note(seen, "255 as the last byte before a marker");
+    }
+    let (answer, length) = calls::settle(file, &Limits::NONE, UNLIMITED, &mut []);
+    let longer = (file.len() as u64).cmp(&length);
+    note(seen, &format!("settle {} {longer:?}", answer.number));
+    let used: Vec<u64> = (0..record.channels as usize).map(|c| record.quantizer_ids[c]).collect();
+    if (0..4).any(|id| record.quantizers[id as usize] != 0 && !used.contains(&id)) {
+        note(seen, "unused quantizer");
+    }
+}
+
+/// Everything that must come up at least ten times.
+fn wanted() -> Vec<String> {
+    let mut list: Vec<String> = [
+        "later code of a repeated symbol",
+        "first value -2048",
+        "first value 2047",
+        "end code",
+        "end code after 240",
+        "240 to place 64",
+        "value at place 63",
+        "no end code read",
+        "block of a table without end code",
+        "255 in the data",
+        "255 as the last byte before a marker",
+        "unused quantizer",
+        "settle 7 Less",
+        "settle 7 Equal",
+        "settle 7 Greater",
+        "settle 9 Greater",
+        "1 channels 1 x 1",
+    ]
+    .map(String::from)
+    .to_vec();
+    list.extend((1..=16).map(|length| format!("code of {length} bits")));
+    list.extend((0..=11).map(|category| format!("category {category}")));
+    list.extend((1..=10).map(|size| format!("size {size}")));
+    list.extend((0..=15).map(|run| format!("run {run}")));
+    list.extend((208..=215).map(|code| format!("restart {code}")));
+    let sampling = ["1 x 1", "1 x 2", "1 x 3", "1 x 4", "2 x 1", "2 x 2", "3 x 1", "4 x 1"];
+    list.extend(sampling.map(|sampling| format!("3 channels {sampling}")));
+    list
+}
+
+#[test]
+fn valid_files_hold_everything() {
+    let (mut random, mut seen) = (Random::new(21), Seen::new());
+    for _ in 0..4000 {
+        let (_, file) = files::valid(&mut random);
+        let (answer, record) = calls::inspect(&file, 0, &Limits::NONE, UNLIMITED);
+        assert_eq!(answer.number, 0);
+        look(&file, &record, &mut seen);
+        walk(&file, &record, &mut seen);
+    }
+    for what in wanted() {
+        let times = seen.get(&what).copied().unwrap_or(0);
+        assert!(times >= 10, "{what}: {times} times");
+    }
+}
