@@ -70,3 +70,30 @@ one-picture-one-scan s s′ r r′ ls ls′ t t′ h h′ e a = O.one-picture-on
 pub want-of-a-code :
     (s : List ℕ) (r : Record) (ls : List (List ℤ)) → AllBytes s → reading s false ≡ accepted r ls → settledFile s r ls ≡ none ↔ T (someLacksEnd (planOf s r) 0 ls)
 want-of-a-code s r ls ab h = W.want-of-a-code s r ls ab h
+
+-- ---- (v) demand 3 in one piece: limits, budget and room aside, take files that settle and agree up to their first coded byte.
+-- The settled file is accepted with the same coefficients, settling it again changes nothing, and two settled files are equal
+-- exactly when their coefficients are; for want of a code settling refuses exactly when some block ends in a zero and its table
+-- has no end-of-block code.
+
+pub record SettledPair (s s′ : List ℕ) (r r′ : Record) (ls ls′ : List (List ℤ)) (t t′ : List ℕ) : Type 0 where
+  pub first : Settles s r ls t
+  pub second : Settles s′ r′ ls′ t′
+  pub one-start : r .start ≡ r′ .start
+  pub one-head : take (r .start) s ≡ take (r′ .start) s′
+
+pub record DemandThree (s s′ : List ℕ) (r r′ : Record) (ls ls′ : List (List ℤ)) (t t′ : List ℕ) : Type 0 where
+  pub accepted-again : reading t false ≡ accepted r ls
+  pub same-coefficients : coefficientsOf t r ls ≡ coefficientsOf s r ls
+  pub settles-to-itself : Settles t r ls t
+  pub equal-exactly-when : t ≡ t′ ↔ coefficientsOf s r ls ≡ coefficientsOf s′ r′ ls′
+
+pub demand-three :
+    (s s′ : List ℕ) (r r′ : Record) (ls ls′ : List (List ℤ)) (t t′ : List ℕ) → SettledPair s s′ r r′ ls ls′ t t′ → DemandThree s s′ r r′ ls ls′ t t′
+demand-three s s′ r r′ ls ls′ t t′ p =
+    record {
+      accepted-again = settled-accepted s r ls t (p .first);
+      same-coefficients = settled-coefficients s r ls t (p .first);
+      settles-to-itself = settled-settles s r ls t (p .first);
+      equal-exactly-when = one-picture-one-scan s s′ r r′ ls ls′ t t′ (p .first) (p .second) (p .one-start) (p .one-head);
+    }

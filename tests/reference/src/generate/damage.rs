@@ -7,11 +7,12 @@ use crate::random::Random;
 type Damage = fn(&mut Draft, &mut Random);
 
 /// Each changes one thing around a boundary of the rules.
-const HEAD_DAMAGE: [Damage; 24] = [
+const HEAD_DAMAGE: [Damage; 30] = [
     frame_field,
     frame_field,
     frame_sampling,
     frame_component,
+    frame_equal_ids,
     frame_size,
     frame_body,
     frame_twice,
@@ -19,8 +20,12 @@ const HEAD_DAMAGE: [Damage; 24] = [
     scan_field,
     scan_field,
     scan_component,
+    scan_two_components,
     scan_body,
+    scan_inserted,
     table_gone,
+    front_huffman,
+    front_huffman,
     quantizer_field,
     quantizer_body,
     huffman_field,
@@ -32,12 +37,16 @@ const HEAD_DAMAGE: [Damage; 24] = [
     order,
     before_marker,
     opening,
+    cut_after_marker,
 ];
 
 /// One to three kinds of damage to the head.
 pub fn head(draft: &mut Draft, random: &mut Random) {
     for _ in 0..random.pick(&[1, 1, 1, 1, 1, 2, 2, 3]) {
         random.pick(&HEAD_DAMAGE)(draft, random);
+        if draft.segments.is_empty() {
+            return;
+        }
     }
 }
 
@@ -91,6 +100,17 @@ fn frame_component(draft: &mut Draft, random: &mut Random) {
         let any = random.byte();
         let id = frame.body.get(6 + 3 * random.below(3)).copied().unwrap_or(any);
         set(Some(frame), 6 + 3 * channel, id);
+    }
+}
+
+/// Two equal component ids, in the frame and in the scan alike.
+fn frame_equal_ids(draft: &mut Draft, random: &mut Random) {
+    let (a, b) = random.pick(&[(0, 1), (0, 2), (1, 2)]);
+    for (codes, first, step) in [(&FRAME[..], 6, 3), (&[218], 1, 2)] {
+        let Some(segment) = find(draft, random, codes) else { continue };
+        if let Some(&id) = segment.body.get(first + step * a) {
+            set(Some(segment), first + step * b, id);
+        }
     }
 }
 
@@ -191,6 +211,30 @@ fn scan_component(draft: &mut Draft, random: &mut Random) {
     }
 }
 
+/// Two faults in two channels: which test comes first decides the number.
+fn scan_two_components(draft: &mut Draft, random: &mut Random) {
+    let Some(scan) = find(draft, random, &[218]) else { return };
+    let (a, b) = random.pick(&[(0, 1), (0, 2), (1, 2), (1, 0), (2, 0), (2, 1), (0, 0)]);
+    let ids = |random: &mut Random| random.pick(&[0x40, 0x04, 0x44]);
+    match random.below(3) {
+        0 => set(Some(&mut *scan), 1 + 2 * a, random.byte()),
+        _ => set(Some(&mut *scan), 2 + 2 * a, ids(random)),
+    }
+    match random.below(3) {
+        0 => set(Some(scan), 1 + 2 * b, random.byte()),
+        1 => set(Some(scan), 2 + 2 * b, random.pick(&[0x33, 0x30, 0x03, 0x22, 0x11])),
+        _ => set(Some(scan), 2 + 2 * b, ids(random)),
+    }
+}
+
+/// Bytes too many before the last three.
+fn scan_inserted(draft: &mut Draft, random: &mut Random) {
+    let Some(scan) = find(draft, random, &[218]) else { return };
+    let at = scan.body.len().saturating_sub(3);
+    let some = vec![random.byte(); random.between(1, 3) as usize];
+    scan.body.splice(at..at, some);
+}
+
 fn scan_body(draft: &mut Draft, random: &mut Random) {
     if let Some(scan) = find(draft, random, &[218]) {
         resize(random, &mut scan.body, &[0, 1, 2, 6, 8, 10]);
@@ -265,6 +309,37 @@ fn fill_length(random: &mut Random, body: &mut [u8]) {
     }
 }
 
+/// A table at the very front, where it is unused or replaced: right at the edge of what
+/// fits, or one past it, or with no symbol, 256 or 257.
+fn front_huffman(draft: &mut Draft, random: &mut Random) {
+    let mut body = vec![random.pick(&[0, 1, 2, 3, 16, 17, 18, 19])];
+    let mut counts = [0u8; 16];
+    let length = random.between(1, 16) as usize;
+    let over = random.between(0, 1) as u8;
+    match random.below(5) {
+        0 => {}
+        1 => {
+            counts[..length].fill(1);
+            counts[length - 1] += over;
+        }
+        2 => {
+            let length = length.clamp(1, 8);
+            counts[length - 1] = ((1u16 << length) - 2 + u16::from(over)).min(255) as u8;
+            counts[length] = random.between(1, 2) as u8;
+        }
+        3 => {
+            let length = length.max(9);
+            counts[length - 1] = 255;
+            counts[length - 2] = 1 + over;
+        }
+        _ => counts[length - 1] = 1 + over,
+    }
+    let symbols: usize = counts.iter().map(|&count| usize::from(count)).sum();
+    body.extend(counts);
+    body.extend((0..symbols).map(|_| random.byte()));
+    draft.segments.insert(0, Segment::new(196, body));
+}
+
 fn huffman_body(draft: &mut Draft, random: &mut Random) {
     if let Some(segment) = find(draft, random, &[196]) {
         resize(random, &mut segment.body, &[0, 1, 16, 17, 18, 19]);
@@ -322,6 +397,16 @@ fn before_marker(draft: &mut Draft, random: &mut Random) {
     let at = random.below(draft.segments.len());
     let bytes = random.pick(&[&[0][..], &[255, 0], &[0, 255], &[217], &[255, 217], &[255, 255, 1], &[254]]);
     draft.segments[at].before = bytes.to_vec();
+}
+
+/// The file ends within the four bytes of a marker and its length, or just after them.
+fn cut_after_marker(draft: &mut Draft, random: &mut Random) {
+    draft.segments.truncate(random.below(draft.segments.len() + 1));
+    let any = random.byte();
+    let code = random.pick(&[0, 1, 194, 208, 216, 217, 220, 253, 255, 192, 196, 218, 224, 254, any]);
+    let length = random.pick(&[0, 1, 2, 3]);
+    let tail = [255, code, 0, length];
+    draft.scan = tail[..random.between(1, 4) as usize].to_vec();
 }
 
 fn opening(draft: &mut Draft, random: &mut Random) {

@@ -14,10 +14,10 @@ pub type Group = Vec<Vec<u8>>;
 pub fn group(random: &mut Random) -> Group {
     loop {
         let group = match random.between(1, 100) {
-            1..=40 => valid_group(random),
-            41..=60 => vec![faulty(random)],
-            61..=87 => vec![damaged_head(random)],
-            88..=98 => vec![damaged_bytes(random)],
+            1..=24 => valid_group(random),
+            25..=46 => vec![faulty(random)],
+            47..=86 => vec![damaged_head(random)],
+            87..=98 => vec![damaged_bytes(random)],
             _ => vec![scrap(random)],
         };
         if group.iter().all(|file| file.len() as u64 <= MOST) {

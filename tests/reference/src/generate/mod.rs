@@ -57,7 +57,7 @@ impl Generator {
         for file in files::group(&mut self.random) {
             let facts = Facts::of(file);
             let large = facts.blocks() > 300 || facts.file.len() > 6000;
-            if !large && self.random.chance(1, 25) {
+            if !large && self.random.chance(1, 60) {
                 self.sweep(&facts);
             } else {
                 self.chosen(&facts, first.as_ref(), large);
@@ -66,20 +66,26 @@ impl Generator {
                 first = facts.head.clone();
             }
             if let Some(head) = facts.head {
-                let at = self.random.below(8);
-                if at < self.records.len() && self.records.len() == 8 {
-                    self.records[at] = head;
-                } else {
-                    self.records.push(head);
-                }
+                self.keep(head);
             }
+        }
+    }
+
+    /// Keeps the records of eight files.
+    fn keep(&mut self, head: Record) {
+        if self.records.len() < 8 {
+            self.records.push(head);
+        } else {
+            let at = self.random.below(8);
+            self.records[at] = head;
         }
     }
 
     /// A few cases of each job at random.
     fn chosen(&mut self, facts: &Facts, first: Option<&Record>, large: bool) {
         for job in [INSPECT, DECODE_OWN, SETTLE, DECODE_GIVEN] {
-            let count = if large { 1 } else { self.random.between(2, 4) };
+            let most = if facts.accepted { 4 } else { 2 };
+            let count = if large { 1 } else { self.random.between(most / 2, most) };
             for _ in 0..count {
                 let given = (job == DECODE_GIVEN).then(|| self.given(facts, first));
                 self.one(facts, job, given.as_ref());
