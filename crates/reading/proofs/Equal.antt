@@ -75,32 +75,3 @@ records-equal a b t =
         → a .interval ≡ b .interval → a .start ≡ b .start → a .blocks ≡ b .blocks → a .scratch ≡ b .scratch → a .output ≡ b .output → a .work ≡ b .work
         → a .colour ≡ b .colour → _≡_ {A = Record} (record { width = a .width; height = a .height; channels = a .channels; hs = a .hs; vs = a .vs; ids = a .ids; qids = a .qids; dcids = a .dcids; acids = a .acids; quants = a .quants; dcs = a .dcs; acs = a .acs; interval = a .interval; start = a .start; blocks = a .blocks; scratch = a .scratch; output = a .output; work = a .work; colour = a .colour }) (record { width = b .width; height = b .height; channels = b .channels; hs = b .hs; vs = b .vs; ids = b .ids; qids = b .qids; dcids = b .dcids; acids = b .acids; quants = b .quants; dcs = b .dcs; acs = b .acs; interval = b .interval; start = b .start; blocks = b .blocks; scratch = b .scratch; output = b .output; work = b .work; colour = b .colour })
     made a b e1 e2 e3 e4 e5 e6 e7 e8 e9 e10 e11 e12 e13 e14 e15 e16 e17 e18 e19 = rw (e1, e2, e3, e4, e5, e6, e7, e8, e9, e10, e11, e12, e13, e14, e15, e16, e17, e18, e19) refl
-
-flag-itself : (a : Bool) → eqBool a a ≡ true
-flag-itself true = refl
-flag-itself false = refl
-
-pub same-itself : (a : Record) → same a a ≡ true
-unfolding same
-same-itself a =
-    simp (
-      eq-eqb (a .width) (a .width) refl,
-      eq-eqb (a .height) (a .height) refl,
-      eq-eqb (a .channels) (a .channels) refl,
-      eq-eqb (a .hs) (a .hs) refl,
-      eq-eqb (a .vs) (a .vs) refl,
-      sym (itself (a .ids)),
-      sym (itself (a .qids)),
-      sym (itself (a .dcids)),
-      sym (itself (a .acids)),
-      sym (itself (a .quants)),
-      sym (itself (a .dcs)),
-      sym (itself (a .acs)),
-      eq-eqb (a .interval) (a .interval) refl,
-      eq-eqb (a .start) (a .start) refl,
-      eq-eqb (a .blocks) (a .blocks) refl,
-      eq-eqb (a .scratch) (a .scratch) refl,
-      eq-eqb (a .output) (a .output) refl,
-      eq-eqb (a .work) (a .work) refl,
-      flag-itself (a .colour),
-    )

@@ -322,13 +322,7 @@ impl Coder<'_> {
 
     /// The first symbol and its field, often towards the edges -2048 and 2047.
     fn first(&mut self, channel: usize) {
-        if self.wanted(Fault::Category) && self.dc[channel].listed.iter().any(|&s| s > 11) {
-            self.fault = None;
-            let unusable: Vec<u8> = self.dc[channel].listed.iter().copied().filter(|&s| s > 11).collect();
-            let symbol = self.random.pick(&unusable);
-            self.symbol(true, channel, symbol);
-            let field = self.field(u32::from(symbol.min(16)));
-            self.bits(symbol.min(16).into(), field);
+        if self.wanted(Fault::Category) && self.unusable_category(channel) {
             return;
         }
         let predictor = self.predictors[channel];
@@ -338,6 +332,28 @@ impl Coder<'_> {
         self.symbol(true, channel, size);
         let field = if difference < 0 { difference + (1 << size) - 1 } else { difference };
         self.bits(size.into(), field as u32);
+    }
+
+    /// A category above 11 where the table lists one. Category 12 gets a difference that
+    /// stays within -2048..2047.
+    fn unusable_category(&mut self, channel: usize) -> bool {
+        let listed = &self.dc[channel].listed;
+        let unusable: Vec<u8> = listed.iter().copied().filter(|&symbol| symbol > 11).collect();
+        if unusable.is_empty() {
+            return false;
+        }
+        self.fault = None;
+        let symbol = if unusable.contains(&12) { 12 } else { self.random.pick(&unusable) };
+        self.symbol(true, channel, symbol);
+        if symbol == 12 {
+            let low = self.predictors[channel] >= 0;
+            self.predictors[channel] += if low { -2048 } else { 2048 };
+            self.bits(12, if low { 2047 } else { 2048 });
+        } else {
+            let field = self.field(symbol.min(16).into());
+            self.bits(symbol.min(16).into(), field);
+        }
+        true
     }
 
     /// A difference whose category the table lists.
@@ -354,8 +370,13 @@ impl Coder<'_> {
                 return difference;
             }
         }
+        let manner = self.shape.manner;
+        let even = self.random.between(0, 2047) as i32 - 1024 - predictor;
+        if manner.even && lists(&even) {
+            return even;
+        }
         let towards = (edge - predictor).clamp(-2047, 2047);
-        let steer = self.fault == Some(Fault::Beyond) || !self.shape.manner.mild;
+        let steer = self.fault == Some(Fault::Beyond) || !manner.mild;
         if steer && self.random.chance(1, 3) && lists(&towards) {
             return towards;
         }

@@ -84,8 +84,13 @@ impl Generator {
     /// A few cases of each job at random.
     fn chosen(&mut self, facts: &Facts, first: Option<&Record>, large: bool) {
         for job in [INSPECT, DECODE_OWN, SETTLE, DECODE_GIVEN] {
-            let most = if facts.accepted { 4 } else { 2 };
-            let count = if large { 1 } else { self.random.between(most / 2, most) };
+            let (low, high) = match (large, facts.accepted, job) {
+                (true, ..) => (1, 1),
+                (_, true, _) => (2, 4),
+                (_, _, INSPECT | SETTLE) => (1, 2),
+                _ => (0, 1),
+            };
+            let count = self.random.between(low, high);
             for _ in 0..count {
                 let given = (job == DECODE_GIVEN).then(|| self.given(facts, first));
                 self.one(facts, job, given.as_ref());

@@ -109,9 +109,10 @@ pub fn plan(random: &mut Random) -> Plan {
 }
 
 fn manner(random: &mut Random) -> Manner {
-    let mild = random.chance(1, 2);
-    let short = random.chance(1, 12);
-    Manner { mild, short, length: random.pick(&[2, 4, 9, 40, 1000]) }
+    let even = random.chance(1, 4);
+    let mild = even || random.chance(1, 3);
+    let short = !even && random.chance(1, 12);
+    Manner { mild, even, short, length: random.pick(&[2, 4, 9, 40, 1000]) }
 }
 
 fn names(random: &mut Random, channels: usize) -> Names {

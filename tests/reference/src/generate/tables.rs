@@ -7,6 +7,8 @@ use crate::random::Random;
 pub struct Manner {
     /// Small values and quantizers, so that few samples are clamped.
     pub mild: bool,
+    /// First values spread evenly over all samples, so that all colours come up.
+    pub even: bool,
     /// Short blocks only, for pictures of many blocks.
     pub short: bool,
     /// A block goes on after each value unless one chance in this many comes true.
@@ -83,6 +85,9 @@ fn counts(random: &mut Random, total: usize) -> [u8; 16] {
 }
 
 pub fn quantizer(random: &mut Random, manner: Manner) -> [u8; 64] {
+    if manner.even {
+        return [random.pick(&[1, 1, 2]); 64];
+    }
     match random.below(if manner.mild { 2 } else { 4 }) {
         0 => [1; 64],
         1 => std::array::from_fn(|_| random.between(1, 12) as u8),
@@ -95,6 +100,7 @@ pub fn quantizer(random: &mut Random, manner: Manner) -> [u8; 64] {
 pub fn dc_table(random: &mut Random, manner: Manner) -> Table {
     let most = if manner.mild { 6 } else { 11 };
     let mut symbols = match random.below(5) {
+        _ if manner.even => (0..=11).collect(),
         0 => vec![0],
         1 => (0..=11).collect(),
         2 => vec![random.between(0, most) as u8],
@@ -103,7 +109,9 @@ pub fn dc_table(random: &mut Random, manner: Manner) -> Table {
     if symbols.is_empty() || manner.short {
         symbols.push(0);
     }
-    let unusable = |random: &mut Random| random.between(12, 255) as u8;
+    let unusable = |random: &mut Random| {
+        if random.chance(1, 2) { 12 } else { random.between(12, 255) as u8 }
+    };
     finish(random, manner, symbols, unusable)
 }
 
@@ -207,7 +215,7 @@ mod tests {
         let mut used = [false; 16];
         let mut largest = 0;
         for round in 0..4000 {
-            let manner = Manner { mild: round % 2 == 0, short: round % 5 == 0, length: 4 };
+            let manner = Manner { mild: round % 2 == 0, even: round % 7 == 0, short: round % 5 == 0, length: 4 };
             for table in [dc_table(&mut random, manner), ac_table(&mut random, manner)] {
                 assert!(huffman::fits(&table.counts));
                 assert_eq!(huffman::total(&table.counts), table.symbols.len());
