@@ -172,8 +172,10 @@ fn first_value(value: i32) -> u8 {
     let bits = field << 1;
     let used = size + 2;
     let padded = (bits << (16 - used)) | ((1 << (16 - used)) - 1);
-    let scan = if used > 8 { vec![(padded >> 8) as u8, padded as u8] } else { vec![(padded >> 8) as u8] };
-    let stuffed: Vec<u8> = scan.iter().flat_map(|&b| if b == 255 { vec![255, 0] } else { vec![b] }).collect();
+    let scan =
+        if used > 8 { vec![(padded >> 8) as u8, padded as u8] } else { vec![(padded >> 8) as u8] };
+    let stuffed: Vec<u8> =
+        scan.iter().flat_map(|&b| if b == 255 { vec![255, 0] } else { vec![b] }).collect();
     let file = file(&[(1, size as u8)], ZERO, &stuffed);
     let (_, record) = inspect(&file, 0, &Limits::NONE, UNLIMITED);
     let (mut output, mut scratch) = ([0; 64], [0; 64]);

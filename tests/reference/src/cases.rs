@@ -76,11 +76,14 @@ impl Case {
         }
         let limits = Limits { input: number(2), side: number(3), output: number(4) };
         let budget = number(5);
-        let record = if job == DECODE_GIVEN { read_record(input)? } else { None };
-        if job == DECODE_GIVEN && record.is_none() {
-            return Ok(Err(Stop::Bad));
+        let mut case = Case { job, colour, limits, budget, room, scratch_room, file, record: None };
+        if job == DECODE_GIVEN {
+            case.record = read_record(input)?;
+            if case.record.is_none() {
+                return Ok(Err(Stop::Bad));
+            }
         }
-        Ok(Ok(Case { job, colour, limits, budget, room, scratch_room, file, record }))
+        Ok(Ok(case))
     }
 }
 

@@ -116,7 +116,8 @@ mod tests {
     #[test]
     fn every_place_is_in_the_scratch() {
         for (hs, vs) in [(1, 1), (1, 2), (1, 3), (1, 4), (2, 1), (2, 2), (3, 1), (4, 1)] {
-            let mut record = Record { width: 37, height: 41, channels: 3, hs, vs, ..Record::default() };
+            let mut record =
+                Record { width: 37, height: 41, channels: 3, hs, vs, ..Record::default() };
             measure(&mut record);
             let mut seen = vec![0u32; record.scratch as usize];
             for y in 0..41 {

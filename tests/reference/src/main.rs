@@ -73,11 +73,11 @@ fn run(words: &[&str]) -> io::Result<bool> {
             if colour > 1 {
                 return Err(usage());
             }
-            writeln!(output, "{}", answer::inspect_line(&input()?, colour, &Limits::NONE, UNLIMITED))?;
-            Ok(true)
+            let line = answer::inspect_line(&input()?, colour, &Limits::NONE, UNLIMITED);
+            writeln!(output, "{line}").map(|()| true)
         }
-        ["program"] => output.write_all(&picture::written(&input()?, &picture::PROGRAM)).map(|()| true),
-        ["picture"] => output.write_all(&picture::written(&input()?, &Limits::NONE)).map(|()| true),
+        ["program"] => show_picture(&picture::PROGRAM, &mut output),
+        ["picture"] => show_picture(&Limits::NONE, &mut output),
         ["distance", a, b] => show_distance(a, b, &mut output),
         _ => Err(usage()),
     }
@@ -103,6 +103,10 @@ fn numbers<const N: usize>(words: &[&str], names: [&str; N]) -> io::Result<[Opti
         values[place] = Some(value);
     }
     Ok(values)
+}
+
+fn show_picture(limits: &Limits, output: &mut dyn Write) -> io::Result<bool> {
+    output.write_all(&picture::written(&input()?, limits)).map(|()| true)
 }
 
 fn show_distance(a: &str, b: &str, output: &mut dyn Write) -> io::Result<bool> {

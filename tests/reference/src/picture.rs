@@ -11,7 +11,8 @@ pub fn written(file: &[u8], limits: &Limits) -> Vec<u8> {
     if answer.number != 0 {
         return format!("refused {}\n", answer.number).into_bytes();
     }
-    let (mut output, mut scratch) = (vec![0; record.output as usize], vec![0; record.scratch as usize]);
+    let (mut output, mut scratch) =
+        (vec![0; record.output as usize], vec![0; record.scratch as usize]);
     let answer = calls::decode(file, &record, &mut output, &mut scratch, UNLIMITED);
     assert_eq!(answer.number, 0);
     let kind = if record.channels == 1 { "P5" } else { "P6" };
@@ -22,7 +23,8 @@ pub fn written(file: &[u8], limits: &Limits) -> Vec<u8> {
 
 /// The opening lines of a PGM or PPM, and its samples.
 fn parts(picture: &[u8]) -> Option<(&[u8], &[u8])> {
-    let mut ends = picture.iter().enumerate().filter(|(_, &byte)| byte == b'\n').map(|(at, _)| at + 1);
+    let mut ends =
+        picture.iter().enumerate().filter(|(_, &byte)| byte == b'\n').map(|(at, _)| at + 1);
     let end = ends.nth(2)?;
     Some(picture.split_at(end))
 }

@@ -16,11 +16,7 @@ struct Tables {
 
 /// Reads the whole scan, giving each block's number, channel and levels to `each`.
 /// `None` is a fault; blocks before it have been given.
-pub fn read(
-    file: &[u8],
-    record: &Record,
-    each: &mut dyn FnMut(u64, usize, &Levels),
-) -> Option<()> {
+pub fn read(file: &[u8], record: &Record, each: &mut dyn FnMut(u64, usize, &Levels)) -> Option<()> {
     let tables = Tables::of(file, record);
     let mut bits = Bits::new(file, record.first_coded as usize);
     let mut predictors = [0; 3];

@@ -121,7 +121,8 @@ mod tests {
     fn rows_first_equals_the_double_sum() {
         let (table, mut random) = (basis_table(), Random::new(5));
         for bound in [3, 40, 524_288] {
-            let block: [i64; 64] = std::array::from_fn(|_| random.between(0, 2 * bound) as i64 - bound as i64);
+            let block: [i64; 64] =
+                std::array::from_fn(|_| random.between(0, 2 * bound) as i64 - bound as i64);
             let quick = samples(&table, &block);
             for place in 0..64 {
                 let (x, y) = (place % 8, place / 8);

@@ -67,8 +67,9 @@ impl Bounds {
             _ => (room(record.output), room(record.scratch)),
         };
         let more = |size: u64, random: &mut Random| room(size + random.between(1, 90));
-        let any = random.next();
-        let huge = [0, 1, UNLIMITED, UNLIMITED - 1, 1 << 63, (1 << 63) - 1, 1 << 32, any];
+        let huge = huge(random);
+        let sides = [around(record.width), around(record.height)].concat();
+        let lengths = [around(record.scratch), around(record.output)].concat();
         let prices = [around(header_price), around(price), around(record.work)].concat();
         Bounds {
             enough: [
@@ -81,8 +82,8 @@ impl Bounds {
             ],
             tries: [
                 [&around(n)[..], &huge].concat(),
-                [&around(record.width)[..], &around(record.height), &[65535, 65536], &huge].concat(),
-                [&around(record.scratch)[..], &around(record.output), &huge].concat(),
+                [&sides[..], &[65535, 65536], &huge].concat(),
+                [&lengths[..], &huge].concat(),
                 [&prices[..], &prices, &huge].concat(),
                 rooms(&[buffer, if job == SETTLE { n } else { buffer }]),
                 rooms(&[scratch]),
@@ -91,7 +92,13 @@ impl Bounds {
     }
 
     /// A case with these six numbers.
-    pub fn case(job: u64, colour: u64, numbers: [u64; 6], facts: &Facts, given: Option<&Record>) -> Case {
+    pub fn case(
+        job: u64,
+        colour: u64,
+        numbers: [u64; 6],
+        facts: &Facts,
+        given: Option<&Record>,
+    ) -> Case {
         let [input, side, output, budget, room, scratch_room] = numbers;
         Case {
             job,
@@ -104,6 +111,12 @@ impl Bounds {
             record: given.filter(|_| job == DECODE_GIVEN).cloned(),
         }
     }
+}
+
+/// Values at the edges of 64 bits, and one from anywhere.
+fn huge(random: &mut Random) -> [u64; 8] {
+    let half = 1 << 63;
+    [0, 1, UNLIMITED, UNLIMITED - 1, half, half - 1, 1 << 32, random.next()]
 }
 
 fn rooms(sizes: &[u64]) -> Vec<u64> {

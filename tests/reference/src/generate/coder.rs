@@ -228,7 +228,8 @@ impl Coder<'_> {
         if self.due(Fault::RestartMissing) {
             return;
         }
-        let wrong = if self.due(Fault::RestartNumber) { self.random.pick(&[1, 7, 2, 4]) } else { 0 };
+        let wrong =
+            if self.due(Fault::RestartNumber) { self.random.pick(&[1, 7, 2, 4]) } else { 0 };
         self.marker(208 + ((number + wrong) % 8) as u8);
         if !self.due(Fault::Carried) {
             self.predictors = [0; 3];
@@ -358,29 +359,11 @@ impl Coder<'_> {
 
     /// A difference whose category the table lists.
     fn difference(&mut self, channel: usize, predictor: i32) -> i32 {
-        let ready = &self.dc[channel];
-        let lists = |difference: &i32| {
-            difference.abs() <= 2047 && ready.lists(category(*difference))
-        };
-        let edge = self.random.pick(&[-2048, 2047]);
-        if self.wanted(Fault::Beyond) {
-            let past = [2048 - predictor, -2049 - predictor];
-            if let Some(&difference) = past.iter().find(|&difference| lists(difference)) {
-                self.fault = None;
-                return difference;
-            }
+        if let Some(difference) = self.steered(channel, predictor) {
+            return difference;
         }
-        let manner = self.shape.manner;
-        let even = self.random.between(0, 2047) as i32 - 1024 - predictor;
-        if manner.even && lists(&even) {
-            return even;
-        }
-        let towards = (edge - predictor).clamp(-2047, 2047);
-        let steer = self.fault == Some(Fault::Beyond) || !manner.mild;
-        if steer && self.random.chance(1, 3) && lists(&towards) {
-            return towards;
-        }
-        let usable: Vec<u8> = ready.listed.iter().copied().filter(|&symbol| symbol <= 11).collect();
+        let listed = self.dc[channel].listed.iter().copied();
+        let usable: Vec<u8> = listed.filter(|&symbol| symbol <= 11).collect();
         let size = self.random.pick(&usable);
         if size == 0 {
             return 0;
@@ -388,9 +371,31 @@ impl Coder<'_> {
         let low = 1u64 << (size - 1);
         let amount = self.random.between(low, 2 * low - 1) as i32;
         let sign = self.random.pick(&[1, -1]);
-        let fits = |difference: i32| (-2048..=2047).contains(&(predictor + difference));
         // From any prediction one of the two signs stays within -2048..2047.
-        let both = [sign * amount, -sign * amount];
-        both.into_iter().find(|&difference| fits(difference)).expect("one sign fits")
+        let fits = |difference: &i32| (-2048..=2047).contains(&(predictor + difference));
+        [sign * amount, -sign * amount].into_iter().find(fits).expect("one sign fits")
+    }
+
+    /// A difference past the edge where that fault is due, to an even spread, or towards
+    /// the edges.
+    fn steered(&mut self, channel: usize, predictor: i32) -> Option<i32> {
+        let (ready, manner) = (&self.dc[channel], self.shape.manner);
+        let lists =
+            |difference: &i32| difference.abs() <= 2047 && ready.lists(category(*difference));
+        if self.wanted(Fault::Beyond) {
+            let past = [2048 - predictor, -2049 - predictor].into_iter().find(lists);
+            if past.is_some() {
+                self.fault = None;
+                return past;
+            }
+        }
+        let even = self.random.between(0, 2047) as i32 - 1024 - predictor;
+        if manner.even && lists(&even) {
+            return Some(even);
+        }
+        let edge = self.random.pick(&[-2048, 2047]);
+        let towards = (edge - predictor).clamp(-2047, 2047);
+        let steer = self.fault == Some(Fault::Beyond) || !manner.mild;
+        (steer && self.random.chance(1, 3) && lists(&towards)).then_some(towards)
     }
 }

@@ -31,18 +31,23 @@ fn symbol(bits: &mut Bits, codes: &Codes, seen: &mut Seen) -> u8 {
     panic!("no code");
 }
 
+/// Notes one of two things.
+fn either(seen: &mut Seen, first: bool, what: &str, other: &str) {
+    note(seen, if first { what } else { other });
+}
+
 /// Walks one block of a valid file; returns the new predictor.
 fn block(bits: &mut Bits, dc: &Codes, ac: &Codes, predictor: i32, seen: &mut Seen) -> i32 {
     let category = u32::from(symbol(bits, dc, seen));
     note(seen, &format!("category {category}"));
     let value = predictor + meaning(category, bits.field(category).unwrap());
-    note(seen, if value == -2048 { "first value -2048" } else { "first value" });
-    note(seen, if value == 2047 { "first value 2047" } else { "first value" });
+    either(seen, value == -2048, "first value -2048", "other first value");
+    either(seen, value == 2047, "first value 2047", "other first value");
     let (mut place, mut runs) = (1, 0);
     while place < 64 {
         let symbol = symbol(bits, ac, seen);
         if symbol == 0 {
-            note(seen, if runs > 0 { "end code after 240" } else { "end code" });
+            either(seen, runs > 0, "end code after 240", "end code");
             return value;
         }
         runs = if symbol == 240 { runs + 1 } else { 0 };
@@ -53,9 +58,9 @@ fn block(bits: &mut Bits, dc: &Codes, ac: &Codes, predictor: i32, seen: &mut See
             bits.field(u32::from(symbol % 16)).unwrap();
         }
     }
+    either(seen, runs > 0, "240 to place 64", "value at place 63");
     let has_end = ac.code(0).is_some();
-    note(seen, if runs > 0 { "240 to place 64" } else { "value at place 63" });
-    note(seen, if has_end { "no end code read" } else { "block of a table without end code" });
+    either(seen, has_end, "no end code read", "block of a table without end code");
     value
 }
 
@@ -63,7 +68,8 @@ fn walk(file: &[u8], record: &Record, seen: &mut Seen) {
     let mut bits = Bits::new(file, record.first_coded as usize);
     let table = |list: &[u64; 4], id: u64| Codes::at(file, list[id as usize]);
     let channels = 0..record.channels as usize;
-    let dc: Vec<Codes> = channels.clone().map(|c| table(&record.dc_tables, record.dc_ids[c])).collect();
+    let dc: Vec<Codes> =
+        channels.clone().map(|c| table(&record.dc_tables, record.dc_ids[c])).collect();
     let ac: Vec<Codes> = channels.map(|c| table(&record.ac_tables, record.ac_ids[c])).collect();
     let (per_mcu, mut predictors) = (layout::blocks_per_mcu(record), [0; 3]);
     for number in 0..record.blocks {

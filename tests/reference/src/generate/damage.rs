@@ -7,7 +7,7 @@ use crate::random::Random;
 type Damage = fn(&mut Draft, &mut Random);
 
 /// Each changes one thing around a boundary of the rules.
-const HEAD_DAMAGE: [Damage; 30] = [
+const HEAD_DAMAGE: [Damage; 31] = [
     frame_field,
     frame_field,
     frame_sampling,
@@ -26,6 +26,7 @@ const HEAD_DAMAGE: [Damage; 30] = [
     table_gone,
     front_huffman,
     front_huffman,
+    front_empty,
     quantizer_field,
     quantizer_body,
     huffman_field,
@@ -92,7 +93,9 @@ fn frame_sampling(draft: &mut Draft, random: &mut Random) {
 /// Quantizer ids above 3 or absent, equal or other component ids.
 fn frame_component(draft: &mut Draft, random: &mut Random) {
     let channel = random.below(3);
-    let Some(frame) = find(draft, random, &FRAME) else { return };
+    let Some(frame) = find(draft, random, &FRAME) else {
+        return;
+    };
     if random.chance(1, 2) {
         let id = random.pick(&[0, 1, 2, 3, 4, 5, 16, 255]);
         set(Some(frame), 8 + 3 * channel, id);
@@ -107,7 +110,9 @@ fn frame_component(draft: &mut Draft, random: &mut Random) {
 fn frame_equal_ids(draft: &mut Draft, random: &mut Random) {
     let (a, b) = random.pick(&[(0, 1), (0, 2), (1, 2)]);
     for (codes, first, step) in [(&FRAME[..], 6, 3), (&[218], 1, 2)] {
-        let Some(segment) = find(draft, random, codes) else { continue };
+        let Some(segment) = find(draft, random, codes) else {
+            continue;
+        };
         if let Some(&id) = segment.body.get(first + step * a) {
             set(Some(segment), first + step * b, id);
         }
@@ -116,14 +121,23 @@ fn frame_equal_ids(draft: &mut Draft, random: &mut Random) {
 
 /// Other sides, also the largest, for the same scan.
 fn frame_size(draft: &mut Draft, random: &mut Random) {
-    let Some(frame) = find(draft, random, &FRAME) else { return };
+    let Some(frame) = find(draft, random, &FRAME) else {
+        return;
+    };
     let at = random.pick(&[1, 3]);
     if frame.body.len() < 5 {
         return;
     }
     let old = 256 * u16::from(frame.body[at]) + u16::from(frame.body[at + 1]);
     let any = random.between(1, 65535) as u16;
-    let side = random.pick(&[0, 65535, any, old.wrapping_add(1), old.wrapping_sub(1), old.wrapping_add(8)]);
+    let side = random.pick(&[
+        0,
+        65535,
+        any,
+        old.wrapping_add(1),
+        old.wrapping_sub(1),
+        old.wrapping_add(8),
+    ]);
     frame.body[at..at + 2].copy_from_slice(&side.to_be_bytes());
     if random.chance(1, 4) {
         frame.body[1..5].copy_from_slice(&[255; 4]);
@@ -134,7 +148,8 @@ fn frame_size(draft: &mut Draft, random: &mut Random) {
 fn resize(random: &mut Random, body: &mut Vec<u8>, lengths: &[usize]) {
     let length = body.len();
     let fixed = random.pick(lengths);
-    let near = random.pick(&[length.saturating_sub(1), length + 1, length + 3, length.saturating_sub(3)]);
+    let near =
+        random.pick(&[length.saturating_sub(1), length + 1, length + 3, length.saturating_sub(3)]);
     let wanted = random.pick(&[fixed, near]);
     while body.len() < wanted {
         let value = random.pick(&[0, 1, 17, 255]);
@@ -151,7 +166,9 @@ fn frame_body(draft: &mut Draft, random: &mut Random) {
 
 /// A second frame, sometimes with a fault of its own.
 fn frame_twice(draft: &mut Draft, random: &mut Random) {
-    let Some(at) = find_place(draft, random, &FRAME) else { return };
+    let Some(at) = find_place(draft, random, &FRAME) else {
+        return;
+    };
     let mut second = draft.segments[at].clone();
     match random.below(4) {
         0 => second.body.truncate(random.below(6)),
@@ -164,7 +181,9 @@ fn frame_twice(draft: &mut Draft, random: &mut Random) {
 }
 
 fn frame_gone(draft: &mut Draft, random: &mut Random) {
-    let Some(at) = find_place(draft, random, &FRAME) else { return };
+    let Some(at) = find_place(draft, random, &FRAME) else {
+        return;
+    };
     let frame = draft.segments.remove(at);
     if random.chance(1, 3) {
         draft.segments.push(frame);
@@ -174,7 +193,9 @@ fn frame_gone(draft: &mut Draft, random: &mut Random) {
 }
 
 fn scan_field(draft: &mut Draft, random: &mut Random) {
-    let Some(scan) = find(draft, random, &[218]) else { return };
+    let Some(scan) = find(draft, random, &[218]) else {
+        return;
+    };
     let length = scan.body.len();
     let (back, value) = random.pick(&[
         (length, 0),
@@ -198,7 +219,9 @@ fn scan_field(draft: &mut Draft, random: &mut Random) {
 /// Component ids out of order, table ids above 3 or of other tables.
 fn scan_component(draft: &mut Draft, random: &mut Random) {
     let channel = random.below(3);
-    let Some(scan) = find(draft, random, &[218]) else { return };
+    let Some(scan) = find(draft, random, &[218]) else {
+        return;
+    };
     match random.below(4) {
         0 => set(Some(scan), 1 + 2 * channel, random.byte()),
         1 if scan.body.len() >= 8 => scan.body.swap(1, random.pick(&[3, 5])),
@@ -213,7 +236,9 @@ fn scan_component(draft: &mut Draft, random: &mut Random) {
 
 /// Two faults in two channels: which test comes first decides the number.
 fn scan_two_components(draft: &mut Draft, random: &mut Random) {
-    let Some(scan) = find(draft, random, &[218]) else { return };
+    let Some(scan) = find(draft, random, &[218]) else {
+        return;
+    };
     let (a, b) = random.pick(&[(0, 1), (0, 2), (1, 2), (1, 0), (2, 0), (2, 1), (0, 0)]);
     let ids = |random: &mut Random| random.pick(&[0x40, 0x04, 0x44]);
     match random.below(3) {
@@ -229,7 +254,9 @@ fn scan_two_components(draft: &mut Draft, random: &mut Random) {
 
 /// Bytes too many before the last three.
 fn scan_inserted(draft: &mut Draft, random: &mut Random) {
-    let Some(scan) = find(draft, random, &[218]) else { return };
+    let Some(scan) = find(draft, random, &[218]) else {
+        return;
+    };
     let at = scan.body.len().saturating_sub(3);
     let some = vec![random.byte(); random.between(1, 3) as usize];
     scan.body.splice(at..at, some);
@@ -243,7 +270,9 @@ fn scan_body(draft: &mut Draft, random: &mut Random) {
 
 /// A segment of tables left out, or moved behind the scan's.
 fn table_gone(draft: &mut Draft, random: &mut Random) {
-    let Some(at) = find_place(draft, random, &[196, 219]) else { return };
+    let Some(at) = find_place(draft, random, &[196, 219]) else {
+        return;
+    };
     let segment = draft.segments.remove(at);
     if random.chance(1, 4) {
         draft.segments.push(segment);
@@ -251,7 +280,9 @@ fn table_gone(draft: &mut Draft, random: &mut Random) {
 }
 
 fn quantizer_field(draft: &mut Draft, random: &mut Random) {
-    let Some(segment) = find(draft, random, &[219]) else { return };
+    let Some(segment) = find(draft, random, &[219]) else {
+        return;
+    };
     let table = 65 * random.below((segment.body.len() / 65).max(1));
     if random.chance(1, 2) {
         set(Some(segment), table, random.pick(&[0, 1, 2, 3, 4, 5, 16, 17, 255]));
@@ -267,13 +298,16 @@ fn quantizer_body(draft: &mut Draft, random: &mut Random) {
 }
 
 fn huffman_field(draft: &mut Draft, random: &mut Random) {
-    let value = random.pick(&[0x00, 0x01, 0x03, 0x04, 0x13, 0x14, 0x20, 0x23, 0x10, 0xf0, 0xff, 0x0f]);
+    let value =
+        random.pick(&[0x00, 0x01, 0x03, 0x04, 0x13, 0x14, 0x20, 0x23, 0x10, 0xf0, 0xff, 0x0f]);
     set(find(draft, random, &[196]), 0, value);
 }
 
 /// One more code than fits, exactly as many as fit, none at all, or too many symbols.
 fn huffman_counts(draft: &mut Draft, random: &mut Random) {
-    let Some(segment) = find(draft, random, &[196]) else { return };
+    let Some(segment) = find(draft, random, &[196]) else {
+        return;
+    };
     if segment.body.len() < 17 {
         return;
     }
@@ -314,7 +348,8 @@ fn fill_length(random: &mut Random, body: &mut [u8]) {
 fn front_huffman(draft: &mut Draft, random: &mut Random) {
     let mut body = vec![random.pick(&[0, 1, 2, 3, 16, 17, 18, 19])];
     let mut counts = [0u8; 16];
-    let length = random.between(1, 16) as usize;
+    let any = random.between(1, 16) as usize;
+    let length = random.pick(&[any, any, 16]);
     let over = random.between(0, 1) as u8;
     match random.below(5) {
         0 => {}
@@ -338,6 +373,12 @@ fn front_huffman(draft: &mut Draft, random: &mut Random) {
     body.extend(counts);
     body.extend((0..symbols).map(|_| random.byte()));
     draft.segments.insert(0, Segment::new(196, body));
+}
+
+/// An empty segment at the very front.
+fn front_empty(draft: &mut Draft, random: &mut Random) {
+    let code = random.pick(&[196, 196, 219, 219, 221, 224, 254, 192, 218]);
+    draft.segments.insert(0, Segment::new(code, Vec::new()));
 }
 
 fn huffman_body(draft: &mut Draft, random: &mut Random) {
@@ -395,7 +436,8 @@ fn order(draft: &mut Draft, random: &mut Random) {
 
 fn before_marker(draft: &mut Draft, random: &mut Random) {
     let at = random.below(draft.segments.len());
-    let bytes = random.pick(&[&[0][..], &[255, 0], &[0, 255], &[217], &[255, 217], &[255, 255, 1], &[254]]);
+    let bytes =
+        random.pick(&[&[0][..], &[255, 0], &[0, 255], &[217], &[255, 217], &[255, 255, 1], &[254]]);
     draft.segments[at].before = bytes.to_vec();
 }
 
@@ -403,14 +445,16 @@ fn before_marker(draft: &mut Draft, random: &mut Random) {
 fn cut_after_marker(draft: &mut Draft, random: &mut Random) {
     draft.segments.truncate(random.below(draft.segments.len() + 1));
     let any = random.byte();
-    let code = random.pick(&[0, 1, 194, 208, 216, 217, 220, 253, 255, 192, 196, 218, 224, 254, any]);
+    let code =
+        random.pick(&[0, 1, 194, 208, 216, 217, 220, 253, 255, 192, 196, 218, 224, 254, any]);
     let length = random.pick(&[0, 1, 2, 3]);
     let tail = [255, code, 0, length];
     draft.scan = tail[..random.between(1, 4) as usize].to_vec();
 }
 
 fn opening(draft: &mut Draft, random: &mut Random) {
-    let openings = [&[255, 217][..], &[255], &[216], &[254, 216], &[255, 255, 216], &[255, 215], &[]];
+    let openings =
+        [&[255, 217][..], &[255], &[216], &[254, 216], &[255, 255, 216], &[255, 215], &[]];
     draft.opening = random.pick(&openings).to_vec();
 }
 

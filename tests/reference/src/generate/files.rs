@@ -111,7 +111,8 @@ fn scrap(random: &mut Random) -> Vec<u8> {
     let mut file = if random.chance(3, 4) { vec![255, 216] } else { vec![] };
     for _ in 0..random.between(0, 6) {
         let any = random.byte();
-        let byte = random.pick(&[255, 255, 216, 217, 218, 192, 196, 219, 221, 224, 254, 0, 0, 1, 2, 3, 4, any]);
+        let byte = random
+            .pick(&[255, 255, 216, 217, 218, 192, 196, 219, 221, 224, 254, 0, 0, 1, 2, 3, 4, any]);
         file.push(byte);
     }
     file

@@ -103,9 +103,8 @@ impl Generator {
         let random = &mut self.random;
         let bounds = Bounds::of(facts, job, given, random);
         let exact = random.chance(1, 2);
-        let mut numbers = bounds.enough.map(|enough| {
-            enough[usize::from(!exact && random.chance(2, 3))]
-        });
+        let mut numbers =
+            bounds.enough.map(|enough| enough[usize::from(!exact && random.chance(2, 3))]);
         for _ in 0..random.pick(&[0, 0, 1, 1, 1, 2, 3]) {
             let which = random.pick(knobs(job));
             numbers[which] = random.pick(&bounds.tries[which]);

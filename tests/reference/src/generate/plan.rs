@@ -83,7 +83,7 @@ struct Names {
 /// A random valid head.
 pub fn plan(random: &mut Random) -> Plan {
     let manner = manner(random);
-    let channels = random.pick(&[1, 1, 3]);
+    let channels = random.pick(&[1, 3]);
     let names = names(random, channels);
     let definitions = definitions(random, manner, &names);
     let table = |class: u8, id: u8| standing(&definitions, class, id);
@@ -91,21 +91,26 @@ pub fn plan(random: &mut Random) -> Plan {
     let ac: Vec<Table> = names.ac.iter().map(|&id| table(1, id)).collect();
     let (hs, vs, sampling) = sampling(random, channels);
     let ends = ac.iter().all(|table| table.lists(0));
-    let (width, height) = size(random, manner, ends, if channels == 1 { 1 } else { hs * vs + 2 }, hs, vs);
-    let mut shape = Shape { width, height, channels, hs, vs, interval: 0, dc, ac, manner };
+    let mut shape = Shape { width: 1, height: 1, channels, hs, vs, interval: 0, dc, ac, manner };
+    (shape.width, shape.height) = size(random, &shape, ends);
     let mut segments = grouped(random, definitions);
     let frame = frame(random, &shape, &names, sampling);
     insert(random, &mut segments, frame);
     restart_intervals(random, &mut segments, &mut shape);
     skipped(random, &mut segments);
     segments.push(scan(&names));
-    for segment in &mut segments {
+    fill(random, &mut segments);
+    Plan { segments, shape }
+}
+
+/// Any number of 255 before some of the markers.
+fn fill(random: &mut Random, segments: &mut [Segment]) {
+    for segment in segments {
         if random.chance(1, 8) {
-            let fill = if random.chance(1, 10) { random.between(4, 40) } else { random.between(1, 3) };
-            segment.before = vec![255; fill as usize];
+            let most = random.pick(&[1, 2, 3, 3, 40]);
+            segment.before = vec![255; random.between(1, most) as usize];
         }
     }
-    Plan { segments, shape }
 }
 
 fn manner(random: &mut Random) -> Manner {
@@ -195,8 +200,9 @@ fn sampling(random: &mut Random, channels: usize) -> (u64, u64, u8) {
 }
 
 /// A size of few blocks, or of many where the blocks can be short.
-fn size(random: &mut Random, manner: Manner, ends: bool, per_mcu: u64, hs: u64, vs: u64) -> (u64, u64) {
-    let most = match (manner.short, ends) {
+fn size(random: &mut Random, shape: &Shape, ends: bool) -> (u64, u64) {
+    let per_mcu = shape.mcu().len() as u64;
+    let most = match (shape.manner.short, ends) {
         (true, _) => random.pick(&[100, 400, 1000, 4000]),
         (false, true) => random.pick(&[1, 6, 12, 24, 60]),
         (false, false) => random.pick(&[1, 6, 12]),
@@ -209,7 +215,7 @@ fn size(random: &mut Random, manner: Manner, ends: bool, per_mcu: u64, hs: u64, 
         let last = random.between(1, mcu);
         mcu * (count - 1) + random.pick(&[1, mcu - 1, mcu, last, last])
     };
-    (side(across, 8 * hs), side(down, 8 * vs))
+    (side(across, 8 * shape.hs), side(down, 8 * shape.vs))
 }
 
 fn frame(random: &mut Random, shape: &Shape, names: &Names, sampling: u8) -> Segment {
@@ -242,7 +248,8 @@ fn restart_intervals(random: &mut Random, segments: &mut Vec<Segment>, shape: &m
         insert(random, segments, Segment::new(221, interval.to_be_bytes().to_vec()));
     }
     let last = segments.iter().rev().find(|segment| segment.code == 221);
-    shape.interval = last.map_or(0, |segment| 256 * u64::from(segment.body[0]) + u64::from(segment.body[1]));
+    shape.interval =
+        last.map_or(0, |segment| 256 * u64::from(segment.body[0]) + u64::from(segment.body[1]));
 }
 
 /// Segments that every reader passes over, sometimes with markers inside.

@@ -60,10 +60,10 @@ fn counts(random: &mut Random, total: usize) -> [u8; 16] {
         let here = (1u64 << length) - 1 - next;
         let mut count = match shape {
             0 => 1,
-            1 => if here >= left { left } else { 0 },
+            1 => left * u64::from(here >= left),
             2 => random.between(0, 3),
             3 => random.between(0, here.min(left)),
-            _ => if random.chance(1, 6) { random.between(0, left) } else { 0 },
+            _ => random.between(0, left) * u64::from(random.chance(1, 6)),
         };
         if length == 16 {
             count = left;
@@ -110,7 +110,11 @@ pub fn dc_table(random: &mut Random, manner: Manner) -> Table {
         symbols.push(0);
     }
     let unusable = |random: &mut Random| {
-        if random.chance(1, 2) { 12 } else { random.between(12, 255) as u8 }
+        if random.chance(1, 2) {
+            12
+        } else {
+            random.between(12, 255) as u8
+        }
     };
     finish(random, manner, symbols, unusable)
 }
@@ -127,7 +131,11 @@ pub fn ac_table(random: &mut Random, manner: Manner) -> Table {
     let unusable = |random: &mut Random| {
         let run = random.between(0, 15) as u8;
         let size = random.pick(&[0, 11, 12, 13, 14, 15]);
-        if size == 0 { 16 * run.clamp(1, 14) } else { 16 * run + size }
+        if size == 0 {
+            16 * run.clamp(1, 14)
+        } else {
+            16 * run + size
+        }
     };
     finish(random, manner, symbols, unusable)
 }
@@ -139,7 +147,9 @@ fn ac_symbols(random: &mut Random, manner: Manner) -> Vec<u8> {
     match random.below(9) {
         0 => vec![0],
         1 => vec![0, 240, size, 16 + size],
-        2 => (0..=255).filter(|s| [0, 240].contains(s) || (1..=most as u8).contains(&(s % 16))).collect(),
+        2 => (0..=255)
+            .filter(|s| [0, 240].contains(s) || (1..=most as u8).contains(&(s % 16)))
+            .collect(),
         // No end code: steps of 1, 3, 7 or 9 places reach place 64 exactly.
         3 => vec![16 * random.pick(&[0, 2, 6, 8]) + size],
         // No end code: 15 places, then three times 16.
@@ -215,7 +225,12 @@ mod tests {
         let mut used = [false; 16];
         let mut largest = 0;
         for round in 0..4000 {
-            let manner = Manner { mild: round % 2 == 0, even: round % 7 == 0, short: round % 5 == 0, length: 4 };
+            let manner = Manner {
+                mild: round % 2 == 0,
+                even: round % 7 == 0,
+                short: round % 5 == 0,
+                length: 4,
+            };
             for table in [dc_table(&mut random, manner), ac_table(&mut random, manner)] {
                 assert!(huffman::fits(&table.counts));
                 assert_eq!(huffman::total(&table.counts), table.symbols.len());

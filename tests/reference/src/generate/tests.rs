@@ -36,9 +36,8 @@ fn settling_keeps_the_levels_and_is_steady() {
     for _ in 0..3000 {
         let (_, file) = files::valid(&mut random);
         let (_, record) = inspect(&file);
-        let settle = |file: &[u8], buffer: &mut [u8]| {
-            calls::settle(file, &Limits::NONE, UNLIMITED, buffer)
-        };
+        let settle =
+            |file: &[u8], buffer: &mut [u8]| calls::settle(file, &Limits::NONE, UNLIMITED, buffer);
         let mut buffer = vec![0; 2 * file.len() + 100 * record.blocks as usize];
         let (answer, length) = settle(&file, &mut buffer);
         if answer.number == 9 {
