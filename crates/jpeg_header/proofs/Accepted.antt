@@ -1,0 +1,289 @@
+-- What an accepted header says of its record: the rules of the frame hold of its numbers, its sizes follow from them and are small,
+-- and the tables of each channel stand before the first coded byte.
+use Prim.Native.Nat.{ℕ, zero, suc, _+_, _*_, _-_, _/_, _%_, _^_, _<_, _≤_, zero-le}
+use mathlib.Core.Path.{_≡_, refl, sym, ap, _∙_, subst, subst⁻¹}
+use mathlib.Core.Bool.{Bool, true, false, not, cond}
+use mathlib.Core.Logic.{_⊎_, inl, inr, ⊎-elim}
+use mathlib.Core.List.{List, [], _∷_}
+use native.Mathlib.Omega.{arith}
+use native.Mathlib.Nat.{not-suc-le-zero, mul-le-mul, div-lt-iff-lt-mul, mod-eq-of-lt}
+use lib.Dec.{T, leb, ltb, eqb, lit<, lit≤, leb→le, ltb→lt, eqb→eq}
+use lib.ListN.{length, take, drop, getD}
+use borrow.Author.Tests.{ltb-true, lt-ltb, le-ltb, eq-eqb}
+use Rattle.reading.specs.declared.Refusal.{Refusal}
+use Rattle.reading.specs.declared.Refusal.the-variants.{CutShort, Malformed, Unsupported}
+use Rattle.reading.specs.declared.Case.{Case}
+use Rattle.reading.specs.declared.Case.the-variants.{Marker, Quantizers, Huffman}
+use Rattle.reading.specs.declared.Kind.{Kind}
+use Rattle.reading.specs.declared.Kind.the-variants.{Quants, Tables, Frames, Scans, Intervals, Skips, Others}
+use Rattle.reading.specs.declared.Frame.{Frame}
+use Rattle.reading.specs.declared.Header.{Header}
+use Rattle.reading.specs.declared.Record.{Record}
+use Rattle.reading.specs.Tests.{_and_, _or_, within}
+use Rattle.reading.specs.Layout.{Shape, ceiling, blockCount, outputLength, workOf, channelOf}
+use Rattle.reading.specs.Tables.{shapeIn}
+use Rattle.reading.specs.Header.{Stage, more, done, stop, byte, word, moved, window, each, withQuantizer, withTable, frameKnown, acrossOf, downOf, quantsFit, threeFit, frameOf, frameFits, hasFrame, withFrame, withInterval, shapeOf, dcId, acId, recordOf, selected, kindOf, segment, segmentEnd, stepIn, step, steps, opens, started, opening, header}
+use Rattle.reading.proofs.Plain.{and-left, and-right}
+use Rattle.reading.proofs.Stages.{refused-or, chosen-or}
+use Rattle.reading.proofs.HeaderEnds.{is-so}
+use Rattle.reading.proofs.Places.{count-is, output-is, channel-is}
+use Rattle.reading.proofs.GoodTables.{Ready, header-ready, all-at, Stands, tables-stand}
+use Rattle.reading.proofs.WantOfCode.{AllBytes}
+use Rattle.jpeg_header.specs.Frames.{FrameOk, Framed, frameIn}
+
+-- ---- a list of bytes
+
+pub byte-below : (l : List ℕ) → AllBytes l → (i : ℕ) → byte l i < 256
+byte-below [] h i = lit< tt
+byte-below (x ∷ l) h zero = h .0
+byte-below (x ∷ l) h (suc i) = byte-below l (h .1) i
+
+pub word-below : (l : List ℕ) → AllBytes l → (i : ℕ) → word l i < 65536
+word-below l h i = omega (arith, byte-below l h i, byte-below l h (i + 1))
+
+pub all-bytes : (l : List ℕ) → ((i : ℕ) → byte l i < 256) → AllBytes l
+all-bytes [] h = tt
+all-bytes (x ∷ l) h = (h 0, all-bytes l (λ i. h (suc i)))
+
+bytes-take : (n : ℕ) (l : List ℕ) → AllBytes l → AllBytes (take n l)
+bytes-take zero l h = tt
+bytes-take (suc n) [] h = tt
+bytes-take (suc n) (x ∷ l) h = (h .0, bytes-take n l (h .1))
+
+bytes-drop : (n : ℕ) (l : List ℕ) → AllBytes l → AllBytes (drop n l)
+bytes-drop zero l h = h
+bytes-drop (suc n) [] h = tt
+bytes-drop (suc n) (x ∷ l) h = bytes-drop n l (h .1)
+
+window-bytes : (s : List ℕ) (a e : ℕ) → AllBytes s → AllBytes (window s a e)
+window-bytes s a e h = bytes-take (e - a) (drop a s) (bytes-drop a s h)
+
+-- ---- a number for each channel
+
+each-most : (n k : ℕ) (f : ℕ → ℕ) → ((c : ℕ) → c < n → f c ≤ k) → (c : ℕ) → getD (each n f) c 0 ≤ k
+each-most n k f h c = go c
+  where
+    at : (i : ℕ) → cond (ltb i n) (f i) 0 ≤ k
+    at i = by (ltb i n) refl
+      where
+        by : (t : Bool) → ltb i n ≡ t → cond t (f i) 0 ≤ k
+        by true p = h i (ltb-true i n p)
+        by false p = zero-le
+
+    go : (c : ℕ) → getD (each n f) c 0 ≤ k
+    go zero = at 0
+    go (suc zero) = at 1
+    go (suc (suc zero)) = at 2
+    go (suc (suc (suc c))) = zero-le
+
+-- ---- the frame
+
+module _ (b : List ℕ) (y : AllBytes b) (known : T (frameKnown b)) (fits : T (frameFits b (frameOf b))) where
+  sides : T (within 1 4 (acrossOf b) and within 1 4 (downOf b) and quantsFit (frameOf b) and (eqb (byte b 5) 1 or threeFit b (frameOf b)))
+  sides = and-right (ltb 0 (word b 1)) _ (and-right (ltb 0 (word b 3)) _ fits)
+
+  tables : T (quantsFit (frameOf b) and (eqb (byte b 5) 1 or threeFit b (frameOf b)))
+  tables = and-right (within 1 4 (downOf b)) _ (and-right (within 1 4 (acrossOf b)) _ sides)
+
+  quants : T (quantsFit (frameOf b))
+  quants = and-left (quantsFit (frameOf b)) _ tables
+
+  last-two : (q : ℕ → ℕ) → T (leb (q 0) 3 and leb (q 1) 3 and leb (q 2) 3) → T (leb (q 1) 3) × T (leb (q 2) 3)
+  last-two q t = let u = and-right (leb (q 0) 3) _ t in (and-left (leb (q 1) 3) _ u, and-right (leb (q 1) 3) _ u)
+
+  quant-ids : (c : ℕ) → getD (frameOf b .qids) c 0 ≤ 3
+  quant-ids c = go c
+    where
+      go : (c : ℕ) → getD (frameOf b .qids) c 0 ≤ 3
+      go zero = leb→le _ 3 (and-left (leb (getD (frameOf b .qids) 0 0) 3) _ quants)
+      go (suc zero) = leb→le _ 3 (last-two (λ i. getD (frameOf b .qids) i 0) quants .0)
+      go (suc (suc zero)) = leb→le _ 3 (last-two (λ i. getD (frameOf b .qids) i 0) quants .1)
+      go (suc (suc (suc c))) = zero-le
+
+  counted : (byte b 5 ≡ 1) ⊎ (byte b 5 ≡ 3)
+  counted = go (eqb (byte b 5) 1) refl (and-right (eqb (byte b 0) 8) _ (and-right (leb 6 (length b)) _ known))
+    where
+      go : (t : Bool) → eqb (byte b 5) 1 ≡ t → T (t or eqb (byte b 5) 3) → (byte b 5 ≡ 1) ⊎ (byte b 5 ≡ 3)
+      go true p q = inl (eqb→eq _ _ (subst⁻¹ T p tt))
+      go false p q = inr (eqb→eq _ _ q)
+
+  few : (0 < byte b 5) × (byte b 5 ≤ 3)
+  few = ⊎-elim (λ e. (omega (arith, e), omega (arith, e))) (λ e. (omega (arith, e), omega (arith, e))) counted
+
+  factor-fits : (t : Bool) (n : ℕ) → T (within 1 4 n) → (0 < cond t 1 n) × (cond t 1 n ≤ 4)
+  factor-fits true n h = (lit< tt, lit≤ tt)
+  factor-fits false n h = (leb→le 1 n (and-left (leb 1 n) _ h), leb→le n 4 (and-right (leb 1 n) _ h))
+
+  product-fits : (t : Bool) → T (t or threeFit b (frameOf b)) → cond t 1 (acrossOf b) * cond t 1 (downOf b) ≤ 4
+  product-fits true h = lit≤ tt
+  product-fits false h = leb→le (acrossOf b * downOf b) 4 (and-left (leb (acrossOf b * downOf b) 4) _ h)
+
+  pub frame-ok : FrameOk (frameOf b)
+  frame-ok =
+      record {
+        wide = (ltb→lt 0 _ (and-left (ltb 0 (word b 3)) _ fits), word-below b y 3);
+        high = (ltb→lt 0 _ (and-left (ltb 0 (word b 1)) _ (and-right (ltb 0 (word b 3)) _ fits)), word-below b y 1);
+        count = counted;
+        few = few;
+        across = factor-fits (eqb (byte b 5) 1) (acrossOf b) (and-left (within 1 4 (acrossOf b)) _ sides);
+        down = factor-fits (eqb (byte b 5) 1) (downOf b) (and-left (within 1 4 (downOf b)) _ (and-right (within 1 4 (acrossOf b)) _ sides));
+        product = product-fits (eqb (byte b 5) 1) (and-right (quantsFit (frameOf b)) _ tables);
+        single = λ e. (ap (λ t. cond t 1 (acrossOf b)) (eq-eqb (byte b 5) 1 e), ap (λ t. cond t 1 (downOf b)) (eq-eqb (byte b 5) 1 e));
+        ids = λ c. omega (arith, each-most (byte b 5) 255 (λ k. byte b (6 + 3 * k)) (λ k h. omega (arith, byte-below b y (6 + 3 * k))) c);
+        qids = quant-ids;
+      }
+
+-- ---- sizes
+
+pub ceiling-small : (a b : ℕ) → a < 65536 → 8 ≤ b → ceiling a b ≤ 8192
+ceiling-small a b h p = let k : ceiling a b < 8193 = div-lt-iff-lt-mul {k = b} (omega arith) .1 (omega (arith, h, p)) in omega (arith, k)
+
+pub work-is : (p : Shape) → workOf p ≡ 3136 * blockCount p + outputLength p
+unfolding workOf
+work-is p = refl
+
+module _ (f : Frame) (ok : FrameOk f) where
+  pub mcus-small : ceiling (f .width) (8 * f .hs) * ceiling (f .height) (8 * f .vs) ≤ 67108864
+  mcus-small =
+      mul-le-mul {n₂ = 8192} {m₂ = 8192}
+      (ceiling-small (f .width) (8 * f .hs) (ok .wide .1) (omega (arith, ok .across)))
+      (ceiling-small (f .height) (8 * f .vs) (ok .high .1) (omega (arith, ok .down)))
+
+  pub blocks-are : blockCount (shapeOf f) ≡ ceiling (f .width) (8 * f .hs) * ceiling (f .height) (8 * f .vs) * (f .hs * f .vs + (f .channels - 1))
+  blocks-are = count-is (f .width) (f .height) (f .hs) (f .vs) (f .channels) (ok .across .0) (ok .down .0)
+
+  pub bytes-are : outputLength (shapeOf f) ≡ f .width * f .height * f .channels
+  bytes-are = output-is (f .width) (f .height) (f .hs) (f .vs) (f .channels) (ok .few .0)
+
+  pub count-small : ceiling (f .width) (8 * f .hs) * ceiling (f .height) (8 * f .vs) * (f .hs * f .vs + (f .channels - 1)) ≤ 402653184
+  count-small = mul-le-mul {n₂ = 67108864} {m₂ = 6} mcus-small (omega (arith, ok .product, ok .few .1))
+
+  pub pixels-small : f .width * f .height ≤ 4294836225
+  pixels-small = mul-le-mul {n₂ = 65535} {m₂ = 65535} (omega (arith, ok .wide .1)) (omega (arith, ok .high .1))
+
+  pub output-small : f .width * f .height * f .channels ≤ 12884508675
+  output-small = mul-le-mul {n₂ = 4294836225} {m₂ = 3} pixels-small (ok .few .1)
+
+-- ---- the record
+
+pub record Accepted (colour : Bool) (r : Record) : Type 0 where
+  pub frame : FrameOk (frameIn r)
+  pub dcids : (c : ℕ) → getD (r .dcids) c 0 ≤ 3
+  pub acids : (c : ℕ) → getD (r .acids) c 0 ≤ 3
+  pub blocks : r .blocks ≡ blockCount (shapeIn r)
+  pub scratch : r .scratch ≡ 64 * r .blocks
+  pub output : r .output ≡ r .width * r .height * r .channels
+  pub work : r .work ≡ 3136 * r .blocks + r .output
+  pub choice : r .colour ≡ colour
+
+module _ (colour : Bool) (r : Record) (a : Accepted colour r) where
+  pub blocks-below : r .blocks < 2 ^ 29
+  blocks-below = omega (arith, a .blocks, blocks-are (frameIn r) (a .frame), count-small (frameIn r) (a .frame))
+
+  pub scratch-below : r .scratch < 2 ^ 35
+  scratch-below = omega (arith, a .scratch, blocks-below)
+
+  pub output-below : r .output < 2 ^ 34
+  output-below = omega (arith, a .output, output-small (frameIn r) (a .frame))
+
+  pub work-below : r .work < 2 ^ 41
+  work-below = omega (arith, a .work, blocks-below, output-below)
+
+module _ (colour : Bool) where
+  found-ok : (b : List ℕ) (h : Header) (e : ℕ) → FrameOk (h .frame) → T (selected b (h .frame .channels)) → Accepted colour (recordOf b colour h e)
+  found-ok b h e ok t =
+      record {
+        frame = ok;
+        dcids = each-most (h .frame .channels) 3 (dcId b) (λ c p. leb→le (dcId b c) 3 (and-left (leb (dcId b c) 3) _ (both c p)));
+        acids = each-most (h .frame .channels) 3 (acId b) (λ c p. leb→le (acId b c) 3 (and-right (leb (dcId b c) 3) _ (both c p)));
+        blocks = refl;
+        scratch = refl;
+        output = bytes-are (h .frame) ok;
+        work = work-is (shapeOf (h .frame));
+        choice = refl;
+      }
+    where
+      none : (n : ℕ) → n ≡ 0 + n
+      none n = omega arith
+
+      both : (c : ℕ) → c < h .frame .channels → T (leb (dcId b c) 3 and leb (acId b c) 3)
+      both c p = all-at (λ c. leb (dcId b c) 3 and leb (acId b c) 3) (h .frame .channels) 0 t c zero-le (subst (λ n. c < n) (none (h .frame .channels)) p)
+
+  -- what each stage has: a frame that was read is one of the rules, and so is a record
+  pub data Sound : Stage → Type 0 where
+    on : (h : Header) → Framed h → Sound (more h)
+    met : (r : Record) → Accepted colour r → Sound (done r)
+    off : (x : Refusal) → Sound (stop x)
+
+  segment-sound : (h : Header) → Framed h → (k : Kind) (b : List ℕ) → AllBytes b → (a e : ℕ) → Sound (segment colour h k b a e)
+  segment-sound h f Quants b y a e = refused-or Sound off _ _ _ (λ t. on (moved h a (Quantizers e)) f)
+  segment-sound h f Tables b y a e = refused-or Sound off _ _ _ (λ t. on (moved h a (Huffman e)) f)
+  segment-sound h f Frames b y a e =
+      refused-or Sound off _ _ _ (λ t1. refused-or Sound off _ _ _ (λ t2. refused-or Sound off _ _ _ (λ t3. refused-or Sound off _ _ _
+      (λ t4. on (withFrame h e (frameOf b)) (λ _. frame-ok b y (is-so (frameKnown b) t2) (is-so (frameFits b (frameOf b)) t4))))))
+  segment-sound h f Scans b y a e =
+      refused-or Sound off _ _ _ (λ t1. refused-or Sound off _ _ _ (λ t2. refused-or Sound off _ _ _ (λ t3. refused-or Sound off _ _ _ (λ t4. refused-or Sound off _ _ _
+      (λ t5. met (recordOf b colour h e) (found-ok b h e (f (ltb→lt 0 (h .frame .channels) (is-so (hasFrame h) t1))) (is-so (selected b (h .frame .channels)) t4)))))))
+  segment-sound h f Intervals b y a e = refused-or Sound off _ _ _ (λ t. on (withInterval h e (word b 0)) f)
+  segment-sound h f Skips b y a e = on (moved h e Marker) f
+  segment-sound h f Others b y a e = off Unsupported
+
+  module _ (s : List ℕ) (y : AllBytes s) where
+    stepIn-sound : (h : Header) → Framed h → (c : Case) → Sound (stepIn s colour h c)
+    stepIn-sound h f Marker =
+        refused-or Sound off (ltb (length s) (h .at + 2) or not (eqb (byte s (h .at)) 255)) Malformed _ (λ t1. chosen-or Sound (eqb (byte s (h .at + 1)) 255) _ _ (λ t2. on (moved h (h .at + 1) Marker) f)
+        (λ t2. refused-or Sound off (eqb (byte s (h .at + 1)) 217) Malformed _ (λ t3. refused-or Sound off (ltb (length s) (h .at + 4) or ltb (word s (h .at + 2)) 2 or ltb (length s) (segmentEnd s (h .at))) CutShort _
+        (λ t4. segment-sound h f (kindOf (byte s (h .at + 1))) (window s (h .at + 4) (segmentEnd s (h .at))) (window-bytes s (h .at + 4) (segmentEnd s (h .at)) y) (h .at + 4) (segmentEnd s (h .at))))))
+    stepIn-sound h f (Quantizers e) = chosen-or Sound (eqb (h .at) e) _ _ (λ t. on (moved h e Marker) f) (λ t. refused-or Sound off _ Malformed _ (λ u. on (withQuantizer (window s (h .at) e) h) f))
+    stepIn-sound h f (Huffman e) = chosen-or Sound (eqb (h .at) e) _ _ (λ t. on (moved h e Marker) f) (λ t. refused-or Sound off _ Malformed _ (λ u. on (withTable (window s (h .at) e) h) f))
+
+    pub step-sound : (h : Header) → Framed h → Sound (step s colour h)
+    step-sound h f = stepIn-sound h f (h .case)
+
+    -- before the first step
+    pub opening-framed : Framed opening
+    opening-framed k = absurd (not-suc-le-zero k)
+
+    abbrev ends-sound : Stage → Type 0
+    ends-sound (more h) = Unit {0}
+    ends-sound (done r) = Accepted colour r
+    ends-sound (stop x) = Unit {0}
+
+    steps-sound : (k : ℕ) (st : Stage) → Sound st → ends-sound (steps s colour k st)
+    steps-sound zero st (on h f) = tt
+    steps-sound zero st (met r q) = q
+    steps-sound zero st (off x) = tt
+    steps-sound (suc k) st (on h f) = steps-sound k (step s colour h) (step-sound h f)
+    steps-sound (suc k) st (met r q) = q
+    steps-sound (suc k) st (off x) = tt
+
+    pub header-accepted : (r : Record) → header s colour ≡ done r → Accepted colour r
+    unfolding header
+    header-accepted r e = subst ends-sound e (steps-sound (2 * length s + 1) (started s) (refused-or Sound off (not (opens s)) Malformed (more opening) (λ t. on opening opening-framed)))
+
+-- ---- the tables of a channel
+
+pub header-stands : (s : List ℕ) (colour : Bool) (r : Record) → header s colour ≡ done r → (c : ℕ) → c < r .channels → Stands s r c
+header-stands s colour r e c p = go c p
+  where
+    some : 0 < r .hs * r .vs
+    some = header-ready s colour r e .lum
+
+    is : (k : ℕ) → channelOf (shapeIn r) k ≡ cond (ltb (k % (r .hs * r .vs + (r .channels - 1))) (r .hs * r .vs)) 0 (k % (r .hs * r .vs + (r .channels - 1)) - r .hs * r .vs + 1)
+    is k = channel-is (r .width) (r .height) (r .hs) (r .vs) (r .channels) k some
+
+    small : (k : ℕ) → k < r .hs * r .vs + (r .channels - 1) → channelOf (shapeIn r) k ≡ cond (ltb k (r .hs * r .vs)) 0 (k - r .hs * r .vs + 1)
+    small k q = is k ∙ ap (λ i. cond (ltb i (r .hs * r .vs)) 0 (i - r .hs * r .vs + 1)) (mod-eq-of-lt q)
+
+    first : channelOf (shapeIn r) 0 ≡ 0
+    first = small 0 (omega (arith, some)) ∙ ap (λ t. cond t 0 (0 - r .hs * r .vs + 1)) (lt-ltb 0 (r .hs * r .vs) some)
+
+    later : (c : ℕ) → suc c < r .channels → channelOf (shapeIn r) (r .hs * r .vs + c) ≡ suc c
+    later c q =
+        small (r .hs * r .vs + c) (omega (arith, q))
+        ∙ ap (λ t. cond t 0 (r .hs * r .vs + c - r .hs * r .vs + 1)) (le-ltb (r .hs * r .vs + c) (r .hs * r .vs) (omega arith))
+        ∙ omega arith
+
+    go : (c : ℕ) → c < r .channels → Stands s r c
+    go zero q = subst (Stands s r) first (tables-stand s colour r e 0)
+    go (suc c) q = subst (Stands s r) (later c q) (tables-stand s colour r e (r .hs * r .vs + c))

@@ -1,0 +1,249 @@
+-- Each step of the header by its ways out, as the code finds them: one law for each way.
+use Prim.Native.Nat.{ℕ, zero, suc, _+_, _*_, _-_, _/_, _%_, _<_, _≤_, suc-le-suc}
+use mathlib.Core.Path.{_≡_, refl, sym, ap, _∙_}
+use mathlib.Core.Bool.{Bool, true, false, not, cond}
+use mathlib.Core.List.{List, [], _∷_}
+use native.Mathlib.Omega.{arith}
+use lib.Dec.{leb, ltb, eqb}
+use lib.ListN.{length, set}
+use borrow.Author.Tests.{le-leb, lt-ltb, le-ltb, eq-eqb, ne-eqb, leb-true}
+use Rattle.reading.specs.declared.Refusal.the-variants.{CutShort, Malformed, Unsupported}
+use Rattle.reading.specs.declared.Case.the-variants.{Marker}
+use Rattle.reading.specs.declared.Kind.{Kind}
+use Rattle.reading.specs.declared.Kind.the-variants.{Frames, Skips, Others}
+use Rattle.reading.specs.declared.Header.{Header}
+use Rattle.reading.specs.Tests.{_or_, within}
+use Rattle.reading.specs.Huffman.{sum}
+use Rattle.reading.specs.Layout.{blockCount, outputLength}
+use Rattle.reading.specs.Header.{Stage, more, done, stop, refuse-if, byte, word, moved, window, each, quantizerFits, withQuantizer, quantizer, countsOf, tableFits, withTable, huffman, frameKnown, frameOf, frameFits, withFrame, hasFrame, frame, withInterval, interval, shapeOf, dcId, acId, recordOf, complete, scanKnown, inOrder, selected, scan, kindOf, segment, segmentEnd, marker}
+use Rattle.reading.proofs.Stages.{refuse-yes, refuse-go}
+use Rattle.jpeg_header.proofs.Accepted.{work-is}
+
+pub cond-yes : {A : Type 0} (t : Bool) (x y : A) → t ≡ true → x ≡ cond t x y
+cond-yes t x y e = rw e
+
+pub cond-no : {A : Type 0} (t : Bool) (x y : A) → t ≡ false → y ≡ cond t x y
+cond-no t x y e = rw e
+
+-- ---- a quantizer
+
+module _ (b : List ℕ) (h : Header) (e : ℕ) where
+  pub quantizer-end : h .at ≡ e → more (moved h e Marker) ≡ quantizer b h e
+  quantizer-end p = cond-yes (eqb (h .at) e) _ _ (eq-eqb (h .at) e p)
+
+  pub quantizer-bad : (h .at ≡ e → ⊥) → quantizerFits b ≡ false → stop Malformed ≡ quantizer b h e
+  quantizer-bad p q = sym (refuse-yes (not (quantizerFits b)) Malformed _ (ap not q)) ∙ cond-no (eqb (h .at) e) _ _ (ne-eqb (h .at) e p)
+
+  pub quantizer-in : (h .at ≡ e → ⊥) → quantizerFits b ≡ true → more (withQuantizer b h) ≡ quantizer b h e
+  quantizer-in p q = sym (refuse-go (not (quantizerFits b)) Malformed _ (ap not q)) ∙ cond-no (eqb (h .at) e) _ _ (ne-eqb (h .at) e p)
+
+  -- the state behind a quantizer, as the code stores it
+  pub with-quantizer :
+      (q : List ℕ)
+      → q ≡ set (h .quants) (byte b 0) (h .at + 1)
+      → record { at = h .at + 65; case = h .case; quants = q; dcs = h .dcs; acs = h .acs; frame = h .frame; interval = h .interval } ≡ withQuantizer b h
+  with-quantizer q p = rw p
+
+-- ---- a Huffman table
+
+module _ (b : List ℕ) (h : Header) (e : ℕ) where
+  pub huffman-end : h .at ≡ e → more (moved h e Marker) ≡ huffman b h e
+  huffman-end p = cond-yes (eqb (h .at) e) _ _ (eq-eqb (h .at) e p)
+
+  pub huffman-bad : (h .at ≡ e → ⊥) → tableFits b ≡ false → stop Malformed ≡ huffman b h e
+  huffman-bad p q = sym (refuse-yes (not (tableFits b)) Malformed _ (ap not q)) ∙ cond-no (eqb (h .at) e) _ _ (ne-eqb (h .at) e p)
+
+  pub huffman-in : (h .at ≡ e → ⊥) → tableFits b ≡ true → more (withTable b h) ≡ huffman b h e
+  huffman-in p q = sym (refuse-go (not (tableFits b)) Malformed _ (ap not q)) ∙ cond-no (eqb (h .at) e) _ _ (ne-eqb (h .at) e p)
+
+  -- the state behind a table, as the code stores it
+  module _ (l : List ℕ) (k : ℕ) (symbols : k ≡ sum (countsOf b)) where
+    pub with-dc :
+        l ≡ set (h .dcs) (byte b 0 % 16) (h .at + 1)
+        → byte b 0 / 16 ≡ 0
+        → record { at = h .at + (17 + k); case = h .case; quants = h .quants; dcs = l; acs = h .acs; frame = h .frame; interval = h .interval } ≡ withTable b h
+    with-dc e p = rw (e, symbols, p)
+
+    pub with-ac :
+        l ≡ set (h .acs) (byte b 0 % 16) (h .at + 1)
+        → byte b 0 / 16 ≡ 1
+        → record { at = h .at + (17 + k); case = h .case; quants = h .quants; dcs = h .dcs; acs = l; frame = h .frame; interval = h .interval } ≡ withTable b h
+    with-ac e p = rw (e, symbols, p)
+
+-- ---- the frame and the interval
+
+module _ (b : List ℕ) (h : Header) (e : ℕ) where
+  pub frame-second : 0 < h .frame .channels → stop Malformed ≡ frame b h e
+  frame-second p = sym (refuse-yes (hasFrame h) Malformed _ (lt-ltb 0 (h .frame .channels) p))
+
+  module _ (first : h .frame .channels ≤ 0) where
+    pub frame-unknown : frameKnown b ≡ false → stop Unsupported ≡ frame b h e
+    frame-unknown q = sym (refuse-go (hasFrame h) Malformed _ (le-ltb 0 (h .frame .channels) first) ∙ refuse-yes (not (frameKnown b)) Unsupported _ (ap not q))
+
+    module _ (known : frameKnown b ≡ true) where
+      pub frame-length : (length b ≡ 6 + 3 * byte b 5 → ⊥) → stop Malformed ≡ frame b h e
+      frame-length q = sym (refuse-go (hasFrame h) Malformed _ (le-ltb 0 (h .frame .channels) first) ∙ refuse-go (not (frameKnown b)) Unsupported _ (ap not known) ∙ refuse-yes (not (eqb (length b) (6 + 3 * byte b 5))) Malformed _ (ap not (ne-eqb (length b) (6 + 3 * byte b 5) q)))
+
+      module _ (whole : length b ≡ 6 + 3 * byte b 5) where
+        pub frame-bad : frameFits b (frameOf b) ≡ false → stop Unsupported ≡ frame b h e
+        frame-bad q = sym (refuse-go (hasFrame h) Malformed _ (le-ltb 0 (h .frame .channels) first) ∙ refuse-go (not (frameKnown b)) Unsupported _ (ap not known) ∙ refuse-go (not (eqb (length b) (6 + 3 * byte b 5))) Malformed _ (ap not (eq-eqb (length b) (6 + 3 * byte b 5) whole)) ∙ refuse-yes (not (frameFits b (frameOf b))) Unsupported _ (ap not q))
+
+        pub frame-in : frameFits b (frameOf b) ≡ true → more (withFrame h e (frameOf b)) ≡ frame b h e
+        frame-in q = sym (refuse-go (hasFrame h) Malformed _ (le-ltb 0 (h .frame .channels) first) ∙ refuse-go (not (frameKnown b)) Unsupported _ (ap not known) ∙ refuse-go (not (eqb (length b) (6 + 3 * byte b 5))) Malformed _ (ap not (eq-eqb (length b) (6 + 3 * byte b 5) whole)) ∙ refuse-go (not (frameFits b (frameOf b))) Unsupported _ (ap not q))
+
+  pub interval-bad : (length b ≡ 2 → ⊥) → stop Malformed ≡ interval b h e
+  interval-bad q = sym (refuse-yes (not (eqb (length b) 2)) Malformed _ (ap not (ne-eqb (length b) 2 q)))
+
+  pub interval-in : length b ≡ 2 → more (withInterval h e (word b 0)) ≡ interval b h e
+  interval-in q = sym (refuse-go (not (eqb (length b) 2)) Malformed _ (ap not (eq-eqb (length b) 2 q)))
+
+-- ---- the record
+
+pub record-made :
+    (b : List ℕ) (colour : Bool) (h : Header) (e : ℕ) (dcids acids : List ℕ) (n o : ℕ)
+    → dcids ≡ each (h .frame .channels) (dcId b) → acids ≡ each (h .frame .channels) (acId b)
+    → n ≡ blockCount (shapeOf (h .frame)) → o ≡ outputLength (shapeOf (h .frame))
+    → record {
+      width = h .frame .width;
+      height = h .frame .height;
+      channels = h .frame .channels;
+      hs = h .frame .hs;
+      vs = h .frame .vs;
+      ids = h .frame .ids;
+      qids = h .frame .qids;
+      dcids = dcids;
+      acids = acids;
+      quants = h .quants;
+      dcs = h .dcs;
+      acs = h .acs;
+      interval = h .interval;
+      start = e;
+      blocks = n;
+      scratch = 64 * n;
+      output = o;
+      work = 3136 * n + o;
+      colour = colour;
+    } ≡ recordOf b colour h e
+record-made b colour h e dcids acids n o ed ea en eo = rw (ed, ea, en, eo, work-is (shapeOf (h .frame)))
+
+-- ---- the scan
+
+module _ (b : List ℕ) (colour : Bool) (h : Header) (e : ℕ) where
+  pub scan-frameless : h .frame .channels ≡ 0 → stop Malformed ≡ scan b colour h e
+  scan-frameless p = sym (refuse-yes (not (hasFrame h)) Malformed _ (ap not (le-ltb 0 (h .frame .channels) (omega arith))))
+
+  module _ (framed : h .frame .channels ≡ 0 → ⊥) where
+    has : not (hasFrame h) ≡ false
+    has = ap not (lt-ltb 0 (h .frame .channels) (omega arith))
+
+    pub scan-unknown : scanKnown b (h .frame .channels) ≡ false → stop Unsupported ≡ scan b colour h e
+    scan-unknown p = sym (refuse-go (not (hasFrame h)) Malformed _ has ∙ refuse-yes (not (scanKnown b (h .frame .channels))) Unsupported _ (ap not p))
+
+    module _ (known : scanKnown b (h .frame .channels) ≡ true) where
+      to-order : (st : Stage) → refuse-if (not (scanKnown b (h .frame .channels))) Unsupported st ≡ st
+      to-order st = refuse-go (not (scanKnown b (h .frame .channels))) Unsupported st (ap not known)
+
+      pub scan-order : inOrder b (h .frame .ids) (h .frame .channels) ≡ false → stop Malformed ≡ scan b colour h e
+      scan-order p = sym (refuse-go (not (hasFrame h)) Malformed _ has ∙ to-order _ ∙ refuse-yes (not (inOrder b (h .frame .ids) (h .frame .channels))) Malformed _ (ap not p))
+
+      module _ (order : inOrder b (h .frame .ids) (h .frame .channels) ≡ true) where
+        to-selected : (st : Stage) → refuse-if (not (inOrder b (h .frame .ids) (h .frame .channels))) Malformed st ≡ st
+        to-selected st = refuse-go (not (inOrder b (h .frame .ids) (h .frame .channels))) Malformed st (ap not order)
+
+        pub scan-selected : selected b (h .frame .channels) ≡ false → stop Unsupported ≡ scan b colour h e
+        scan-selected p = sym (refuse-go (not (hasFrame h)) Malformed _ has ∙ to-order _ ∙ to-selected _ ∙ refuse-yes (not (selected b (h .frame .channels))) Unsupported _ (ap not p))
+
+        module _ (chosen-ids : selected b (h .frame .channels) ≡ true) where
+          to-complete : (st : Stage) → refuse-if (not (selected b (h .frame .channels))) Unsupported st ≡ st
+          to-complete st = refuse-go (not (selected b (h .frame .channels))) Unsupported st (ap not chosen-ids)
+
+          pub scan-incomplete : complete (recordOf b colour h e) ≡ false → stop Malformed ≡ scan b colour h e
+          scan-incomplete p = sym (refuse-go (not (hasFrame h)) Malformed _ has ∙ to-order _ ∙ to-selected _ ∙ to-complete _ ∙ refuse-yes (not (complete (recordOf b colour h e))) Malformed _ (ap not p))
+
+          pub scan-in : complete (recordOf b colour h e) ≡ true → done (recordOf b colour h e) ≡ scan b colour h e
+          scan-in p = sym (refuse-go (not (hasFrame h)) Malformed _ has ∙ to-order _ ∙ to-selected _ ∙ to-complete _ ∙ refuse-go (not (complete (recordOf b colour h e))) Malformed _ (ap not p))
+
+-- ---- marker codes
+
+pub kind-frames : (c : ℕ) → 192 ≤ c → c < 194 → Frames ≡ kindOf c
+kind-frames c p q = rw (le-leb 192 c p, le-leb c 193 (omega arith))
+
+-- a test of a range that fails
+outside : (lo hi c : ℕ) → (lo ≤ c → c < suc hi → ⊥) → within lo hi c ≡ false
+outside lo hi c n = go (leb lo c) refl (leb c hi) refl
+  where
+    go : (x : Bool) → leb lo c ≡ x → (y : Bool) → leb c hi ≡ y → within lo hi c ≡ false
+    go false p y q = rw p
+    go true p false q = rw (p, q)
+    go true p true q = absurd (n (leb-true lo c p) (suc-le-suc (leb-true c hi q)))
+
+module _ (c : ℕ) (frames : 192 ≤ c → c < 194 → ⊥) (n196 : c ≡ 196 → ⊥) (n218 : c ≡ 218 → ⊥) (n219 : c ≡ 219 → ⊥) (n221 : c ≡ 221 → ⊥) where
+  last-tests : (k : Kind) → k ≡ cond (within 224 239 c or eqb c 254) Skips Others → k ≡ kindOf c
+  last-tests k e = rw (outside 192 193 c frames, ne-eqb c 196 n196, ne-eqb c 218 n218, ne-eqb c 219 n219, ne-eqb c 221 n221) e
+
+  pub kind-skips : 224 ≤ c → c < 240 → Skips ≡ kindOf c
+  kind-skips p q = last-tests Skips (rw (le-leb 224 c p, le-leb c 239 (omega arith)))
+
+  pub kind-others : (224 ≤ c → c < 240 → ⊥) → (c ≡ 254 → ⊥) → Others ≡ kindOf c
+  kind-others p q = last-tests Others (rw (outside 224 239 c p, ne-eqb c 254 q))
+
+-- a segment, by the kind that its code is known to be
+pub by-kind : (colour : Bool) (h : Header) (b : List ℕ) (a e : ℕ) (k j : Kind) → k ≡ j → segment colour h j b a e ≡ segment colour h k b a e
+by-kind colour h b a e k j p = ap (λ i. segment colour h i b a e) (sym p)
+
+-- ---- a marker
+
+or-yes : (x y : Bool) → x ≡ true → (x or y) ≡ true
+or-yes x y p = rw p
+
+or-on : (x y r : Bool) → x ≡ false → y ≡ r → (x or y) ≡ r
+or-on x y r p q = rw p q
+
+module _ (s : List ℕ) (colour : Bool) (h : Header) where
+  pub marker-short : length s < h .at + 2 → stop Malformed ≡ marker s colour h
+  marker-short p = sym (refuse-yes (ltb (length s) (h .at + 2) or not (eqb (byte s (h .at)) 255)) Malformed _ (or-yes (ltb (length s) (h .at + 2)) _ (lt-ltb (length s) (h .at + 2) p)))
+
+  module _ (two : h .at + 2 ≤ length s) where
+    pub marker-first : (byte s (h .at) ≡ 255 → ⊥) → stop Malformed ≡ marker s colour h
+    marker-first p = sym (refuse-yes (ltb (length s) (h .at + 2) or not (eqb (byte s (h .at)) 255)) Malformed _ (or-on (ltb (length s) (h .at + 2)) (not (eqb (byte s (h .at)) 255)) true (le-ltb (length s) (h .at + 2) two) (ap not (ne-eqb (byte s (h .at)) 255 p))))
+
+    module _ (first : byte s (h .at) ≡ 255) where
+      opened : (st : Stage) → refuse-if (ltb (length s) (h .at + 2) or not (eqb (byte s (h .at)) 255)) Malformed st ≡ st
+      opened st = refuse-go (ltb (length s) (h .at + 2) or not (eqb (byte s (h .at)) 255)) Malformed st (or-on (ltb (length s) (h .at + 2)) (not (eqb (byte s (h .at)) 255)) false (le-ltb (length s) (h .at + 2) two) (ap not (eq-eqb (byte s (h .at)) 255 first)))
+
+      pub marker-fill : byte s (h .at + 1) ≡ 255 → more (moved h (h .at + 1) Marker) ≡ marker s colour h
+      marker-fill p = cond-yes (eqb (byte s (h .at + 1)) 255) _ _ (eq-eqb (byte s (h .at + 1)) 255 p) ∙ sym (opened _)
+
+      module _ (code : byte s (h .at + 1) ≡ 255 → ⊥) where
+        unfilled : (x y : Stage) → y ≡ cond (eqb (byte s (h .at + 1)) 255) x y
+        unfilled x y = cond-no (eqb (byte s (h .at + 1)) 255) x y (ne-eqb (byte s (h .at + 1)) 255 code)
+
+        pub marker-end : byte s (h .at + 1) ≡ 217 → stop Malformed ≡ marker s colour h
+        marker-end p = sym (refuse-yes (eqb (byte s (h .at + 1)) 217) Malformed _ (eq-eqb (byte s (h .at + 1)) 217 p)) ∙ unfilled _ _ ∙ sym (opened _)
+
+        module _ (goes-on : byte s (h .at + 1) ≡ 217 → ⊥) where
+          onward : (st : Stage) → refuse-if (eqb (byte s (h .at + 1)) 217) Malformed st ≡ st
+          onward st = refuse-go (eqb (byte s (h .at + 1)) 217) Malformed st (ne-eqb (byte s (h .at + 1)) 217 goes-on)
+
+          cut : (ltb (length s) (h .at + 4) or ltb (word s (h .at + 2)) 2 or ltb (length s) (segmentEnd s (h .at))) ≡ true → stop CutShort ≡ marker s colour h
+          cut p = sym (refuse-yes (ltb (length s) (h .at + 4) or ltb (word s (h .at + 2)) 2 or ltb (length s) (segmentEnd s (h .at))) CutShort _ p) ∙ sym (onward _) ∙ unfilled _ _ ∙ sym (opened _)
+
+          pub marker-four : length s < h .at + 4 → stop CutShort ≡ marker s colour h
+          marker-four p = cut (or-yes (ltb (length s) (h .at + 4)) _ (lt-ltb (length s) (h .at + 4) p))
+
+          module _ (four : h .at + 4 ≤ length s) where
+            pub marker-size : word s (h .at + 2) < 2 → stop CutShort ≡ marker s colour h
+            marker-size p = cut (or-on (ltb (length s) (h .at + 4)) _ true (le-ltb (length s) (h .at + 4) four) (or-yes (ltb (word s (h .at + 2)) 2) _ (lt-ltb (word s (h .at + 2)) 2 p)))
+
+            module _ (size : 2 ≤ word s (h .at + 2)) where
+              pub marker-past : length s < segmentEnd s (h .at) → stop CutShort ≡ marker s colour h
+              marker-past p = cut (or-on (ltb (length s) (h .at + 4)) _ true (le-ltb (length s) (h .at + 4) four) (or-on (ltb (word s (h .at + 2)) 2) _ true (le-ltb (word s (h .at + 2)) 2 size) (lt-ltb (length s) (segmentEnd s (h .at)) p)))
+
+              pub marker-segment : segmentEnd s (h .at) ≤ length s → segment colour h (kindOf (byte s (h .at + 1))) (window s (h .at + 4) (segmentEnd s (h .at))) (h .at + 4) (segmentEnd s (h .at)) ≡ marker s colour h
+              marker-segment p =
+                  sym (refuse-go (ltb (length s) (h .at + 4) or ltb (word s (h .at + 2)) 2 or ltb (length s) (segmentEnd s (h .at))) CutShort _ (or-on (ltb (length s) (h .at + 4)) _ false (le-ltb (length s) (h .at + 4) four) (or-on (ltb (word s (h .at + 2)) 2) _ false (le-ltb (word s (h .at + 2)) 2 size) (le-ltb (length s) (segmentEnd s (h .at)) p))))
+                  ∙ sym (onward _) ∙ unfilled _ _ ∙ sym (opened _)
+
+  -- the end of the segment, from the size that was read
+  pub segment-is : (c n : ℕ) → c ≡ byte s (h .at + 1) → n ≡ word s (h .at + 2) → segment colour h (kindOf c) (window s (h .at + 4) (h .at + 2 + n)) (h .at + 4) (h .at + 2 + n) ≡ segment colour h (kindOf (byte s (h .at + 1))) (window s (h .at + 4) (segmentEnd s (h .at))) (h .at + 4) (segmentEnd s (h .at))
+  segment-is c n p q = rw (p, q)

@@ -1,0 +1,137 @@
+-- The loop of the header: what holds between two steps, and what each way out of a step says of the whole header.
+use Prim.Native.Nat.{ℕ, zero, suc, _+_, _*_, _-_, _<_, _≤_}
+use mathlib.Core.Path.{_≡_, refl, sym, ap, _∙_, subst⁻¹}
+use mathlib.Core.Bool.{Bool, true, false, not}
+use mathlib.Core.List.{List}
+use native.Mathlib.Omega.{arith}
+use native.Mathlib.Nat.{not-suc-le-zero}
+use lib.Dec.{leb, eqb}
+use lib.ListN.{length, take, drop, length-take}
+use borrow.Author.Tests.{le-leb, lt-leb, eq-eqb, ne-eqb}
+use Rattle.reading.specs.declared.Refusal.{Refusal}
+use Rattle.reading.specs.declared.Refusal.the-variants.{Malformed}
+use Rattle.reading.specs.declared.Case.{Case}
+use Rattle.reading.specs.declared.Case.the-variants.{Marker, Quantizers, Huffman}
+use Rattle.reading.specs.declared.Header.{Header}
+use Rattle.reading.specs.declared.Record.{Record}
+use Rattle.reading.specs.Header.{more, done, stop, byte, window, step, steps, opens, opening, header}
+use Rattle.reading.proofs.Stages.{refuse-go, refuse-yes}
+use Rattle.reading.proofs.HeaderEnds.{Down, on, Ok, inside, left, step-down}
+use Rattle.reading.proofs.WantOfCode.{AllBytes}
+use Rattle.jpeg_header.specs.Frames.{Framed}
+use Rattle.jpeg_header.specs.Steps.{stageBy, stageOf, Inside, InsideCase}
+use Rattle.jpeg_header.specs.declared.Progress.the-variants.{More, Done, Stop}
+use Rattle.jpeg_header.specs.declared.Stepped.{Stepped}
+use Rattle.jpeg_header.proofs.Accepted.{Sound, step-sound, opening-framed}
+use Rattle.jpeg_header.proofs.Accepted as accepted
+
+module _ (s : List ℕ) (colour : Bool) where
+  -- what holds between two steps: the steps that are left give the whole header
+  pub record Running (h : Header) : Type 0 where
+    pub fuel : ℕ
+    pub ok : Ok (length s) h
+    pub framed : Framed h
+    pub enough : left (length s) h < fuel
+    pub same : header s colour ≡ steps s colour fuel (more h)
+
+  sound-more : (h : Header) → Sound colour (more h) → Framed h
+  sound-more h (accepted.on _ f) = f
+
+  down-more : (n m : ℕ) (h : Header) → Down n m (more h) → Ok n h × (left n h < m)
+  down-more n m h (on _ o d) = (o, d)
+
+  steps-done : (k : ℕ) (r : Record) → steps s colour k (done r) ≡ done r
+  steps-done zero r = refl
+  steps-done (suc k) r = refl
+
+  steps-stop : (k : ℕ) (x : Refusal) → steps s colour k (stop x) ≡ stop x
+  steps-stop zero x = refl
+  steps-stop (suc k) x = refl
+
+  -- one step, out of the steps that are left
+  record Next (h : Header) : Type 0 where
+    fuel : ℕ
+    less : left (length s) h < suc fuel
+    same : header s colour ≡ steps s colour fuel (step s colour h)
+
+  next : (h : Header) → Running h → Next h
+  next h r = go (r .fuel) (r .enough) (r .same)
+    where
+      go : (k : ℕ) → left (length s) h < k → header s colour ≡ steps s colour k (more h) → Next h
+      go zero l e = absurd (not-suc-le-zero l)
+      go (suc k) l e = record { fuel = k; less = l; same = e }
+
+  pub run-down : (h i : Header) → Running h → more i ≡ step s colour h → left (length s) i < left (length s) h
+  run-down h i r e = down-more (length s) (left (length s) h) i (subst⁻¹ (Down (length s) (left (length s) h)) e (step-down s colour h (r .ok))) .1
+
+  pub run-more : AllBytes s → (h i : Header) → Running h → more i ≡ step s colour h → Running i
+  run-more y h i r e =
+      let d = down-more (length s) (left (length s) h) i (subst⁻¹ (Down (length s) (left (length s) h)) e (step-down s colour h (r .ok))) in
+      record {
+        fuel = next h r .fuel;
+        ok = d .0;
+        framed = sound-more i (subst⁻¹ (Sound colour) e (step-sound colour s y h (r .framed)));
+        enough = omega (arith, d .1, next h r .less);
+        same = next h r .same ∙ ap (steps s colour (next h r .fuel)) (sym e);
+      }
+
+  pub run-done : (h : Header) (q : Record) → Running h → done q ≡ step s colour h → header s colour ≡ done q
+  run-done h q r e = next h r .same ∙ ap (steps s colour (next h r .fuel)) (sym e) ∙ steps-done (next h r .fuel) q
+
+  pub run-stop : (h : Header) (x : Refusal) → Running h → stop x ≡ step s colour h → header s colour ≡ stop x
+  run-stop h x r e = next h r .same ∙ ap (steps s colour (next h r .fuel)) (sym e) ∙ steps-stop (next h r .fuel) x
+
+  pub run-inside : (h : Header) → Running h → Inside (length s) h
+  run-inside h r = go (h .case) (r .ok .1)
+    where
+      go : (c : Case) → inside (length s) (h .at) c → InsideCase (length s) (h .at) c
+      go Marker i = r .ok .0
+      go (Quantizers e) i = i
+      go (Huffman e) i = i
+
+  pub run-start : 2 ≤ length s → opens s ≡ true → Running opening
+  unfolding header
+  run-start l e =
+      record {
+        fuel = 2 * length s + 1;
+        ok = (l, tt);
+        framed = λ k. absurd (not-suc-le-zero k);
+        enough = omega arith;
+        same = ap (steps s colour (2 * length s + 1)) (refuse-go (not (opens s)) Malformed (more opening) (ap not e));
+      }
+
+  pub run-closed : opens s ≡ false → header s colour ≡ stop Malformed
+  unfolding header
+  run-closed e = ap (steps s colour (2 * length s + 1)) (refuse-yes (not (opens s)) Malformed (more opening) (ap not e)) ∙ steps-stop (2 * length s + 1) Malformed
+
+-- ---- the file's first two bytes
+
+module _ (s : List ℕ) where
+  pub opens-short : length s < 2 → opens s ≡ false
+  opens-short h = rw (lt-leb 2 (length s) h)
+
+  module _ (two : 2 ≤ length s) where
+    pub opens-first : (byte s 0 ≡ 255 → ⊥) → opens s ≡ false
+    opens-first n = rw (le-leb 2 (length s) two, ne-eqb (byte s 0) 255 n)
+
+    pub opens-second : byte s 0 ≡ 255 → (byte s 1 ≡ 216 → ⊥) → opens s ≡ false
+    opens-second p n = rw (le-leb 2 (length s) two, eq-eqb (byte s 0) 255 p, ne-eqb (byte s 1) 216 n)
+
+    pub opens-so : byte s 0 ≡ 255 → byte s 1 ≡ 216 → opens s ≡ true
+    opens-so p q = rw (le-leb 2 (length s) two, eq-eqb (byte s 0) 255 p, eq-eqb (byte s 1) 216 q)
+
+-- ---- a step's answer
+
+module _ (r : Stepped) where
+  pub stage-more : r .progress ≡ More → more (r .state) ≡ stageOf r
+  stage-more e = ap (λ p. stageBy p (r .state) (r .found)) (sym e)
+
+  pub stage-done : r .progress ≡ Done → done (r .found) ≡ stageOf r
+  stage-done e = ap (λ p. stageBy p (r .state) (r .found)) (sym e)
+
+  pub stage-stop : (x : Refusal) → r .progress ≡ Stop x → stop x ≡ stageOf r
+  stage-stop x e = ap (λ p. stageBy p (r .state) (r .found)) (sym e)
+
+-- a window is no longer than its bounds say
+pub window-room : (s : List ℕ) (a e : ℕ) → a ≤ e → a + length (window s a e) ≤ e
+window-room s a e h = rw (length-take (e - a) (drop a s)) (omega arith)

@@ -1,0 +1,56 @@
+use Prim.Native.Nat.{ℕ, _*_, _+_, _-_}
+use mathlib.Core.Path.{_≡_, sym, ap, ap₂, _∙_}
+use native.Mathlib.Omega.{arith}
+use Rattle.reading.specs.Layout.{ceiling}
+use Rattle.jpeg_header.proofs.Accepted.{mcus-small, count-small, blocks-are}
+use Rattle.jpeg_header.proofs.block_count.Statement.{statement}
+use Rattle.jpeg_header.proofs.block_count.Tie as tie
+
+mcus-are : (c : tie.After-ceiling2) → c .before .before .ceiling .result * c .ceiling2 .result ≡ ceiling (c .before .before .before .before .args .frame .width) (8 * c .before .before .before .before .args .frame .hs) * ceiling (c .before .before .before .before .args .frame .height) (8 * c .before .before .before .before .args .frame .vs)
+mcus-are c = ap₂ (λ (x y : ℕ). x * y) (c .before .before .ceiling .ensures) (c .ceiling2 .ensures)
+
+mul-ceiling : tie.Need-mul-ceiling
+mul-ceiling c = omega (arith, c .before .pre .across)
+
+ceiling-requires : tie.Need-ceiling-requires
+ceiling-requires c κs = (c .before .pre .wide .1, omega (arith, c .before .pre .across), omega (arith, c .before .pre .across))
+
+mul-ceiling-2 : tie.Need-mul-ceiling-2
+mul-ceiling-2 c = omega (arith, c .before .before .before .pre .down)
+
+ceiling-requires-2 : tie.Need-ceiling-requires-2
+ceiling-requires-2 c κs = (c .before .before .before .pre .high .1, omega (arith, c .before .before .before .pre .down), omega (arith, c .before .before .before .pre .down))
+
+mul-result : tie.Need-mul-result
+mul-result c = omega (arith, mcus-are c, mcus-small (c .before .before .before .before .args .frame) (c .before .before .before .before .pre))
+
+mul-result-2 : tie.Need-mul-result-2
+mul-result-2 c = omega (arith, c .before .before .before .before .before .pre .product)
+
+sub-result : tie.Need-sub-result
+sub-result c = omega (arith, c .before .before .before .before .before .before .pre .few)
+
+add-result : tie.Need-add-result
+add-result c = omega (arith, c .before .before .before .before .before .before .pre .product, c .before .before .before .before .before .before .pre .few)
+
+mul-result-3 : tie.Need-mul-result-3
+mul-result-3 c = let e = ap (λ k. k * (c .before .before .before .before .before .before .args .frame .hs * c .before .before .before .before .before .before .args .frame .vs + (c .before .before .before .before .before .before .args .frame .channels - 1))) (mcus-are (c .before .before)) in
+    omega (arith, e, count-small (c .before .before .before .before .before .before .args .frame) (c .before .before .before .before .before .before .pre))
+
+returns : tie.Need-returns
+returns c = ap (λ k. k * (c .before .before .before .before .before .before .args .frame .hs * c .before .before .before .before .before .before .args .frame .vs + (c .before .before .before .before .before .before .args .frame .channels - 1))) (mcus-are (c .before .before)) ∙ sym (blocks-are (c .before .before .before .before .before .before .args .frame) (c .before .before .before .before .before .before .pre))
+
+pub block-count-spec : {M : Type 1} → statement M
+block-count-spec =
+    tie.close
+    (tie.spec
+    mul-ceiling
+    ceiling-requires
+    mul-ceiling-2
+    ceiling-requires-2
+    mul-result
+    mul-result-2
+    sub-result
+    add-result
+    mul-result-3
+    returns)

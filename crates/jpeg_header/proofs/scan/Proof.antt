@@ -1,0 +1,102 @@
+use borrow.Author.Tests.{not-true, not-false}
+use mathlib.Core.Path.{_≡_, sym, ap, _∙_}
+use mathlib.Core.Bool.{true}
+use native.Mathlib.Omega.{arith}
+use lib.ListN.{getD}
+use Rattle.reading.specs.Header.{done, complete, scanKnown, inOrder, selected}
+use Rattle.jpeg_header.specs.Frames.{FrameOk}
+use Rattle.jpeg_segments.proofs.Rules.{scan-few}
+use Rattle.jpeg_header.proofs.Rules.{scan-frameless, scan-unknown, scan-order, scan-selected, scan-incomplete, scan-in}
+use borrow.Author.Needs.{needs}
+use Rattle.jpeg_header.proofs.scan.Statement.{statement}
+use Rattle.jpeg_header.proofs.scan.Tie as tie
+
+known : (c : tie.Else2) → scanKnown (c .before .before .before .before .before .before .args .body .now) (c .before .before .before .before .before .before .args .state .frame .channels) ≡ true
+known c = sym (c .before .scan-known .ensures) ∙ not-false _ (c .if2 .left)
+
+-- the scan counts the frame's channels
+count : (c : tie.Else2) → getD (c .before .before .before .before .before .before .args .body .now) 0 0 ≡ c .before .before .before .before .before .before .args .state .frame .channels
+count c = scan-few (c .before .before .before .before .before .before .args .body .now) (c .before .before .before .before .before .before .args .state .frame .channels) (known c)
+
+order : (c : tie.After-in-order) → c .in-order .result ≡ inOrder (c .before .before .before .before .before .before .before .before .args .body .now) (c .before .before .before .before .before .before .before .before .args .state .frame .ids) (c .before .before .before .before .before .before .before .before .args .state .frame .channels)
+order c = c .in-order .ensures ∙ ap (inOrder (c .before .before .before .before .before .before .before .before .args .body .now) (c .before .before .before .before .before .before .before .before .args .state .frame .ids)) (count (c .before .before))
+
+chosen-ids : (c : tie.After-selected) → c .selected .result ≡ selected (c .before .before .before .before .before .before .before .before .before .before .args .body .now) (c .before .before .before .before .before .before .before .before .before .before .args .state .frame .channels)
+chosen-ids c = c .selected .ensures ∙ ap (selected (c .before .before .before .before .before .before .before .before .before .before .args .body .now)) (count (c .before .before .before .before))
+
+stop-requires : tie.Need-stop-requires
+stop-requires c κs = tt
+
+returns : tie.Need-returns
+returns c = c .stop .ensures ∙ scan-frameless (c .before .before .before .before .before .args .body .now) (c .before .before .before .before .before .args .colour) (c .before .before .before .before .before .args .state) (c .before .before .before .before .before .args .end) (c .before .if1 .taken)
+
+scan-known-requires : tie.Need-scan-known-requires
+scan-known-requires c κs = tt
+
+stop-requires-2 : tie.Need-stop-requires-2
+stop-requires-2 c κs = tt
+
+returns-2 : tie.Need-returns-2
+returns-2 c = c .stop2 .ensures ∙ scan-unknown (c .before .before .before .before .before .before .before .args .body .now) (c .before .before .before .before .before .before .before .args .colour) (c .before .before .before .before .before .before .before .args .state) (c .before .before .before .before .before .before .before .args .end) (c .before .before .before .if1 .left) (sym (c .before .before .scan-known .ensures) ∙ not-true _ (c .before .if2 .taken))
+
+slice-aggregate-in-order : tie.Need-slice-aggregate-in-order
+slice-aggregate-in-order c = search needs
+
+in-order-requires : tie.Need-in-order-requires
+in-order-requires c κs = tt
+
+stop-requires-3 : tie.Need-stop-requires-3
+stop-requires-3 c κs = tt
+
+returns-3 : tie.Need-returns-3
+returns-3 c = c .stop3 .ensures ∙ scan-order (c .before .before .before .before .before .before .before .before .before .before .args .body .now) (c .before .before .before .before .before .before .before .before .before .before .args .colour) (c .before .before .before .before .before .before .before .before .before .before .args .state) (c .before .before .before .before .before .before .before .before .before .before .args .end) (c .before .before .before .before .before .before .if1 .left) (known (c .before .before .before .before)) (sym (order (c .before .before)) ∙ not-true _ (c .before .if3 .taken))
+
+selected-requires : tie.Need-selected-requires
+selected-requires c κs = tt
+
+stop-requires-4 : tie.Need-stop-requires-4
+stop-requires-4 c κs = tt
+
+returns-4 : tie.Need-returns-4
+returns-4 c = c .stop4 .ensures ∙ scan-selected (c .before .before .before .before .before .before .before .before .before .before .before .before .args .body .now) (c .before .before .before .before .before .before .before .before .before .before .before .before .args .colour) (c .before .before .before .before .before .before .before .before .before .before .before .before .args .state) (c .before .before .before .before .before .before .before .before .before .before .before .before .args .end) (c .before .before .before .before .before .before .before .before .if1 .left) (known (c .before .before .before .before .before .before)) (sym (order (c .before .before .before .before)) ∙ not-false _ (c .before .before .before .if3 .left)) (sym (chosen-ids (c .before .before)) ∙ not-true _ (c .before .if4 .taken))
+
+record-of-requires : tie.Need-record-of-requires
+record-of-requires c κs = c .before .before .before .before .before .before .before .before .before .before .before .pre (omega (arith, c .before .before .before .before .before .before .before .if1 .left))
+
+complete-requires : tie.Need-complete-requires
+complete-requires c κs = tt
+
+stop-requires-5 : tie.Need-stop-requires-5
+stop-requires-5 c κs = tt
+
+returns-5 : tie.Need-returns-5
+returns-5 c = c .stop5 .ensures ∙ scan-incomplete (c .before .before .before .before .before .before .before .before .before .before .before .before .before .before .before .args .body .now) (c .before .before .before .before .before .before .before .before .before .before .before .before .before .before .before .args .colour) (c .before .before .before .before .before .before .before .before .before .before .before .before .before .before .before .args .state) (c .before .before .before .before .before .before .before .before .before .before .before .before .before .before .before .args .end) (c .before .before .before .before .before .before .before .before .before .before .before .if1 .left) (known (c .before .before .before .before .before .before .before .before .before)) (sym (order (c .before .before .before .before .before .before .before)) ∙ not-false _ (c .before .before .before .before .before .before .if3 .left)) (sym (chosen-ids (c .before .before .before .before .before)) ∙ not-false _ (c .before .before .before .before .if4 .left)) (sym (c .before .before .complete .ensures ∙ ap complete (c .before .before .before .record-of .ensures)) ∙ not-true _ (c .before .if5 .taken))
+
+done-requires : tie.Need-done-requires
+done-requires c κs = tt
+
+returns-6 : tie.Need-returns-6
+returns-6 c = c .done .ensures ∙ ap done (c .before .before .before .record-of .ensures) ∙ scan-in (c .before .before .before .before .before .before .before .before .before .before .before .before .before .before .before .args .body .now) (c .before .before .before .before .before .before .before .before .before .before .before .before .before .before .before .args .colour) (c .before .before .before .before .before .before .before .before .before .before .before .before .before .before .before .args .state) (c .before .before .before .before .before .before .before .before .before .before .before .before .before .before .before .args .end) (c .before .before .before .before .before .before .before .before .before .before .before .if1 .left) (known (c .before .before .before .before .before .before .before .before .before)) (sym (order (c .before .before .before .before .before .before .before)) ∙ not-false _ (c .before .before .before .before .before .before .if3 .left)) (sym (chosen-ids (c .before .before .before .before .before)) ∙ not-false _ (c .before .before .before .before .if4 .left)) (sym (c .before .before .complete .ensures ∙ ap complete (c .before .before .before .record-of .ensures)) ∙ not-false _ (c .before .if5 .left))
+
+pub scan-spec : {M : Type 1} → statement M
+scan-spec =
+    tie.close
+    (tie.spec
+    stop-requires
+    returns
+    scan-known-requires
+    stop-requires-2
+    returns-2
+    slice-aggregate-in-order
+    in-order-requires
+    stop-requires-3
+    returns-3
+    selected-requires
+    stop-requires-4
+    returns-4
+    record-of-requires
+    complete-requires
+    stop-requires-5
+    returns-5
+    done-requires
+    returns-6)

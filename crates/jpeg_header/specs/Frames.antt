@@ -1,0 +1,30 @@
+-- What the rules say of the numbers of a frame that was read.
+use Prim.Native.Nat.{ℕ, _*_, _<_, _≤_}
+use mathlib.Core.Path.{_≡_}
+use mathlib.Core.Logic.{_⊎_}
+use lib.ListN.{getD}
+use Rattle.reading.specs.declared.Frame.{Frame}
+use Rattle.reading.specs.declared.Header.{Header}
+use Rattle.reading.specs.declared.Record.{Record}
+
+pub record FrameOk (f : Frame) : Type 0 where
+  pub wide : (0 < f .width) × (f .width < 65536)
+  pub high : (0 < f .height) × (f .height < 65536)
+  pub count : (f .channels ≡ 1) ⊎ (f .channels ≡ 3)
+  pub few : (0 < f .channels) × (f .channels ≤ 3)
+  pub across : (0 < f .hs) × (f .hs ≤ 4)
+  pub down : (0 < f .vs) × (f .vs ≤ 4)
+  pub product : f .hs * f .vs ≤ 4
+  -- one channel counts as 1 x 1
+  pub single : f .channels ≡ 1 → (f .hs ≡ 1) × (f .vs ≡ 1)
+  pub ids : (c : ℕ) → getD (f .ids) c 0 < 256
+  pub qids : (c : ℕ) → getD (f .qids) c 0 ≤ 3
+
+-- where a frame was read, it is such a one
+abbrev pub Framed : Header → Type 0
+Framed h = 0 < h .frame .channels → FrameOk (h .frame)
+
+-- the frame of a record
+abbrev pub frameIn : Record → Frame
+frameIn r =
+    record { width = r .width; height = r .height; channels = r .channels; hs = r .hs; vs = r .vs; ids = r .ids; qids = r .qids }

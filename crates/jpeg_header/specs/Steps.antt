@@ -1,0 +1,27 @@
+-- A step's answer as a stage of the header, and where a state stands in the file.
+use Prim.Native.Nat.{ℕ, _≤_}
+use Rattle.reading.specs.declared.Case.{Case}
+use Rattle.reading.specs.declared.Case.the-variants.{Marker, Quantizers, Huffman}
+use Rattle.reading.specs.declared.Header.{Header}
+use Rattle.reading.specs.declared.Record.{Record}
+use Rattle.reading.specs.Header.{Stage, more, done, stop}
+use Rattle.jpeg_header.specs.declared.Progress.{Progress}
+use Rattle.jpeg_header.specs.declared.Progress.the-variants.{More, Done, Stop}
+use Rattle.jpeg_header.specs.declared.Stepped.{Stepped}
+
+abbrev pub stageBy : Progress → Header → Record → Stage
+stageBy More h r = more h
+stageBy Done h r = done r
+stageBy (Stop x) h r = stop x
+
+abbrev pub stageOf : Stepped → Stage
+stageOf r = stageBy (r .progress) (r .state) (r .found)
+
+-- inside a segment of tables the place is not past its end, and the end not past the file's
+abbrev pub InsideCase : ℕ → ℕ → Case → Type 0
+InsideCase n at Marker = at ≤ n
+InsideCase n at (Quantizers e) = (at ≤ e) × (e ≤ n)
+InsideCase n at (Huffman e) = (at ≤ e) × (e ≤ n)
+
+abbrev pub Inside : ℕ → Header → Type 0
+Inside n h = InsideCase n (h .at) (h .case)

@@ -1,0 +1,240 @@
+-- Each test on a body by its ways out, as the code finds them: one law for each way.
+use Prim.Native.Nat.{ℕ, _+_, _*_, _/_, _%_, _<_, _≤_}
+use mathlib.Core.Path.{_≡_, refl, subst}
+use mathlib.Core.Bool.{Bool, true, false, not, cond}
+use mathlib.Core.List.{List, [], _∷_}
+use native.Mathlib.Omega.{arith}
+use lib.Dec.{T, leb, ltb, eqb}
+use lib.ListN.{length, take, drop, getD, length-take}
+use borrow.Author.Tests.{le-leb, lt-leb, lt-ltb, le-ltb, eq-eqb, ne-eqb, leb-true, eqb-true}
+use Rattle.reading.specs.declared.Frame.{Frame}
+use Rattle.reading.specs.declared.Record.{Record}
+use Rattle.reading.specs.Tests.{_and_, _or_, all, within}
+use Rattle.reading.specs.Huffman.{sum, countsFit}
+use Rattle.reading.specs.Tables.{quantAt, dcAt, acAt}
+use Rattle.reading.specs.Header.{byte, word, each, quantizerFits, countsOf, tableFits, frameKnown, acrossOf, downOf, quantsFit, threeFit, frameOf, frameFits, dcId, acId, sequential, scanKnown}
+
+pub and-both : (a b : Bool) → (a and b) ≡ true → (a ≡ true) × (b ≡ true)
+and-both true b e = (refl, e)
+and-both false b e = absurd (subst (λ k. T (not k)) e tt)
+
+-- ---- a quantizer
+
+module _ (b : List ℕ) where
+  pub quantizer-short : length b < 65 → false ≡ quantizerFits b
+  quantizer-short h = rw (lt-leb 65 (length b) h)
+
+  pub quantizer-id : 65 ≤ length b → 3 < byte b 0 → false ≡ quantizerFits b
+  quantizer-id h i = rw (le-leb 65 (length b) h, lt-leb (byte b 0) 3 i)
+
+  pub quantizer-rest : 65 ≤ length b → byte b 0 ≤ 3 → all (ltb 0) (take 64 (drop 1 b)) ≡ quantizerFits b
+  quantizer-rest h i = rw (le-leb 65 (length b) h, le-leb (byte b 0) 3 i)
+
+  pub quantizer-known : quantizerFits b ≡ true → (65 ≤ length b) × (byte b 0 ≤ 3)
+  quantizer-known e =
+      let p = and-both (leb 65 (length b)) _ e in
+      let q = and-both (leb (byte b 0) 3) _ (p .1) in
+      (leb-true _ _ (p .0), leb-true _ _ (q .0))
+
+-- ---- a Huffman table
+
+module _ (b : List ℕ) where
+  pub table-short : length b < 17 → false ≡ tableFits b
+  table-short h = rw (lt-leb 17 (length b) h)
+
+  module _ (long : 17 ≤ length b) where
+    pub table-class : 1 < byte b 0 / 16 → false ≡ tableFits b
+    table-class h = rw (le-leb 17 (length b) long, lt-leb (byte b 0 / 16) 1 h)
+
+    module _ (class : byte b 0 / 16 ≤ 1) where
+      pub table-id : 3 < byte b 0 % 16 → false ≡ tableFits b
+      table-id h = rw (le-leb 17 (length b) long, le-leb (byte b 0 / 16) 1 class, lt-leb (byte b 0 % 16) 3 h)
+
+      module _ (id : byte b 0 % 16 ≤ 3) where
+        pub table-none : sum (countsOf b) < 1 → false ≡ tableFits b
+        table-none h = rw (le-leb 17 (length b) long, le-leb (byte b 0 / 16) 1 class, le-leb (byte b 0 % 16) 3 id, lt-leb 1 (sum (countsOf b)) h)
+
+        module _ (some : 1 ≤ sum (countsOf b)) where
+          pub table-many : 256 < sum (countsOf b) → false ≡ tableFits b
+          table-many h = rw (le-leb 17 (length b) long, le-leb (byte b 0 / 16) 1 class, le-leb (byte b 0 % 16) 3 id, le-leb 1 (sum (countsOf b)) some, lt-leb (sum (countsOf b)) 256 h)
+
+          module _ (few : sum (countsOf b) ≤ 256) where
+            pub table-past : length b < 17 + sum (countsOf b) → false ≡ tableFits b
+            table-past h = rw (le-leb 17 (length b) long, le-leb (byte b 0 / 16) 1 class, le-leb (byte b 0 % 16) 3 id, le-leb 1 (sum (countsOf b)) some, le-leb (sum (countsOf b)) 256 few, lt-leb (17 + sum (countsOf b)) (length b) h)
+
+            pub table-codes : 17 + sum (countsOf b) ≤ length b → countsFit (countsOf b) ≡ tableFits b
+            table-codes h =
+                let short : length (countsOf b) ≤ 16 = rw (length-take 16 (drop 1 b)) (omega arith) in
+                rw (le-leb 17 (length b) long, le-leb (byte b 0 / 16) 1 class, le-leb (byte b 0 % 16) 3 id, le-leb 1 (sum (countsOf b)) some, le-leb (sum (countsOf b)) 256 few, le-leb (17 + sum (countsOf b)) (length b) h, le-leb (length (countsOf b)) 16 short)
+
+  pub record TableKnown : Type 0 where
+    pub long : 17 ≤ length b
+    pub class : byte b 0 / 16 ≤ 1
+    pub id : byte b 0 % 16 ≤ 3
+    pub whole : 17 + sum (countsOf b) ≤ length b
+
+  pub table-known : tableFits b ≡ true → TableKnown
+  table-known e =
+      let p = and-both (leb 17 (length b)) _ e in
+      let q = and-both (leb (byte b 0 / 16) 1) _ (p .1) in
+      let r = and-both (leb (byte b 0 % 16) 3) _ (q .1) in
+      let s = and-both (within 1 256 (sum (countsOf b))) _ (r .1) in
+      let t = and-both (leb (17 + sum (countsOf b)) (length b)) _ (s .1) in
+      record { long = leb-true _ _ (p .0); class = leb-true _ _ (q .0); id = leb-true _ _ (r .0); whole = leb-true _ _ (t .0) }
+
+-- ---- the frame's tests
+
+module _ (b : List ℕ) where
+  pub known-short : length b < 6 → false ≡ frameKnown b
+  known-short h = rw (lt-leb 6 (length b) h)
+
+  pub known-bits : 6 ≤ length b → (byte b 0 ≡ 8 → ⊥) → false ≡ frameKnown b
+  known-bits h n = rw (le-leb 6 (length b) h, ne-eqb (byte b 0) 8 n)
+
+  pub known-one : 6 ≤ length b → byte b 0 ≡ 8 → byte b 5 ≡ 1 → true ≡ frameKnown b
+  known-one h n o = rw (le-leb 6 (length b) h, eq-eqb (byte b 0) 8 n, eq-eqb (byte b 5) 1 o)
+
+  pub known-three : 6 ≤ length b → byte b 0 ≡ 8 → (byte b 5 ≡ 1 → ⊥) → eqb (byte b 5) 3 ≡ frameKnown b
+  known-three h n o = rw (le-leb 6 (length b) h, eq-eqb (byte b 0) 8 n, ne-eqb (byte b 5) 1 o)
+
+module _ (f : Frame) where
+  pub quants-first : 3 < getD (f .qids) 0 0 → false ≡ quantsFit f
+  quants-first h = rw (lt-leb (getD (f .qids) 0 0) 3 h)
+
+  pub quants-second : getD (f .qids) 0 0 ≤ 3 → 3 < getD (f .qids) 1 0 → false ≡ quantsFit f
+  quants-second h i = rw (le-leb (getD (f .qids) 0 0) 3 h, lt-leb (getD (f .qids) 1 0) 3 i)
+
+  pub quants-third : getD (f .qids) 0 0 ≤ 3 → getD (f .qids) 1 0 ≤ 3 → leb (getD (f .qids) 2 0) 3 ≡ quantsFit f
+  quants-third h i = rw (le-leb (getD (f .qids) 0 0) 3 h, le-leb (getD (f .qids) 1 0) 3 i)
+
+module _ (b : List ℕ) (f : Frame) where
+  pub three-product : 4 < acrossOf b * downOf b → false ≡ threeFit b f
+  three-product h = rw (lt-leb (acrossOf b * downOf b) 4 h)
+
+  module _ (small : acrossOf b * downOf b ≤ 4) where
+    pub three-12 : getD (f .ids) 0 0 ≡ getD (f .ids) 1 0 → false ≡ threeFit b f
+    three-12 h = rw (le-leb (acrossOf b * downOf b) 4 small, eq-eqb (getD (f .ids) 0 0) (getD (f .ids) 1 0) h)
+
+    module _ (apart12 : getD (f .ids) 0 0 ≡ getD (f .ids) 1 0 → ⊥) where
+      pub three-13 : getD (f .ids) 0 0 ≡ getD (f .ids) 2 0 → false ≡ threeFit b f
+      three-13 h = rw (le-leb (acrossOf b * downOf b) 4 small, ne-eqb (getD (f .ids) 0 0) (getD (f .ids) 1 0) apart12, eq-eqb (getD (f .ids) 0 0) (getD (f .ids) 2 0) h)
+
+      module _ (apart13 : getD (f .ids) 0 0 ≡ getD (f .ids) 2 0 → ⊥) where
+        pub three-23 : getD (f .ids) 1 0 ≡ getD (f .ids) 2 0 → false ≡ threeFit b f
+        three-23 h = rw (le-leb (acrossOf b * downOf b) 4 small, ne-eqb (getD (f .ids) 0 0) (getD (f .ids) 1 0) apart12, ne-eqb (getD (f .ids) 0 0) (getD (f .ids) 2 0) apart13, eq-eqb (getD (f .ids) 1 0) (getD (f .ids) 2 0) h)
+
+        module _ (apart23 : getD (f .ids) 1 0 ≡ getD (f .ids) 2 0 → ⊥) where
+          pub three-second : (byte b 10 ≡ 17 → ⊥) → false ≡ threeFit b f
+          three-second h = rw (le-leb (acrossOf b * downOf b) 4 small, ne-eqb (getD (f .ids) 0 0) (getD (f .ids) 1 0) apart12, ne-eqb (getD (f .ids) 0 0) (getD (f .ids) 2 0) apart13, ne-eqb (getD (f .ids) 1 0) (getD (f .ids) 2 0) apart23, ne-eqb (byte b 10) 17 h)
+
+          pub three-third : byte b 10 ≡ 17 → eqb (byte b 13) 17 ≡ threeFit b f
+          three-third h = rw (le-leb (acrossOf b * downOf b) 4 small, ne-eqb (getD (f .ids) 0 0) (getD (f .ids) 1 0) apart12, ne-eqb (getD (f .ids) 0 0) (getD (f .ids) 2 0) apart13, ne-eqb (getD (f .ids) 1 0) (getD (f .ids) 2 0) apart23, eq-eqb (byte b 10) 17 h)
+
+-- a frame's test by the outcome of each of its parts
+module _ (b : List ℕ) (f : Frame) where
+  pub fits-wide : f .width ≡ 0 → false ≡ frameFits b f
+  fits-wide h = rw (le-ltb 0 (f .width) (omega arith))
+
+  module _ (wide : f .width ≡ 0 → ⊥) where
+    pub fits-high : f .height ≡ 0 → false ≡ frameFits b f
+    fits-high h = rw (lt-ltb 0 (f .width) (omega arith), le-ltb 0 (f .height) (omega arith))
+
+    module _ (high : f .height ≡ 0 → ⊥) where
+      sides : (r : Bool) → r ≡ (within 1 4 (acrossOf b) and within 1 4 (downOf b) and quantsFit f and (eqb (f .channels) 1 or threeFit b f)) → r ≡ frameFits b f
+      sides r e = rw (lt-ltb 0 (f .width) (omega arith), lt-ltb 0 (f .height) (omega arith)) e
+
+      pub fits-across : within 1 4 (acrossOf b) ≡ false → false ≡ frameFits b f
+      fits-across h = sides false (rest _ _ h)
+        where
+          rest : (x y : Bool) → x ≡ false → false ≡ (x and y)
+          rest x y e = rw e
+
+      module _ (across : within 1 4 (acrossOf b) ≡ true) where
+        tail : (x y r : Bool) → x ≡ true → r ≡ y → r ≡ (x and y)
+        tail x y r e q = rw e q
+
+        none : (x y : Bool) → x ≡ false → false ≡ (x and y)
+        none x y e = rw e
+
+        pub fits-down : within 1 4 (downOf b) ≡ false → false ≡ frameFits b f
+        fits-down h = sides false (tail (within 1 4 (acrossOf b)) _ _ across (none (within 1 4 (downOf b)) _ h))
+
+        module _ (down : within 1 4 (downOf b) ≡ true) where
+          pub fits-quants : quantsFit f ≡ false → false ≡ frameFits b f
+          fits-quants h = sides false (tail (within 1 4 (acrossOf b)) _ _ across (tail (within 1 4 (downOf b)) _ _ down (none (quantsFit f) _ h)))
+
+          module _ (quants : quantsFit f ≡ true) where
+            pub fits-one : f .channels ≡ 1 → true ≡ frameFits b f
+            fits-one h = sides true (tail (within 1 4 (acrossOf b)) _ _ across (tail (within 1 4 (downOf b)) _ _ down (tail (quantsFit f) _ _ quants (rw (eq-eqb (f .channels) 1 h)))))
+
+            pub fits-three : (f .channels ≡ 1 → ⊥) → threeFit b f ≡ frameFits b f
+            fits-three h = sides (threeFit b f) (tail (within 1 4 (acrossOf b)) _ _ across (tail (within 1 4 (downOf b)) _ _ down (tail (quantsFit f) _ _ quants (rw (ne-eqb (f .channels) 1 h)))))
+
+-- the frame, as the code puts it together
+pub frame-made :
+    (b : List ℕ) (c s w h hs vs : ℕ) (ids qids : List ℕ)
+    → c ≡ byte b 5 → s ≡ byte b 7 → w ≡ word b 3 → h ≡ word b 1
+    → hs ≡ cond (eqb c 1) 1 (s / 16) → vs ≡ cond (eqb c 1) 1 (s % 16)
+    → ids ≡ each c (λ k. byte b (6 + 3 * k)) → qids ≡ each c (λ k. byte b (8 + 3 * k))
+    → record { width = w; height = h; channels = c; hs = hs; vs = vs; ids = ids; qids = qids } ≡ frameOf b
+frame-made b c s w h hs vs ids qids ec es ew eh ehs evs ei eq = rw (ew, eh, ehs, evs, ei, eq, es, ec)
+
+-- a list of three, by its entries
+pub three-made : {i j k x y z : ℕ} → i ≡ x → j ≡ y → k ≡ z → _≡_ {A = List ℕ} (i ∷ j ∷ k ∷ []) (x ∷ y ∷ z ∷ [])
+three-made p q r = rw (p, q, r)
+
+-- three bytes of a body, one for each channel
+pub each-made : (n i j k : ℕ) (f : ℕ → ℕ) → i ≡ f 0 → j ≡ f 1 → k ≡ f 2 → each n (λ c. getD (i ∷ j ∷ k ∷ []) c 0) ≡ each n f
+each-made n i j k f p q r = rw (p, q, r)
+
+-- ---- the scan's tests
+
+module _ (b : List ℕ) (ch : ℕ) where
+  pub scan-count : (byte b 0 ≡ ch → ⊥) → false ≡ scanKnown b ch
+  scan-count h = rw (ne-eqb (byte b 0) ch h)
+
+  module _ (count : byte b 0 ≡ ch) where
+    pub scan-length : (length b ≡ 4 + 2 * ch → ⊥) → false ≡ scanKnown b ch
+    scan-length h = rw (eq-eqb (byte b 0) ch count, ne-eqb (length b) (4 + 2 * ch) h)
+
+    module _ (whole : length b ≡ 4 + 2 * ch) where
+      last-three : (r : Bool) → r ≡ sequential b ch → r ≡ scanKnown b ch
+      last-three r e = rw (eq-eqb (byte b 0) ch count, eq-eqb (length b) (4 + 2 * ch) whole) e
+
+      pub scan-start : (byte b (1 + 2 * ch) ≡ 0 → ⊥) → false ≡ scanKnown b ch
+      scan-start h = last-three false (rw (ne-eqb (byte b (1 + 2 * ch)) 0 h))
+
+      module _ (start : byte b (1 + 2 * ch) ≡ 0) where
+        pub scan-stop : (byte b (2 + 2 * ch) ≡ 63 → ⊥) → false ≡ scanKnown b ch
+        scan-stop h = last-three false (rw (eq-eqb (byte b (1 + 2 * ch)) 0 start, ne-eqb (byte b (2 + 2 * ch)) 63 h))
+
+        pub scan-last : byte b (2 + 2 * ch) ≡ 63 → eqb (byte b (3 + 2 * ch)) 0 ≡ scanKnown b ch
+        scan-last h = last-three (eqb (byte b (3 + 2 * ch)) 0) (rw (eq-eqb (byte b (1 + 2 * ch)) 0 start, eq-eqb (byte b (2 + 2 * ch)) 63 h))
+
+  pub scan-few : scanKnown b ch ≡ true → byte b 0 ≡ ch
+  scan-few e = eqb-true (byte b 0) ch (and-both (eqb (byte b 0) ch) _ e .0)
+
+-- what is asked of one channel
+abbrev pub orderedAt : List ℕ → List ℕ → ℕ → Bool
+orderedAt b ids c = eqb (byte b (1 + 2 * c)) (getD ids c 0)
+
+abbrev pub selectedAt : List ℕ → ℕ → Bool
+selectedAt b c = leb (dcId b c) 3 and leb (acId b c) 3
+
+abbrev pub standsIn : Record → ℕ → Bool
+standsIn r c = ltb 0 (quantAt r c) and ltb 0 (dcAt r c) and ltb 0 (acAt r c)
+
+pub zero-no : (r x : ℕ) → r ≡ x → r ≡ 0 → ltb 0 x ≡ false
+zero-no r x e z = le-ltb 0 x (omega arith)
+
+pub above-yes : (r x : ℕ) → r ≡ x → (r ≡ 0 → ⊥) → ltb 0 x ≡ true
+above-yes r x e z = lt-ltb 0 x (omega arith)
+
+pub both-yes : (x y : Bool) → x ≡ true → y ≡ true → (x and y) ≡ true
+both-yes x y p q = rw (p, q)
+
+pub first-no : (x y : Bool) → x ≡ false → (x and y) ≡ false
+first-no x y p = rw p
+
+pub second-no : (x y : Bool) → x ≡ true → y ≡ false → (x and y) ≡ false
+second-no x y p q = rw (p, q)

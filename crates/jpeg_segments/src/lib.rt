@@ -1,0 +1,362 @@
+// The rules on the body of a marker segment, before any state: each is a test, or a value that a body gives. A body is the bytes
+// behind the segment's length; behind its end every byte counts as 0, here as in the definitions, so a reader asks for no length.
+// The steps from SOI to SOS stand on these.
+ghost use mathlib.Core.Path.{_≡_};
+ghost use mathlib.Core.Bool.{cond};
+ghost use mathlib.Core.List.{[], _∷_};
+ghost use lib.Dec.{ltb, eqb};
+ghost use lib.ListN.{getD};
+ghost use Rattle.reading.specs.Tests.{all, within};
+ghost use Rattle.reading.specs.Huffman.{sum};
+ghost use Rattle.reading.specs.Tables.{chosen};
+ghost use Rattle.reading.specs.Header.{byte, word, each, quantizerFits, countsOf, tableFits, frameKnown, frameOf, quantsFit, threeFit, frameFits, scanKnown, inOrder, selected, complete};
+use reading::Frame;
+use reading::Record;
+
+// ---- bytes and entries; 0 behind the end
+
+fn wide(x: u8) -> usize
+    ensures { λ r. ⌜ r ≡ x ⌝ }
+{
+    x as usize
+}
+
+pub fn byte_at(body: &[u8], place: usize) -> usize
+    ensures { λ r. ⌜ r ≡ byte (now (body .entry)) place ⌝ }
+{
+    if place < body.len() {
+        wide(body[place])
+    } else {
+        0
+    }
+}
+
+// two bytes, high byte first
+pub fn word_at(body: &[u8], place: usize) -> usize
+    ensures { λ r. ⌜ r ≡ word (now (body .entry)) place ⌝ }
+{
+    if place < body.len() {
+        let high = byte_at(body, place);
+        let low = byte_at(body, place + 1);
+        256 * high + low
+    } else {
+        0
+    }
+}
+
+fn entry_at(list: &[usize], place: usize) -> usize
+    ensures { λ r. ⌜ r ≡ getD (now (list .entry)) place 0 ⌝ }
+{
+    if place < list.len() { list[place] } else { 0 }
+}
+
+// ---- what a frame and a scan say of each channel
+
+// x for a channel below the count, else 0
+fn kept(channel: usize, channels: usize, x: usize) -> usize
+    ensures { λ r. ⌜ r ≡ cond (ltb channel channels) x 0 ⌝ }
+{
+    if channel < channels { x } else { 0 }
+}
+
+// a number for each of three channels; 0 behind the last
+pub fn each(channels: usize, first: usize, second: usize, third: usize) -> [usize; 3]
+    ensures { λ r. ⌜ r ≡ each channels (λ c. getD (first ∷ second ∷ third ∷ []) c 0) ⌝ }
+{
+    [
+        kept(0, channels, first),
+        kept(1, channels, second),
+        kept(2, channels, third),
+    ]
+}
+
+// ---- quantizers
+
+fn nonzero(bytes: &[u8]) -> bool
+    ensures { λ r. ⌜ r ≡ all (ltb 0) (now (bytes .entry)) ⌝ }
+{
+    let mut i: usize = 0;
+    while i < bytes.len() {
+        if bytes[i] == 0 {
+            return false;
+        }
+        i += 1;
+    }
+    true
+}
+
+// an id 0..3 and 64 nonzero bytes
+pub fn quantizer_fits(body: &[u8]) -> bool
+    ensures { λ r. ⌜ r ≡ quantizerFits (now (body .entry)) ⌝ }
+{
+    if body.len() < 65 {
+        return false;
+    }
+    if 3 < byte_at(body, 0) {
+        return false;
+    }
+    nonzero(&body[1..65])
+}
+
+// ---- Huffman tables
+
+// how many symbols the table in front of a body has: the sum of the 16 counts behind its first byte
+pub fn symbols(body: &[u8]) -> usize
+    ensures { λ r. ⌜ r ≡ sum (countsOf (now (body .entry))) ⌝ }
+{
+    let mut total: usize = 0;
+    let mut place: usize = 1;
+    while place < 17 {
+        total += byte_at(body, place);
+        place += 1;
+    }
+    total
+}
+
+// class 0 or 1, id 0..3, 16 counts, 1 to 256 symbols, all inside the body, and the codes fit
+pub fn table_fits(body: &[u8]) -> bool
+    ensures { λ r. ⌜ r ≡ tableFits (now (body .entry)) ⌝ }
+{
+    if body.len() < 17 {
+        return false;
+    }
+    let first = byte_at(body, 0);
+    if 1 < first / 16 {
+        return false;
+    }
+    if 3 < first % 16 {
+        return false;
+    }
+    let count = symbols(body);
+    if count < 1 {
+        return false;
+    }
+    if 256 < count {
+        return false;
+    }
+    if body.len() < 17 + count {
+        return false;
+    }
+    jpeg_huffman::fits(&body[1..17])
+}
+
+// ---- the frame
+
+// long enough to hold a count, 8 bits, one channel or three
+pub fn frame_known(body: &[u8]) -> bool
+    ensures { λ r. ⌜ r ≡ frameKnown (now (body .entry)) ⌝ }
+{
+    if body.len() < 6 {
+        return false;
+    }
+    if byte_at(body, 0) != 8 {
+        return false;
+    }
+    let channels = byte_at(body, 5);
+    if channels == 1 {
+        return true;
+    }
+    channels == 3
+}
+
+// one channel counts as 1 x 1
+fn factor(channels: usize, sampling: usize) -> usize
+    ensures { λ r. ⌜ r ≡ cond (eqb channels 1) 1 sampling ⌝ }
+{
+    if channels == 1 { 1 } else { sampling }
+}
+
+pub fn frame_of(body: &[u8]) -> Frame
+    ensures { λ r. ⌜ r ≡ frameOf (now (body .entry)) ⌝ }
+{
+    let channels = byte_at(body, 5);
+    let sampling = byte_at(body, 7);
+    let ids = each(
+        channels,
+        byte_at(body, 6),
+        byte_at(body, 9),
+        byte_at(body, 12),
+    );
+    let qids = each(
+        channels,
+        byte_at(body, 8),
+        byte_at(body, 11),
+        byte_at(body, 14),
+    );
+    Frame {
+        width: word_at(body, 3),
+        height: word_at(body, 1),
+        channels: channels,
+        hs: factor(channels, sampling / 16),
+        vs: factor(channels, sampling % 16),
+        ids: ids,
+        qids: qids,
+    }
+}
+
+fn sampling_fits(n: usize) -> bool
+    ensures { λ r. ⌜ r ≡ within 1 4 n ⌝ }
+{
+    if n < 1 {
+        return false;
+    }
+    n <= 4
+}
+
+// quantizer ids 0..3, for every channel
+fn quants_fit(frame: Frame) -> bool
+    ensures { λ r. ⌜ r ≡ quantsFit frame ⌝ }
+{
+    let qids = frame.qids;
+    if 3 < qids[0] {
+        return false;
+    }
+    if 3 < qids[1] {
+        return false;
+    }
+    qids[2] <= 3
+}
+
+// in three channels: a sampling product up to 4, component ids apart, second and third sampling byte 17
+fn three_fit(body: &[u8], frame: Frame) -> bool
+    ensures { λ r. ⌜ r ≡ threeFit (now (body .entry)) frame ⌝ }
+{
+    let ids = frame.ids;
+    let first = ids[0];
+    let second = ids[1];
+    let third = ids[2];
+    let sampling = byte_at(body, 7);
+    if 4 < (sampling / 16) * (sampling % 16) {
+        return false;
+    }
+    if first == second {
+        return false;
+    }
+    if first == third {
+        return false;
+    }
+    if second == third {
+        return false;
+    }
+    if byte_at(body, 10) != 17 {
+        return false;
+    }
+    byte_at(body, 13) == 17
+}
+
+// no zero side, sampling 1..4, quantizer ids 0..3, and what three channels ask
+pub fn frame_fits(body: &[u8], frame: Frame) -> bool
+    ensures { λ r. ⌜ r ≡ frameFits (now (body .entry)) frame ⌝ }
+{
+    if frame.width == 0 {
+        return false;
+    }
+    if frame.height == 0 {
+        return false;
+    }
+    let sampling = byte_at(body, 7);
+    if !sampling_fits(sampling / 16) {
+        return false;
+    }
+    if !sampling_fits(sampling % 16) {
+        return false;
+    }
+    if !quants_fit(frame) {
+        return false;
+    }
+    if frame.channels == 1 {
+        return true;
+    }
+    three_fit(body, frame)
+}
+
+// ---- the scan
+
+// the frame's count of components, a body as long as that asks, and 0 63 0 at its end
+pub fn scan_known(body: &[u8], channels: usize) -> bool
+    ensures { λ r. ⌜ r ≡ scanKnown (now (body .entry)) channels ⌝ }
+{
+    if byte_at(body, 0) != channels {
+        return false;
+    }
+    if body.len() != 4 + 2 * channels {
+        return false;
+    }
+    if byte_at(body, 1 + 2 * channels) != 0 {
+        return false;
+    }
+    if byte_at(body, 2 + 2 * channels) != 63 {
+        return false;
+    }
+    byte_at(body, 3 + 2 * channels) == 0
+}
+
+// the components that the scan counts are the frame's, in its order
+pub fn in_order(body: &[u8], ids: &[usize]) -> bool
+    ensures { λ r. ⌜ r ≡ inOrder (now (body .entry)) (now (ids .entry)) (byte (now (body .entry)) 0) ⌝ }
+{
+    let channels = byte_at(body, 0);
+    let mut c: usize = 0;
+    while c < channels {
+        let id = byte_at(body, 1 + 2 * c);
+        if id != entry_at(ids, c) {
+            return false;
+        }
+        c += 1;
+    }
+    true
+}
+
+// both table ids of each component that the scan counts are at most 3
+pub fn selected(body: &[u8]) -> bool
+    ensures { λ r. ⌜ r ≡ selected (now (body .entry)) (byte (now (body .entry)) 0) ⌝ }
+{
+    let channels = byte_at(body, 0);
+    let mut c: usize = 0;
+    while c < channels {
+        let ids = byte_at(body, 2 + 2 * c);
+        if 3 < ids / 16 {
+            return false;
+        }
+        if 3 < ids % 16 {
+            return false;
+        }
+        c += 1;
+    }
+    true
+}
+
+// where the table of a channel stands, by the channel's id; 0 where it is absent
+fn place_of(places: &[usize], ids: &[usize], channel: usize) -> usize
+    ensures { λ r. ⌜ r ≡ chosen (now (places .entry)) (now (ids .entry)) channel ⌝ }
+{
+    let id = entry_at(ids, channel);
+    entry_at(places, id)
+}
+
+// every channel has its quantizer and its two Huffman tables
+pub fn complete(found: Record) -> bool
+    ensures { λ r. ⌜ r ≡ complete found ⌝ }
+{
+    let qids = found.qids;
+    let dcids = found.dcids;
+    let acids = found.acids;
+    let quants = found.quants;
+    let dcs = found.dcs;
+    let acs = found.acs;
+    let channels = found.channels;
+    let mut c: usize = 0;
+    while c < channels {
+        if place_of(&quants, &qids, c) == 0 {
+            return false;
+        }
+        if place_of(&dcs, &dcids, c) == 0 {
+            return false;
+        }
+        if place_of(&acs, &acids, c) == 0 {
+            return false;
+        }
+        c += 1;
+    }
+    true
+}

@@ -1,0 +1,3 @@
+-- What the transform's parts compute, over the definitions of `reading`.
+pub mod Halves
+pub mod Passes

@@ -1,0 +1,11 @@
+pub mod Bytes
+pub mod Signs
+pub mod Forwards
+pub mod Digits
+pub mod Writing
+pub mod Turns
+pub mod Symbols
+pub mod Filled
+pub mod Coders
+pub mod Lengths
+pub mod Measured

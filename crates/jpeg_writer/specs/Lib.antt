@@ -1,0 +1,4 @@
+pub mod Page
+pub mod Words
+pub mod Steps
+pub mod Join

@@ -1,0 +1,396 @@
+// Writing a settled scan: bits into bytes, the words of a table's codes, blocks, padding and markers. It carries the rules' part
+// on the settled scan. A byte is stored where the lent buffer has room and is counted in any case, so that one path both
+// measures and writes.
+ghost use mathlib.Core.Path.{_≡_};
+ghost use mathlib.Core.List.{[], _∷_};
+ghost use Prim.Native.Nat.{_+_, _≤_, _<_, _^_};
+ghost use lib.IntN.{natAbs};
+ghost use lib.ListN.{length, getD, replicate};
+ghost use Rattle.reading.specs.Huffman.{bitsOf, tableAt};
+ghost use Rattle.reading.specs.Settled.{fieldOf, blockBy};
+ghost use Rattle.jpeg_writer.specs.Page.{spot, byteAt, stuffedAt, bytesAt, page, fresh, Proper, Grown, Puts, closedAt, restarted};
+ghost use Rattle.jpeg_writer.specs.Words.{codeWords, wordCode, coderOf, kept};
+ghost use Rattle.jpeg_writer.specs.Steps.{categoryOf, zerosAt, over, valueAt, turnAt, wordAt};
+
+// Where the next byte goes, the value of the bits that wait for it, and how many bits it still wants, 1 to 8.
+struct Pen {
+    at: usize,
+    value: usize,
+    missing: usize,
+}
+
+impl Pen {
+    // before the first bit of the byte at `at`
+    fn fresh(at: usize) -> Self
+        ensures { λ r. ⌜ r ≡ fresh at ⌝ }
+    {
+        Self {
+            at: at,
+            value: 0,
+            missing: 8,
+        }
+    }
+}
+
+// The pen behind what was written; or a code was wanting.
+enum Outcome {
+    Done(Pen),
+    NoCode,
+}
+
+// A byte, stored where there is room, and counted in any case.
+fn put_byte(out: &mut [u8], at: usize, x: u8) -> usize
+    ensures { λ r. ⌜ spot (now (out .exit)) r ≡ byteAt (spot (now (out .entry)) at) x ⌝ }
+{
+    if at < out.len() {
+        out[at] = x;
+        return at + 1;
+    }
+    if at < 18446744073709551615 {
+        return at + 1;
+    }
+    at
+}
+
+// A data byte: 0 follows 255.
+fn put_data(out: &mut [u8], at: usize, x: u8) -> usize
+    ensures { λ r. ⌜ spot (now (out .exit)) r ≡ stuffedAt (spot (now (out .entry)) at) x ⌝ }
+{
+    let next = put_byte(out, at, x);
+    if x == 255 {
+        return put_byte(out, next, 0);
+    }
+    next
+}
+
+// 2 ^ n.
+fn power(n: usize) -> usize
+    requires { ⌜ n ≤ 32 ⌝ }
+    ensures { λ r. ⌜ r ≡ 2 ^ n ⌝ }
+{
+    1 << n
+}
+
+// The low n bits of x, highest first. Each turn fills a byte: there are at most four.
+fn put(out: &mut [u8], p: Pen, x: usize, n: usize) -> Pen
+    requires { ⌜ Proper p × (n ≤ 32) ⌝ }
+    ensures { λ r. ⌜ Grown (page (now (out .entry)) p) (bitsOf n x) (page (now (out .exit)) r) ⌝ }
+{
+    let mut at = p.at;
+    let mut value = p.value;
+    let mut missing = p.missing;
+    let mut left = n;
+    while missing <= left {
+        left = left - missing;
+        let full = power(missing);
+        let byte = value * full + (x / power(left)) % full;
+        at = put_data(out, at, byte as u8);
+        value = 0;
+        missing = 8;
+    }
+    let full = power(left);
+    Pen {
+        at: at,
+        value: value * full + x % full,
+        missing: missing - left,
+    }
+}
+
+// The last byte, with ones behind its bits: the place after it.
+fn finish(out: &mut [u8], p: Pen) -> usize
+    requires { ⌜ Proper p ⌝ }
+    ensures { λ r. ⌜ spot (now (out .exit)) r ≡ closedAt (page (now (out .entry)) p) ⌝ }
+{
+    let missing = p.missing;
+    if missing == 8 {
+        return p.at;
+    }
+    let full = power(missing);
+    let byte = p.value * full + (full - 1);
+    put_data(out, p.at, byte as u8)
+}
+
+// 255 and a code.
+fn put_marker(out: &mut [u8], at: usize, code: u8) -> usize
+    ensures { λ r. ⌜ spot (now (out .exit)) r ≡ bytesAt (spot (now (out .entry)) at) (255 ∷ code ∷ []) ⌝ }
+{
+    let next = put_byte(out, at, 255);
+    put_byte(out, next, code)
+}
+
+// Padding and a restart marker: a fresh pen behind them.
+fn restart(out: &mut [u8], p: Pen, code: u8) -> Pen
+    requires { ⌜ Proper p ⌝ }
+    ensures { λ r. ⌜ page (now (out .exit)) r ≡ restarted (page (now (out .entry)) p) code ⌝ }
+{
+    let at = finish(out, p);
+    let next = put_marker(out, at, code);
+    Pen::fresh(next)
+}
+
+// Padding and the last marker: the place behind it.
+fn put_end(out: &mut [u8], p: Pen) -> usize
+    requires { ⌜ Proper p ⌝ }
+    ensures { λ r. ⌜ spot (now (out .exit)) r ≡ bytesAt (closedAt (page (now (out .entry)) p)) (255 ∷ 217 ∷ []) ⌝ }
+{
+    let at = finish(out, p);
+    put_marker(out, at, 217)
+}
+
+// No symbol has a word yet.
+fn clear(words: &mut [u32])
+    ensures { λ r. ⌜ now (words .exit) ≡ replicate (length (now (words .entry))) 0 ⌝ }
+{
+    let mut i = 0usize;
+    while i < words.len() {
+        words[i] = 0;
+        i += 1;
+    }
+}
+
+// The first word that a symbol is given stays.
+fn keep(words: &mut [u32], x: usize, word: u32)
+    ensures { λ r. ⌜ now (words .exit) ≡ kept (now (words .entry)) x word ⌝ }
+{
+    if x < words.len() {
+        if words[x] == 0 {
+            words[x] = word;
+        }
+    }
+}
+
+// The words of the table at `base`, in one pass over its symbols: `left` more codes have `bits` bits, and `code` is the next.
+fn fill(t: &[u8], base: usize, words: &mut [u32])
+    requires { ⌜ (base + 16 ≤ length (now t)) × (now words ≡ replicate (length (now words)) 0) ⌝ }
+    ensures { λ r. ⌜ now (words .exit) ≡ codeWords (tableAt (now (t .entry)) base) (length (now (words .entry))) ⌝ }
+{
+    let mut at = base + 16;
+    let mut bits = 0usize;
+    let mut left = 0usize;
+    let mut code = 0usize;
+    'walk: loop {
+        if left == 0 {
+            if bits == 16 {
+                break 'walk;
+            }
+            left = t[base + bits] as usize;
+            bits += 1;
+            code = 2 * code;
+        } else {
+            if t.len() <= at {
+                break 'walk;
+            }
+            let word = 65536 * bits + code % power(bits);
+            keep(words, t[at] as usize, word as u32);
+            at += 1;
+            left -= 1;
+            code += 1;
+        }
+    }
+}
+
+// For each symbol below the number of words its first code in the table at `base` of t: 65536 times its length, and the code; 0
+// where the table lists no such symbol.
+pub fn codes(t: &[u8], base: usize, words: &mut [u32])
+    ensures { λ r. ⌜ now (words .exit) ≡ codeWords (tableAt (now (t .entry)) base) (length (now (words .entry))) ⌝ }
+{
+    clear(words);
+    if t.len() < 16 {
+        return;
+    }
+    if t.len() - 16 < base {
+        return;
+    }
+    fill(t, base, words);
+}
+
+// The word of a symbol; 0 behind the last.
+fn word_of(words: &[u32], x: usize) -> usize
+    ensures { λ r. ⌜ r ≡ getD (now (words .entry)) x 0 ⌝ }
+{
+    if x < words.len() {
+        return words[x] as usize;
+    }
+    0
+}
+
+// The word of a symbol that stands at a place: the first place has a table of its own.
+fn word_at(dc: &[u32], ac: &[u32], place: usize, x: usize) -> usize
+    ensures { λ r. ⌜ r ≡ wordAt (now (dc .entry)) (now (ac .entry)) place x ⌝ }
+{
+    if place == 0 {
+        return word_of(dc, x);
+    }
+    word_of(ac, x)
+}
+
+// The code of a word, and the low `size` bits of a field behind it.
+fn put_symbol(out: &mut [u8], p: Pen, word: usize, field: usize, size: usize) -> Outcome
+    requires { ⌜ Proper p × (size ≤ 12) ⌝ }
+    ensures { λ r. ⌜ Puts (wordCode word field size) (page (now (out .entry)) p) r (now (out .exit)) ⌝ }
+{
+    let bits = word / 65536;
+    if bits == 0 {
+        return Outcome::NoCode;
+    }
+    if 16 < bits {
+        return Outcome::NoCode;
+    }
+    let full = power(size);
+    let x = (word % 65536) * full + field % full;
+    Outcome::Done(put(out, p, x, bits + size))
+}
+
+// The distance from 0.
+fn magnitude(d: i64) -> usize
+    requires { ⌜ natAbs d < 2 ^ 62 ⌝ }
+    ensures { λ r. ⌜ r ≡ natAbs d ⌝ }
+{
+    if d < 0 {
+        return (0 - d) as usize;
+    }
+    d as usize
+}
+
+// The smallest category, at most 12, of a value at the distance m from 0.
+fn category(m: usize) -> usize
+    ensures { λ r. ⌜ r ≡ categoryOf m ⌝ }
+{
+    if m < 4096 {
+        return 64 - usize::leading_zeros(m) as usize;
+    }
+    12
+}
+
+// The n-bit field that means d.
+fn field_of(n: usize, d: i64) -> usize
+    requires { ⌜ (n ≤ 12) × (natAbs d < 2 ^ 62) ⌝ }
+    ensures { λ r. ⌜ r ≡ fieldOf n d ⌝ }
+{
+    let m = magnitude(d);
+    if d < 0 {
+        let top = power(n) - 1;
+        if m <= top {
+            return top - m;
+        }
+        return 0;
+    }
+    m
+}
+
+// The value that stands for the level at a place: of the first its difference from the prediction.
+fn value_at(levels: &[i16], pred: i32, place: usize) -> i64
+    requires { ⌜ place < length (now levels) ⌝ }
+    ensures { λ r. ⌜ (r ≡ valueAt (now (levels .entry)) pred place) × (natAbs r < 2 ^ 62) ⌝ }
+{
+    if place == 0 {
+        return levels[0] as i64 - pred as i64;
+    }
+    levels[place] as i64
+}
+
+// How many levels from a place on are zero; none at the first place, whose level is written in any case.
+fn zeros_from(levels: &[i16], place: usize) -> usize
+    ensures { λ r. ⌜ r ≡ zerosAt (now (levels .entry)) place ⌝ }
+{
+    if place == 0 {
+        return 0;
+    }
+    let mut k = place;
+    'walk: loop {
+        if levels.len() <= k {
+            break 'walk k - place;
+        }
+        if levels[k] != 0 {
+            break 'walk k - place;
+        }
+        k += 1;
+    }
+}
+
+// All is written: the levels are at their end, and no zeros wait for the end code.
+fn is_over(count: usize, place: usize, run: usize) -> bool
+    ensures { λ r. ⌜ r ≡ over count place run ⌝ }
+{
+    if count <= place {
+        return run == 0;
+    }
+    false
+}
+
+// What is written next of a block: a symbol, the low `size` bits of a field behind it; and from which place on, behind how
+// many zeros, the block goes on.
+struct Turn {
+    symbol: usize,
+    field: usize,
+    size: usize,
+    place: usize,
+    run: usize,
+}
+
+// The end code behind the last level, 240 for sixteen of the zeros that wait, or a level that is not zero.
+fn next(levels: &[i16], pred: i32, place: usize, run: usize) -> Turn
+    ensures { λ r. ⌜ r ≡ turnAt (now (levels .entry)) pred place run ⌝ }
+{
+    if levels.len() <= place {
+        return Turn {
+            symbol: 0,
+            field: 0,
+            size: 0,
+            place: place,
+            run: 0,
+        };
+    }
+    if 16 <= run {
+        return Turn {
+            symbol: 240,
+            field: 0,
+            size: 0,
+            place: place,
+            run: run - 16,
+        };
+    }
+    let d = value_at(levels, pred, place);
+    let n = category(magnitude(d));
+    Turn {
+        symbol: 16 * run + n,
+        field: field_of(n, d),
+        size: n,
+        place: place + 1,
+        run: 0,
+    }
+}
+
+// A block of levels by the words of its two tables, behind the prediction. One turn for each level that is not zero, for each
+// 240 and for the end code. (No level at all lacks its code.)
+fn put_block(out: &mut [u8], p: Pen, dc: &[u32], ac: &[u32], levels: &[i16], pred: i32) -> Outcome
+    requires { ⌜ Proper p ⌝ }
+    ensures { λ r. ⌜ Puts (blockBy (coderOf (now (dc .entry))) (coderOf (now (ac .entry))) pred (now (levels .entry))) (page (now (out .entry)) p) r (now (out .exit)) ⌝ }
+{
+    if levels.len() == 0 {
+        return Outcome::NoCode;
+    }
+    let mut q = p;
+    let mut place = 0usize;
+    let mut run = 0usize;
+    'walk: loop {
+        let zeros = zeros_from(levels, place);
+        place += zeros;
+        run += zeros;
+        if is_over(levels.len(), place, run) {
+            break 'walk Outcome::Done(q);
+        }
+        let turn = next(levels, pred, place, run);
+        let word = word_at(dc, ac, place, turn.symbol);
+        match put_symbol(out, q, word, turn.field, turn.size) {
+            Outcome::NoCode => {
+                break 'walk Outcome::NoCode;
+            }
+            Outcome::Done(t) => {
+                q = t;
+                place = turn.place;
+                run = turn.run;
+            }
+        }
+    }
+}

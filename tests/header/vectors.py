@@ -1,0 +1,600 @@
+#!/usr/bin/env python3
+"""Header vectors: files, and what the rules answer for each.
+
+Makes the two files of the program `header_vectors`: `stdin`, the list of vectors that it runs, and `stdout`, the lines that it
+must write. Nothing here comes from the library. A vector's number is written down beside it, or follows from a formula that
+stands beside its group; `read_header` below reads the rules once more, gives the record of an accepted file, and must agree with
+each number.
+
+    vectors.py           writes both files
+    vectors.py --check   compares them with what is there; exit 1 where they differ
+    vectors.py --list    the names, numbers and lengths
+
+The list of vectors: two bytes say where the vectors start; before that stands a store of bytes. A vector is a count of parts, for
+each part its place in the store and its length (two bytes each), the colour choice, a count of patches, and for each patch a place
+in the file (two bytes) and a value. The file is the parts one behind another, then patched. Numbers have the high byte first.
+A line has the vector's place in the list and its number, and for an accepted one the record, field by field.
+"""
+
+import sys
+from pathlib import Path
+
+CUT, MALFORMED, UNSUPPORTED = 3, 4, 5
+FOLDER = Path(__file__).resolve().parents[2] / "crates" / "header_vectors"
+
+
+# ---- the rules, read once more
+
+
+class Refused(Exception):
+    def __init__(self, number):
+        super().__init__(number)
+        self.number = number
+
+
+def demand(holds, number):
+    if not holds:
+        raise Refused(number)
+
+
+def segments(file):
+    """Code, body and the body's place of each marker segment, for as long as the tests on markers and lengths pass."""
+    demand(file[:2] == b"\xff\xd8", MALFORMED)
+    at = 2
+    while True:
+        while file[at : at + 2] == b"\xff\xff":
+            at += 1
+        demand(len(file) >= at + 2 and file[at] == 255, MALFORMED)
+        code = file[at + 1]
+        demand(code != 217, MALFORMED)
+        demand(len(file) >= at + 4, CUT)
+        length = int.from_bytes(file[at + 2 : at + 4], "big")
+        demand(length >= 2 and at + 2 + length <= len(file), CUT)
+        yield code, file[at + 4 : at + 2 + length], at + 4
+        at += 2 + length
+
+
+def quantizer_places(body, place):
+    demand(body, MALFORMED)
+    found = {}
+    for k in range(0, len(body), 65):
+        table = body[k : k + 65]
+        demand(len(table) == 65 and table[0] <= 3 and 0 not in table[1:], MALFORMED)
+        found[table[0]] = place + k + 1
+    return found
+
+
+def huffman_places(body, place):
+    demand(body, MALFORMED)
+    found = {}
+    k = 0
+    while k < len(body):
+        counts = body[k + 1 : k + 17]
+        kind, name = divmod(body[k], 16)
+        demand(len(counts) == 16 and kind <= 1 and name <= 3, MALFORMED)
+        demand(1 <= sum(counts) <= 256 and k + 17 + sum(counts) <= len(body), MALFORMED)
+        # how much of the code space is spent, in parts of 2^16: all ones of no length may be spent
+        spent = 0
+        for length, count in enumerate(counts, 1):
+            spent += count << (16 - length)
+            demand(spent <= (1 << 16) - (1 << (16 - length)), MALFORMED)
+        found[kind, name] = place + k + 1
+        k += 17 + sum(counts)
+    return found
+
+
+def read_frame(body):
+    demand(len(body) >= 6 and body[0] == 8 and body[5] in (1, 3), UNSUPPORTED)
+    channels = body[5]
+    demand(len(body) == 6 + 3 * channels, MALFORMED)
+    height, width = int.from_bytes(body[1:3], "big"), int.from_bytes(body[3:5], "big")
+    ids, samplings, quants = body[6::3], body[7::3], body[8::3]
+    hs, vs = divmod(samplings[0], 16)
+    demand(width and height and hs in range(1, 5) and vs in range(1, 5) and max(quants) <= 3, UNSUPPORTED)
+    if channels == 1:
+        hs = vs = 1
+    else:
+        demand(hs * vs <= 4 and len(set(ids)) == 3 and samplings[1:] == b"\x11\x11", UNSUPPORTED)
+    return dict(width=width, height=height, channels=channels, hs=hs, vs=vs, ids=list(ids), qids=list(quants))
+
+
+def read_header(file, colour):
+    """The record of a file as a dictionary, or Refused."""
+    frame, interval = None, 0
+    quants, tables = {}, {}
+    for code, body, place in segments(file):
+        if code in (192, 193):
+            demand(frame is None, MALFORMED)
+            frame = read_frame(body)
+        elif code == 196:
+            tables |= huffman_places(body, place)
+        elif code == 219:
+            quants |= quantizer_places(body, place)
+        elif code == 221:
+            demand(len(body) == 2, MALFORMED)
+            interval = int.from_bytes(body, "big")
+        elif code == 218:
+            break
+        else:
+            demand(224 <= code <= 239 or code == 254, UNSUPPORTED)
+    demand(frame is not None, MALFORMED)
+    channels = frame["channels"]
+    demand(len(body) == 4 + 2 * channels and body[0] == channels and body[-3:] == b"\x00\x3f\x00", UNSUPPORTED)
+    named, chosen = list(body[1:-3:2]), [divmod(b, 16) for b in body[2:-3:2]]
+    demand(named == frame["ids"], MALFORMED)
+    demand(all(dc <= 3 and ac <= 3 for dc, ac in chosen), UNSUPPORTED)
+    for quant, (dc, ac) in zip(frame["qids"], chosen):
+        demand(quant in quants and (0, dc) in tables and (1, ac) in tables, MALFORMED)
+    across, down = -(-frame["width"] // (8 * frame["hs"])), -(-frame["height"] // (8 * frame["vs"]))
+    blocks = across * down * (frame["hs"] * frame["vs"] + channels - 1)
+    output = frame["width"] * frame["height"] * channels
+    return dict(
+        frame,
+        dcids=[dc for dc, ac in chosen],
+        acids=[ac for dc, ac in chosen],
+        quants=[quants.get(i, 0) for i in range(4)],
+        dcs=[tables.get((0, i), 0) for i in range(4)],
+        acs=[tables.get((1, i), 0) for i in range(4)],
+        interval=interval,
+        start=place + len(body),
+        blocks=blocks,
+        scratch=64 * blocks,
+        output=output,
+        work=3136 * blocks + output,
+        colour=int(colour),
+    )
+
+
+def numbers(record):
+    """The record's fields, in the order of a line."""
+
+    def three(key):
+        return (record[key] + [0, 0])[:3]
+
+    return (
+        [record[k] for k in ("width", "height", "channels", "hs", "vs")]
+        + three("ids") + three("qids") + three("dcids") + three("acids")
+        + record["quants"] + record["dcs"] + record["acs"]
+        + [record[k] for k in ("interval", "start", "blocks", "scratch", "output", "work", "colour")]
+    )
+
+
+# ---- pieces of files
+
+SOI = b"\xff\xd8"
+ONES = [1] * 64
+ONE_CODE = [1] + [0] * 15
+
+
+def segment(code, body, length=None):
+    length = 2 + len(body) if length is None else length
+    return bytes([255, code]) + length.to_bytes(2, "big") + bytes(body)
+
+
+def dqt(*tables):
+    return segment(219, b"".join(bytes([name]) + bytes(values) for name, values in tables))
+
+
+def table(first, counts=ONE_CODE, symbols=(0,)):
+    return bytes([first]) + bytes(counts) + bytes(symbols)
+
+
+def dht(*tables):
+    return segment(196, b"".join(tables))
+
+
+def frame_body(width, height, components, precision=8, channels=None):
+    channels = len(components) if channels is None else channels
+    head = bytes([precision]) + height.to_bytes(2, "big") + width.to_bytes(2, "big") + bytes([channels])
+    return head + b"".join(bytes(c) for c in components)
+
+
+def sof(width, height, components, code=192, **others):
+    return segment(code, frame_body(width, height, components, **others))
+
+
+def scan_body(components, channels=None, last=(0, 63, 0)):
+    channels = len(components) if channels is None else channels
+    return bytes([channels]) + b"".join(bytes(c) for c in components) + bytes(last)
+
+
+def sos(components, **others):
+    return segment(218, scan_body(components, **others))
+
+
+def dri(interval):
+    return segment(221, interval.to_bytes(2, "big"))
+
+
+CODED = b"\x3f\xff\xd9"
+Q0, DC0, AC0 = dqt((0, ONES)), dht(table(0)), dht(table(16))
+GREY = [(1, 17, 0)]
+GREY_FRAME = sof(8, 8, GREY)
+GREY_SCAN = sos([(1, 0)])
+F = SOI + Q0 + GREY_FRAME + DC0 + AC0 + GREY_SCAN + CODED
+assert len(F) == 141
+
+# three channels, 20 x 10 at 2 x 2: two MCUs of six blocks; quantizers 0, 1, 1, tables 0, 1, 1
+YCC = [(1, 34, 0), (2, 17, 1), (3, 17, 1)]
+YCC_TABLES = dqt((0, ONES), (1, ONES)) + dht(table(0), table(16), table(1), table(17))
+YCC_FRAME = sof(20, 10, YCC)
+YCC_SCAN = sos([(1, 0), (2, 17), (3, 17)])
+COLOURS = SOI + YCC_TABLES + YCC_FRAME + YCC_SCAN + CODED
+
+
+def grey(*parts):
+    """SOI, the parts given, and the coded bytes."""
+    return SOI + b"".join(parts) + CODED
+
+
+def grey_with(frame=GREY_FRAME, scan=GREY_SCAN, quant=Q0, dc=DC0, ac=AC0, before=b"", after=b""):
+    """F with some of its segments replaced, and with segments before the frame and after the tables."""
+    return grey(quant, before, frame, dc, ac, after, scan)
+
+
+def ycc_with(frame=YCC_FRAME, scan=YCC_SCAN, tables=YCC_TABLES):
+    return grey(tables, frame, scan)
+
+
+def changed(base, *patches):
+    out = bytearray(base)
+    for place, value in patches:
+        out[place] = value
+    return bytes(out)
+
+
+# ---- the vectors: a name, the file as a base with patches and a length, the number
+
+vectors = []
+records = []
+
+
+def vector(name, file, number, record=None, colour=False, patches=(), length=None):
+    """`number` is what the rules say; `record`, where given, the whole record in the order of a line."""
+    vectors.append((name, bytes(file), tuple(patches), len(file) if length is None else length, bool(colour), number))
+    if record is not None:
+        records.append((len(vectors) - 1, record))
+
+
+# The two base files, their records written out by hand.
+F_RECORD = [8, 8, 1, 1, 1, 1, 0, 0, 0, 0, 0, 0, 0, 0, 0, 0, 0, 7, 0, 0, 0, 89, 0, 0, 0, 111, 0, 0, 0, 0, 138, 1, 64, 64, 3200]
+C_RECORD = [20, 10, 3, 2, 2, 1, 2, 3, 0, 1, 1, 0, 1, 1, 0, 1, 1, 7, 72, 0, 0, 141, 177, 0, 0, 159, 195, 0, 0, 0, 245, 12, 768, 600, 38232]
+for colour in (False, True):
+    vector("F", F, 0, F_RECORD + [int(colour)], colour)
+    vector("three channels", COLOURS, 0, C_RECORD + [int(colour)], colour)
+
+# SOI: the file opens 255 216, else 4; no fill before it.
+vector("empty", b"", MALFORMED)
+vector("one byte 255", b"\xff", MALFORMED)
+vector("first byte not 255", changed(F, (0, 254)), MALFORMED)
+vector("second byte not 216", changed(F, (1, 217)), MALFORMED)
+vector("fill before SOI", b"\xff" + F, MALFORMED)
+vector("SOI twice: 216 is any other code", SOI + F, CUT)
+vector("SOI as a segment", SOI + segment(216, b"") + F[2:], UNSUPPORTED)
+
+# Markers: fewer than two bytes or a first byte other than 255: 4.
+vector("nothing behind SOI", SOI, MALFORMED)
+vector("one byte behind SOI", SOI + b"\xff", MALFORMED)
+vector("a byte other than 255 behind SOI", changed(F, (2, 254)), MALFORMED)
+vector("a byte other than 255 alone", SOI + b"\x00", MALFORMED)
+vector("a byte other than 255 before 217", SOI + b"\x00\xd9", MALFORMED)
+vector("a byte other than 255 behind a segment", changed(F, (71, 0)), MALFORMED)
+
+# 217 is 4, wherever it stands and whatever its length.
+vector("217 alone", SOI + b"\xff\xd9", MALFORMED)
+vector("217 with a length of 0", SOI + segment(217, b"", 0), MALFORMED)
+vector("217 with a length past the end", SOI + segment(217, b"", 900), MALFORMED)
+vector("217 as a whole segment", SOI + segment(217, b"") + F[2:], MALFORMED)
+vector("217 behind the tables", grey(Q0, GREY_FRAME, DC0, AC0, b"\xff\xd9", GREY_SCAN), MALFORMED)
+
+# Fill: any number of 255 before a marker; a run of them to the end is 4.
+for count in (1, 2, 7, 100):
+    vector(f"{count} fill before the first marker", SOI + b"\xff" * count + F[2:], 0)
+    vector(f"{count} fill before the scan", F[:128] + b"\xff" * count + F[128:], 0)
+    vector(f"{count} of 255 to the end", SOI + b"\xff" * count, MALFORMED)
+vector("fill before every marker", grey(*(b"\xff" + part for part in (Q0, GREY_FRAME, DC0, AC0, GREY_SCAN))), 0)
+vector("fill, then no room for a length", SOI + b"\xff\xff\xe0\x00", CUT)
+vector("fill, then 217", SOI + b"\xff\xff\xd9", MALFORMED)
+
+# The length test: fewer than four bytes, a length below 2 or past the end: 3. It comes before every test of a body.
+for code, what in ((224, "skipped"), (192, "frame"), (196, "tables"), (219, "quantizers"), (218, "scan"), (221, "interval"), (0, "other")):
+    vector(f"{what}: three bytes", SOI + bytes([255, code, 0]), CUT)
+    vector(f"{what}: a length of 0", SOI + segment(code, b"", 0) + F[2:], CUT)
+    vector(f"{what}: a length of 1", SOI + segment(code, b"", 1) + F[2:], CUT)
+    vector(f"{what}: a length one past the end", SOI + segment(code, b"\x00" * 9, 12), CUT)
+vector("a second frame, past the end", grey(Q0, GREY_FRAME, segment(192, b"", 300)), CUT)
+vector("a second frame, a length of 1", grey(Q0, GREY_FRAME, segment(192, b"", 1)), CUT)
+vector("a scan with no frame, past the end", grey(Q0, segment(218, b"", 300)), CUT)
+vector("a length that ends with the file", SOI + segment(224, b"\x00" * 9), MALFORMED)
+
+# Every code, with no room for a length, as an empty segment, with a length of 1, and with one past the end.
+EMPTY = {192: UNSUPPORTED, 193: UNSUPPORTED, 196: MALFORMED, 217: MALFORMED, 218: MALFORMED, 219: MALFORMED, 221: MALFORMED}
+ROOM = SOI + segment(0, b"") + F[2:]
+for code in range(256):
+    vector(f"code {code}: no room", SOI + b"\xff\x00", MALFORMED if code in (217, 255) else CUT, patches=[(3, code)])
+    skipped = 224 <= code <= 239 or code == 254
+    # 255 is fill: the code behind it is 0, with the length 2 * 256 + 255
+    number = CUT if code == 255 else 0 if skipped else EMPTY.get(code, UNSUPPORTED)
+    vector(f"code {code}: an empty segment", ROOM, number, patches=[(3, code)])
+    # 255: the code 0 again, with the length 256 + 255
+    number = MALFORMED if code == 217 else CUT
+    vector(f"code {code}: a length of 1", ROOM, number, patches=[(3, code), (5, 1)])
+    # 255: the code 3, with the length 255 * 256 + 255
+    vector(f"code {code}: past the end", ROOM, number, patches=[(3, code), (4, 3), (5, 255)])
+
+# F cut at every byte: 4 at a segment's first two bytes, 3 inside one; from the first coded byte on nothing is missing.
+STARTS = [0, 2, 71, 84, 106, 128, 138]
+for length in range(142):
+    number = 0 if length >= 138 else MALFORMED if length < 2 or any(length - s in (0, 1) for s in STARTS) else CUT
+    vector(f"F cut to {length}", F, number, length=length)
+
+# Skipped segments may be empty or long, anywhere.
+for code in (224, 231, 239, 254):
+    vector(f"skipped {code} with 255 217 inside", grey_with(before=segment(code, b"\xff\xd9\xff\xd9")), 0)
+    vector(f"skipped {code} behind the tables", grey_with(after=segment(code, b"") + segment(code, b"\x00" * 200)), 0)
+
+# Quantizers: one or more; an id 0..3, compared whole, and 64 nonzero bytes, else 4.
+vector("quantizers: empty", grey_with(quant=segment(219, b"")), MALFORMED)
+for name in (4, 16, 128, 255):
+    vector(f"quantizer id byte {name}", grey_with(quant=dqt((name, ONES))), MALFORMED)
+for name in (1, 2, 3):
+    vector(f"quantizer {name} used", grey_with(quant=dqt((name, ONES)), frame=sof(8, 8, [(1, 17, name)])), 0)
+for place in (0, 1, 31, 62, 63):
+    vector(f"quantizer: 0 at place {place}", changed(F, (7 + place, 0)), MALFORMED)
+vector("quantizer: 255 everywhere", grey_with(quant=dqt((0, [255] * 64))), 0)
+vector("quantizer: 63 values", grey_with(quant=dqt((0, ONES[1:]))), MALFORMED)
+vector("quantizer: an id alone", grey_with(quant=segment(219, b"\x00")), MALFORMED)
+vector("quantizer: 65 values", grey_with(quant=dqt((0, ONES + [1]))), MALFORMED)
+vector("quantizers: a second one with a bad id", grey_with(quant=dqt((0, ONES), (4, ONES))), MALFORMED)
+vector("quantizers: an unused one with a zero", grey_with(quant=dqt((0, ONES), (3, ONES[1:] + [0]))), MALFORMED)
+vector("quantizers: a second one cut", grey_with(quant=dqt((0, ONES), (1, ONES[1:]))), MALFORMED)
+vector("quantizers: four in one segment", grey_with(quant=dqt(*((i, ONES) for i in range(4)))), 0)
+vector("quantizers: replaced in its segment", grey_with(quant=dqt((0, ONES), (0, [2] * 64))), 0)
+vector("quantizers: replaced behind the frame", grey_with(after=dqt((0, [2] * 64))), 0)
+vector("quantizers: thrice", grey_with(after=dqt((0, [2] * 64), (1, ONES)) + dqt((0, [3] * 64))), 0)
+vector("quantizers: only behind the frame", grey(GREY_FRAME, DC0, AC0, Q0, GREY_SCAN), 0)
+
+# Huffman tables: class 0 or 1, id 0..3, 16 counts, 1 to 256 symbols, inside the segment; all ones is no code; else 4.
+vector("tables: empty", grey_with(dc=segment(196, b"")), MALFORMED)
+for first in (4, 15, 20, 32, 33, 240):
+    vector(f"table's first byte {first}", grey_with(dc=dht(table(first))), MALFORMED)
+for name in (1, 2, 3):
+    vector(f"DC and AC {name}", grey(Q0, GREY_FRAME, dht(table(name)), dht(table(16 + name)), sos([(1, 17 * name)])), 0)
+vector("DC 3, AC 2", grey(Q0, GREY_FRAME, dht(table(3), table(18)), sos([(1, 50)])), 0)
+vector("table: no symbols", grey_with(dc=dht(table(0, [0] * 16, ()))), MALFORMED)
+vector("table: a first byte alone", grey_with(dc=segment(196, b"\x00")), MALFORMED)
+vector("table: fifteen counts", grey_with(dc=segment(196, bytes([0] + ONE_CODE[:15]))), MALFORMED)
+vector("table: counts, and no symbol", grey_with(dc=segment(196, bytes([0] + ONE_CODE))), MALFORMED)
+vector("table: a symbol too few", grey_with(dc=dht(table(0, [0, 3] + [0] * 14, (1, 2)))), MALFORMED)
+vector("table: a symbol too many", grey_with(dc=dht(table(0, ONE_CODE, (1, 2)))), MALFORMED)
+vector("table: 256 symbols", grey_with(dc=dht(table(0, [0] * 14 + [1, 255], range(256)))), 0)
+vector("table: 257 symbols", grey_with(dc=dht(table(0, [0] * 14 + [2, 255], [0] * 257))), MALFORMED)
+vector("table: both codes of one bit", grey_with(dc=dht(table(0, [2] + [0] * 15, (0, 1)))), MALFORMED)
+vector("table: one code of one bit, one of two", grey_with(dc=dht(table(0, [1, 1] + [0] * 14, (0, 1)))), 0)
+vector("table: all codes of two bits", grey_with(dc=dht(table(0, [0, 4] + [0] * 14, range(4)))), MALFORMED)
+vector("table: three codes of two bits", grey_with(dc=dht(table(0, [0, 3] + [0] * 14, range(3)))), 0)
+vector("table: one code of each length", grey_with(dc=dht(table(0, [1] * 16, range(16)))), 0)
+vector("table: and all ones of sixteen", grey_with(dc=dht(table(0, [1] * 15 + [2], range(17)))), MALFORMED)
+vector("table: more codes than there are", grey_with(dc=dht(table(0, [1, 0, 200] + [0] * 13, range(201)))), MALFORMED)
+vector("table: symbols that no block can use, and twice", grey_with(dc=dht(table(0, [0, 3] + [0] * 14, (255, 200, 200)))), 0)
+vector("tables: DC and AC in one segment", grey(Q0, GREY_FRAME, dht(table(0), table(16)), GREY_SCAN), 0)
+vector("tables: a bad one that is never used", grey_with(after=dht(table(19, [2] + [0] * 15, (0, 1)))), MALFORMED)
+for extra in (1, 16, 17):
+    vector(f"tables: {extra} bytes behind the last", grey_with(dc=segment(196, table(0) + b"\x00" * extra)), MALFORMED)
+vector("tables: DC replaced in its segment", grey_with(dc=dht(table(0), table(0, ONE_CODE, (5,)))), 0)
+vector("tables: AC replaced by a later segment", grey_with(after=dht(table(16))), 0)
+vector("tables: another id does not replace", grey_with(after=dht(table(1), table(17))), 0)
+vector("tables: only before the frame", grey(DC0, AC0, Q0, GREY_FRAME, GREY_SCAN), 0)
+
+# The frame. A second one: 4; body under 6, precision, channels: 5; body not 6 + 3 x channels: 4; the rest: 5.
+vector("frame 193", grey_with(frame=sof(8, 8, GREY, code=193)), 0)
+vector("three channels, 193", ycc_with(frame=sof(20, 10, YCC, code=193)), 0)
+vector("a second frame, the same", grey_with(after=GREY_FRAME), MALFORMED)
+vector("a second frame, 193", grey_with(after=sof(8, 8, GREY, code=193)), MALFORMED)
+vector("a second frame before a body under 6", grey_with(after=segment(192, b"")), MALFORMED)
+vector("a second frame before the precision", grey_with(after=sof(8, 8, GREY, precision=12)), MALFORMED)
+for length in range(6):
+    vector(f"frame: a body of {length}", grey_with(frame=segment(192, frame_body(8, 8, GREY)[:length])), UNSUPPORTED)
+for precision in (0, 7, 9, 12, 16, 255):
+    vector(f"frame: precision {precision}", grey_with(frame=sof(8, 8, GREY, precision=precision)), UNSUPPORTED)
+for channels in (0, 2, 4, 255):
+    body = frame_body(8, 8, [(i, 17, 0) for i in range(channels % 64)], channels=channels)
+    vector(f"frame: {channels} channels", grey_with(frame=segment(192, body)), UNSUPPORTED)
+vector("frame: one byte too many", grey_with(frame=segment(192, frame_body(8, 8, GREY) + b"\x00")), MALFORMED)
+vector("frame: one byte too few", grey_with(frame=segment(192, frame_body(8, 8, GREY)[:-1])), MALFORMED)
+vector("frame: one channel, a body for three", grey_with(frame=sof(8, 8, YCC, channels=1)), MALFORMED)
+vector("frame: three channels, a body for one", grey_with(frame=sof(8, 8, GREY, channels=3)), MALFORMED)
+vector("frame: a body of 6 that counts one channel", grey_with(frame=segment(192, frame_body(8, 8, [], channels=1))), MALFORMED)
+vector("frame: precision before the length", grey_with(frame=segment(192, frame_body(8, 8, GREY, precision=12) + b"\x00")), UNSUPPORTED)
+vector("frame: two channels before the length", grey_with(frame=sof(8, 8, GREY, channels=2)), UNSUPPORTED)
+vector("frame: the length before a zero side", grey_with(frame=segment(192, frame_body(0, 8, GREY) + b"\x00")), MALFORMED)
+vector("frame: the length before the sampling", grey_with(frame=segment(192, frame_body(8, 8, [(1, 0, 0)]) + b"\x00")), MALFORMED)
+vector("frame: the length before the quantizer id", grey_with(frame=segment(192, frame_body(8, 8, [(1, 17, 4)]) + b"\x00")), MALFORMED)
+vector("frame: width 0", grey_with(frame=sof(0, 8, GREY)), UNSUPPORTED)
+vector("frame: height 0", grey_with(frame=sof(8, 0, GREY)), UNSUPPORTED)
+for quant in (4, 16, 255):
+    vector(f"frame: quantizer id {quant}", grey_with(frame=sof(8, 8, [(1, 17, quant)])), UNSUPPORTED)
+    for channel in range(3):
+        patch = (len(SOI + YCC_TABLES) + 4 + 8 + 3 * channel, quant)
+        vector(f"frame: quantizer id {quant} in channel {channel}", changed(COLOURS, patch), UNSUPPORTED)
+for ids in ((1, 1, 3), (1, 2, 1), (1, 2, 2), (5, 5, 5)):
+    components = [(i, 17, 0) for i in ids]
+    vector(f"frame: ids {ids}", ycc_with(sof(8, 8, components), sos([(i, 0) for i in ids])), UNSUPPORTED)
+for ids in ((0, 1, 2), (255, 0, 128), (3, 2, 1), (82, 71, 66)):
+    components = [(i, 17, 0) for i in ids]
+    vector(f"frame: ids {ids}", ycc_with(sof(8, 8, components), sos([(i, 0) for i in ids])), 0)
+
+# Every sampling byte: nibbles 1..4; in three channels a product up to 4 too; one channel counts as 1 x 1.
+GREY_SAMPLING, COLOUR_SAMPLING = 71 + 11, len(SOI + YCC_TABLES) + 11
+assert F[GREY_SAMPLING] == 17 and COLOURS[COLOUR_SAMPLING] == 34
+for byte in range(256):
+    high, low = divmod(byte, 16)
+    nibbles = 1 <= high <= 4 and 1 <= low <= 4
+    vector(f"one channel, sampling {byte}", F, 0 if nibbles else UNSUPPORTED, patches=[(GREY_SAMPLING, byte)])
+    fits = nibbles and high * low <= 4
+    vector(f"three channels, sampling {byte}", COLOURS, 0 if fits else UNSUPPORTED, patches=[(COLOUR_SAMPLING, byte)])
+# the second and third sampling byte are 17
+for byte in (0, 1, 16, 18, 33, 34, 68, 255):
+    for channel in (1, 2):
+        patch = (COLOUR_SAMPLING + 3 * channel, byte)
+        vector(f"sampling {byte} in channel {channel}", COLOURS, UNSUPPORTED, patches=[patch])
+
+# Sizes: the largest pictures, and sides around an MCU.
+big = sof(65535, 65535, [(i, 17, 0) for i in (1, 2, 3)])
+vector("65535 x 65535, 1 x 1", ycc_with(big), 0)
+records.append((len(vectors) - 1, {"blocks": 201326592, "work": 644244701187}))
+vector("65535 x 65535, one channel", grey_with(frame=sof(65535, 65535, GREY)), 0)
+for sampling in (65, 20, 34, 49, 19):
+    vector(f"65535 x 65535, sampling {sampling}", ycc_with(sof(65535, 65535, [(1, sampling, 0), (2, 17, 1), (3, 17, 1)])), 0)
+for width, height in ((1, 1), (8, 8), (9, 8), (8, 9), (16, 17), (65535, 1), (1, 65535), (255, 256)):
+    vector(f"{width} x {height}", grey_with(frame=sof(width, height, GREY)), 0)
+    vector(f"{width} x {height}, 2 x 1", ycc_with(sof(width, height, [(1, 33, 0), (2, 17, 1), (3, 17, 1)])), 0)
+
+# The restart interval: body 2, else 4; before or after the frame; the last one counts, also back to 0.
+for length in (0, 1, 3, 4):
+    vector(f"interval: a body of {length}", grey_with(before=segment(221, b"\x00" * length)), MALFORMED)
+for interval in (0, 1, 255, 256, 65535):
+    vector(f"interval {interval} before the frame", grey_with(before=dri(interval)), 0)
+    vector(f"interval {interval} after the frame", grey_with(after=dri(interval)), 0)
+vector("intervals 5, 7", grey_with(before=dri(5), after=dri(7)), 0)
+vector("intervals 7, 5", grey_with(before=dri(7) + dri(5)), 0)
+vector("intervals 5, 0", grey_with(before=dri(5), after=dri(0)), 0)
+vector("intervals 0, 5", grey_with(before=dri(0), after=dri(5)), 0)
+vector("intervals 5, 7, 5 around the frame", grey_with(before=dri(5), after=dri(7) + dri(5)), 0)
+vector("a good interval, then a bad one", grey_with(before=dri(5), after=segment(221, b"\x00")), MALFORMED)
+
+# The scan. No frame: 4; length, count, last three bytes: 5; component ids: 4; table ids: 5; an absent table: 4.
+vector("scan: no frame", grey(Q0, DC0, AC0, GREY_SCAN), MALFORMED)
+vector("scan: first of all", grey(GREY_SCAN), MALFORMED)
+vector("scan: no frame before the length", grey(Q0, DC0, AC0, segment(218, b"")), MALFORMED)
+vector("scan: no frame before the table ids", grey(Q0, DC0, AC0, sos([(1, 255)])), MALFORMED)
+for length in (0, 1, 5):
+    vector(f"scan: a body of {length}", grey_with(scan=segment(218, scan_body([(1, 0)])[:length])), UNSUPPORTED)
+vector("scan: one byte too many", grey_with(scan=segment(218, scan_body([(1, 0)]) + b"\x00")), UNSUPPORTED)
+vector("scan: one channel, a scan of three", grey_with(scan=YCC_SCAN), UNSUPPORTED)
+vector("scan: three channels, a scan of one", ycc_with(scan=GREY_SCAN), UNSUPPORTED)
+for count in (0, 2, 3, 255):
+    vector(f"scan: counts {count}", grey_with(scan=sos([(1, 0)], channels=count)), UNSUPPORTED)
+for last in ((1, 63, 0), (0, 62, 0), (0, 64, 0), (0, 63, 1), (0, 63, 16), (63, 0, 0), (0, 0, 63)):
+    vector(f"scan: last three {last}", grey_with(scan=sos([(1, 0)], last=last)), UNSUPPORTED)
+    vector(f"scan: last three {last}, three channels", ycc_with(scan=sos([(1, 0), (2, 17), (3, 17)], last=last)), UNSUPPORTED)
+for name in (0, 2, 255):
+    vector(f"scan: component {name}", grey_with(scan=sos([(name, 0)])), MALFORMED)
+for order in ((1, 3, 2), (2, 1, 3), (3, 2, 1), (1, 2, 2), (1, 2, 4), (1, 1, 1)):
+    vector(f"scan: components {order}", ycc_with(scan=sos([(i, 0) for i in order])), MALFORMED)
+for tables in (64, 4, 68, 240, 15, 255):
+    vector(f"scan: table ids {tables}", grey_with(scan=sos([(1, tables)])), UNSUPPORTED)
+for channel in range(3):
+    for tables in (4, 64):
+        chosen = [(1, 0), (2, 17), (3, 17)]
+        chosen[channel] = (channel + 1, tables)
+        vector(f"scan: table ids {tables} in channel {channel}", ycc_with(scan=sos(chosen)), UNSUPPORTED)
+vector("scan: DC absent", grey(Q0, GREY_FRAME, AC0, GREY_SCAN), MALFORMED)
+vector("scan: AC absent", grey(Q0, GREY_FRAME, DC0, GREY_SCAN), MALFORMED)
+vector("scan: quantizer absent", grey(GREY_FRAME, DC0, AC0, GREY_SCAN), MALFORMED)
+vector("scan: DC in another place", grey_with(scan=sos([(1, 16)])), MALFORMED)
+vector("scan: AC in another place", grey_with(scan=sos([(1, 1)])), MALFORMED)
+vector("scan: quantizer in another place", grey_with(frame=sof(8, 8, [(1, 17, 1)])), MALFORMED)
+for channel in range(3):
+    for tables in (33, 18, 2, 32):
+        chosen = [(1, 0), (2, 17), (3, 17)]
+        chosen[channel] = (channel + 1, tables)
+        vector(f"scan: tables {tables} absent in channel {channel}", ycc_with(scan=sos(chosen)), MALFORMED)
+    components = [list(c) for c in YCC]
+    components[channel][2] = 2
+    vector(f"scan: quantizer absent in channel {channel}", ycc_with(frame=sof(20, 10, components)), MALFORMED)
+vector("scan: length before component ids", grey_with(scan=segment(218, scan_body([(9, 0)]) + b"\x00")), UNSUPPORTED)
+vector("scan: count before component ids", grey_with(scan=sos([(9, 0)], channels=2)), UNSUPPORTED)
+vector("scan: last three before component ids", grey_with(scan=sos([(9, 0)], last=(0, 63, 1))), UNSUPPORTED)
+vector("scan: component ids before table ids", grey_with(scan=sos([(9, 255)])), MALFORMED)
+vector("scan: the third component before the first table", ycc_with(scan=sos([(1, 255), (2, 17), (9, 17)])), MALFORMED)
+vector("scan: component ids before an absent table", grey(Q0, GREY_FRAME, DC0, sos([(9, 0)])), MALFORMED)
+vector("scan: table ids before an absent table", grey(Q0, GREY_FRAME, sos([(1, 64)])), UNSUPPORTED)
+vector("scan: the third table id before the first table", ycc_with(scan=sos([(1, 34), (2, 17), (3, 4)])), UNSUPPORTED)
+vector("scan: last three before an absent table", grey(Q0, GREY_FRAME, sos([(1, 0)], last=(0, 63, 1))), UNSUPPORTED)
+vector("scan: ends with the file", F[:138], 0)
+vector("three channels, the coded bytes left out", COLOURS[:245], 0)
+
+
+# ---- the two files
+
+
+def whole(base, patches, length):
+    return changed(base, *patches)[:length]
+
+
+def answer(file, colour):
+    try:
+        return 0, numbers(read_header(file, colour))
+    except Refused as refused:
+        return refused.number, []
+
+
+def lines():
+    found = []
+    for index, (name, base, patches, length, colour, number) in enumerate(vectors):
+        got, fields = answer(whole(base, patches, length), colour)
+        if got != number:
+            sys.exit(f"{name}: {number} is written down, the rules read once more give {got}")
+        found.append([index, number] + fields)
+    for index, record in records:
+        if isinstance(record, dict):
+            got = read_header(whole(*vectors[index][1:4]), vectors[index][4])
+            same = all(got[key] == value for key, value in record.items())
+        else:
+            same = found[index][2:] == record
+        if not same:
+            sys.exit(f"{vectors[index][0]}: the record written down is not {found[index][2:]}")
+    return "".join(" ".join(map(str, line)) + "\n" for line in found)
+
+
+def parts(file):
+    """A file as parts: what it shares with F or with the three-channel file at both ends, and what it has between."""
+    best = [file]
+    for base in (F, COLOURS):
+        head = 0
+        while head < min(len(file), len(base)) and file[head] == base[head]:
+            head += 1
+        tail = 0
+        while tail < min(len(file), len(base)) - head and file[-1 - tail] == base[-1 - tail]:
+            tail += 1
+        split = [file[:head], file[head : len(file) - tail], file[len(file) - tail :]]
+        if len(split[1]) < len(max(best, key=len) if len(best) == 1 else best[1]):
+            best = split
+    return [part for part in best if part]
+
+
+def script():
+    store, entries = bytearray(2) + F + COLOURS, bytearray()
+    for name, base, patches, length, colour, number in vectors:
+        pieces = parts(base[:length])
+        entries.append(len(pieces))
+        for piece in pieces:
+            if store.find(piece, 2) < 0:
+                store += piece
+            entries += store.index(piece, 2).to_bytes(2, "big") + len(piece).to_bytes(2, "big")
+        entries += bytes([colour, len(patches)])
+        for place, value in patches:
+            entries += place.to_bytes(2, "big") + bytes([value])
+    store[:2] = len(store).to_bytes(2, "big")
+    assert len(store + entries) <= 65536 and max(length for _, _, _, length, _, _ in vectors) <= 1024
+    return bytes(store + entries)
+
+
+def main(words):
+    wanted = {"stdin": script(), "stdout": lines().encode()}
+    if words == ["--list"]:
+        for index, (name, base, patches, length, colour, number) in enumerate(vectors):
+            print(index, number, length, name)
+    elif words == ["--check"]:
+        stale = [name for name, text in wanted.items() if (FOLDER / name).read_bytes() != text]
+        if stale:
+            sys.exit(f"header vectors: {', '.join(stale)} differ")
+        print(f"header vectors: {len(vectors)}, both files as they must be")
+    else:
+        for name, text in wanted.items():
+            (FOLDER / name).write_bytes(text)
+        print(f"header vectors: {len(vectors)} written")
+
+
+main(sys.argv[1:])
