@@ -1,8 +1,8 @@
 // The colour of one pixel: Y, Cb and Cr to red, green and blue, with floor division and clamping to 0..255 (the rules' 'Samples,
 // places, colour'). A chroma sample's difference from 128 is a signed number, and `>> 16` divides by 65536 and rounds down, below 0
-// too. Bytes make no sum larger than 2^26, so `i32` holds each of them.
+// too. No sum of such bytes leaves ±2^25, so `i32` holds each of them.
 ghost use mathlib.Core.Path.{_≡_};
-ghost use Prim.Native.Nat.{_≤_};
+ghost use Prim.Native.Nat.{_^_, _≤_};
 ghost use lib.IntN.{pos, natAbs, _+ℤ_, _*ℤ_};
 ghost use lib.Signed.{shrZ};
 ghost use Rattle.reading.specs.Colour.{toByte, chroma, red, green, blue};
@@ -22,7 +22,7 @@ fn to_byte(v: i32) -> u8
 
 // What red and blue share: luma and one chroma sample, by that sample's factor.
 fn with_chroma(y: u8, c: u8, factor: i32) -> u8
-    requires { ⌜ natAbs factor ≤ 131072 ⌝ }
+    requires { ⌜ natAbs factor ≤ 2 ^ 17 ⌝ }
     ensures { λ r. ⌜ r ≡ toByte (shrZ (pos 65536 *ℤ pos y +ℤ factor *ℤ chroma c +ℤ pos 32768) 65536) ⌝ }
 {
     let d = c as i32 - 128;

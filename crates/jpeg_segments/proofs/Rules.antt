@@ -1,6 +1,6 @@
 -- Each test on a body by its ways out, as the code finds them: one law for each way.
 use Prim.Native.Nat.{ℕ, _+_, _*_, _/_, _%_, _<_, _≤_}
-use mathlib.Core.Path.{_≡_, refl, subst}
+use mathlib.Core.Path.{_≡_, refl, sym, subst}
 use mathlib.Core.Bool.{Bool, true, false, not, cond}
 use mathlib.Core.List.{List, [], _∷_}
 use native.Mathlib.Omega.{arith}
@@ -17,6 +17,13 @@ use Rattle.reading.specs.Header.{byte, word, each, quantizerFits, countsOf, tab
 pub and-both : (a b : Bool) → (a and b) ≡ true → (a ≡ true) × (b ≡ true)
 and-both true b e = (refl, e)
 and-both false b e = absurd (subst (λ k. T (not k)) e tt)
+
+-- a chain of tests, by one that fails, and behind one that passes
+pub and-no : (a b : Bool) → a ≡ false → (a and b) ≡ false
+and-no a b e = rw e
+
+pub and-on : (a b r : Bool) → a ≡ true → b ≡ r → (a and b) ≡ r
+and-on a b r e q = rw e q
 
 -- ---- a quantizer
 
@@ -140,35 +147,29 @@ module _ (b : List ℕ) (f : Frame) where
     fits-high h = rw (lt-ltb 0 (f .width) (omega arith), le-ltb 0 (f .height) (omega arith))
 
     module _ (high : f .height ≡ 0 → ⊥) where
-      sides : (r : Bool) → r ≡ (within 1 4 (acrossOf b) and within 1 4 (downOf b) and quantsFit f and (eqb (f .channels) 1 or threeFit b f)) → r ≡ frameFits b f
-      sides r e = rw (lt-ltb 0 (f .width) (omega arith), lt-ltb 0 (f .height) (omega arith)) e
+      sides : (r : Bool) → (within 1 4 (acrossOf b) and within 1 4 (downOf b) and quantsFit f and (eqb (f .channels) 1 or threeFit b f)) ≡ r → r ≡ frameFits b f
+      sides r e = rw (lt-ltb 0 (f .width) (omega arith), lt-ltb 0 (f .height) (omega arith)) (sym e)
 
       pub fits-across : within 1 4 (acrossOf b) ≡ false → false ≡ frameFits b f
-      fits-across h = sides false (rest _ _ h)
-        where
-          rest : (x y : Bool) → x ≡ false → false ≡ (x and y)
-          rest x y e = rw e
+      fits-across h = sides false (and-no (within 1 4 (acrossOf b)) _ h)
 
       module _ (across : within 1 4 (acrossOf b) ≡ true) where
-        tail : (x y r : Bool) → x ≡ true → r ≡ y → r ≡ (x and y)
-        tail x y r e q = rw e q
-
-        none : (x y : Bool) → x ≡ false → false ≡ (x and y)
-        none x y e = rw e
-
         pub fits-down : within 1 4 (downOf b) ≡ false → false ≡ frameFits b f
-        fits-down h = sides false (tail (within 1 4 (acrossOf b)) _ _ across (none (within 1 4 (downOf b)) _ h))
+        fits-down h = sides false (and-on (within 1 4 (acrossOf b)) _ false across (and-no (within 1 4 (downOf b)) _ h))
 
         module _ (down : within 1 4 (downOf b) ≡ true) where
+          nibbles : (r : Bool) → (quantsFit f and (eqb (f .channels) 1 or threeFit b f)) ≡ r → r ≡ frameFits b f
+          nibbles r e = sides r (and-on (within 1 4 (acrossOf b)) _ r across (and-on (within 1 4 (downOf b)) _ r down e))
+
           pub fits-quants : quantsFit f ≡ false → false ≡ frameFits b f
-          fits-quants h = sides false (tail (within 1 4 (acrossOf b)) _ _ across (tail (within 1 4 (downOf b)) _ _ down (none (quantsFit f) _ h)))
+          fits-quants h = nibbles false (and-no (quantsFit f) _ h)
 
           module _ (quants : quantsFit f ≡ true) where
             pub fits-one : f .channels ≡ 1 → true ≡ frameFits b f
-            fits-one h = sides true (tail (within 1 4 (acrossOf b)) _ _ across (tail (within 1 4 (downOf b)) _ _ down (tail (quantsFit f) _ _ quants (rw (eq-eqb (f .channels) 1 h)))))
+            fits-one h = nibbles true (and-on (quantsFit f) _ true quants (rw (eq-eqb (f .channels) 1 h)))
 
             pub fits-three : (f .channels ≡ 1 → ⊥) → threeFit b f ≡ frameFits b f
-            fits-three h = sides (threeFit b f) (tail (within 1 4 (acrossOf b)) _ _ across (tail (within 1 4 (downOf b)) _ _ down (tail (quantsFit f) _ _ quants (rw (ne-eqb (f .channels) 1 h)))))
+            fits-three h = nibbles (threeFit b f) (and-on (quantsFit f) _ (threeFit b f) quants (rw (ne-eqb (f .channels) 1 h)))
 
 -- the frame, as the code puts it together
 pub frame-made :
@@ -229,12 +230,3 @@ zero-no r x e z = le-ltb 0 x (omega arith)
 
 pub above-yes : (r x : ℕ) → r ≡ x → (r ≡ 0 → ⊥) → ltb 0 x ≡ true
 above-yes r x e z = lt-ltb 0 x (omega arith)
-
-pub both-yes : (x y : Bool) → x ≡ true → y ≡ true → (x and y) ≡ true
-both-yes x y p q = rw (p, q)
-
-pub first-no : (x y : Bool) → x ≡ false → (x and y) ≡ false
-first-no x y p = rw p
-
-pub second-no : (x y : Bool) → x ≡ true → y ≡ false → (x and y) ≡ false
-second-no x y p q = rw (p, q)

@@ -86,6 +86,7 @@ const ZIGZAG: [u8; 64] = [
 // opposite of the odd half.
 struct Four(i64, i64, i64, i64);
 
+// The even half: inputs 0, 2, 4, 6 share their products.
 fn even(c0: i64, c2: i64, c4: i64, c6: i64) -> Four
     requires { ⌜ Within (2 ^ 40) (c0 ∷ c2 ∷ c4 ∷ c6 ∷ []) ⌝ }
     ensures { λ r. ⌜ r ≡ evenOf c0 c2 c4 c6 ⌝ }
@@ -107,6 +108,7 @@ fn weighed(c: Four, k: Four) -> i64
     c0 * k0 + c1 * k1 + c2 * k2 + c3 * k3
 }
 
+// The odd half: inputs 1, 3, 5, 7, by their weights in the basis.
 fn odd(c1: i64, c3: i64, c5: i64, c7: i64) -> Four
     requires { ⌜ Within (2 ^ 40) (c1 ∷ c3 ∷ c5 ∷ c7 ∷ []) ⌝ }
     ensures { λ r. ⌜ r ≡ oddOf c1 c3 c5 c7 ⌝ }
@@ -156,6 +158,7 @@ fn dequantize(levels: &[i16; 64], quantizer: &[u8], places: usize, block: &mut [
     requires { ⌜ now block ≡ replicate 64 (pos 0) ⌝ }
     ensures { λ _. ⌜ (now (block .exit) ≡ coefficients (now (quantizer .entry)) (take places (now (levels .entry)))) × (Within (2 ^ 23) (now (block .exit))) ⌝ }
 {
+    // A copy for the whole loop: an array constant is built anew wherever it is indexed.
     let order = ZIGZAG;
     let mut k = 0usize;
     while k < 64 {
@@ -210,7 +213,7 @@ fn row(block: &mut [i64; 64], i: usize)
     let c5 = block[i + 5];
     let c6 = block[i + 6];
     let c7 = block[i + 7];
-    // In most rows all inputs but the first are 0, and then the eight outputs are one.
+    // Where all inputs but the first are 0, as in most rows of most blocks, the eight outputs are one.
     if (c1 | c2 | c3 | c4 | c5 | c6 | c7) == 0 {
         spread(block, i, c0 * 11585);
         return;
@@ -220,7 +223,7 @@ fn row(block: &mut [i64; 64], i: usize)
     join_row(block, i, e, o);
 }
 
-// The first pass.
+// The first pass: the rows of coefficients, each in its place.
 fn rows(block: &mut [i64; 64])
     requires { ⌜ (length (now block) ≡ 64) × (Within (2 ^ 23) (now block)) ⌝ }
     ensures { λ _. ⌜ now (block .exit) ≡ rowsOf (now (block .entry)) ⌝ }
@@ -259,7 +262,7 @@ fn column(block: &[i64; 64], x: usize, out: &mut [u8])
     join_column(out, x, e, o);
 }
 
-// The second pass.
+// The second pass: the columns of what the first pass left, and the samples of the double sums.
 fn columns(block: &[i64; 64], out: &mut [u8])
     requires { ⌜ (Within (2 ^ 40) (now block)) × (64 ≤ length (now out)) ⌝ }
     ensures { λ _. ⌜ now (out .exit) ≡ over (columnsOf (now (block .entry))) (now (out .entry)) ⌝ }

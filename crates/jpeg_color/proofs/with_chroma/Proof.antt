@@ -1,6 +1,7 @@
 -- `jpeg_color::with_chroma` meets its contract: each operation fits, the shift rounds down, `to_byte` clamps. Assumes nothing.
 use mathlib.Core.Path.{_∙_, ap}
 use mathlib.Core.List.{List, [], _∷_}
+use Prim.Native.Nat.{_^_}
 use borrow.Author.Needs.{needs}
 use lib.IntN.{ℤ, pos}
 use Rattle.whole.specs.Expressions.{Exp, var, lit, add, sub, mul, Under, under-nil, under-cons}
@@ -18,8 +19,8 @@ S = add (mul (lit 65536) (var 0)) (mul (var 2) D)
 abbrev inputs : tie.Start → List ℤ
 inputs s = pos (s .args .y) ∷ pos (s .args .c) ∷ s .args .factor ∷ []
 
-small : (s : tie.Start) → Under (255 ∷ 255 ∷ 131072 ∷ []) (inputs s)
-small s = byte-cons (s .args .y) (s .fits .y) (byte-cons (s .args .c) (s .fits .c) (under-cons 131072 (s .args .factor) (s .pre) (under-nil {bs = []})))
+small : (s : tie.Start) → Under (255 ∷ 255 ∷ 2 ^ 17 ∷ []) (inputs s)
+small s = byte-cons (s .args .y) (s .fits .y) (byte-cons (s .args .c) (s .fits .c) (under-cons (2 ^ 17) (s .args .factor) (s .pre) (under-nil {bs = []})))
 
 pub with-chroma-spec : {M : Type 1} → statement M
 with-chroma-spec =

@@ -1,13 +1,14 @@
 use borrow.Author.Needs.{needs}
 use Prim.Native.Nat.{_≤_, _-_}
 use mathlib.Core.Path.{_≡_, sym, _∙_}
+use mathlib.Core.Bool.{true, false}
 use native.Mathlib.Omega.{arith}
 use lib.Dec.{ltb}
 use Rattle.reading.specs.Tables.{chosen, quantAt, dcAt, acAt}
 use Rattle.reading.specs.Tests.{_and_}
 use Rattle.reading.specs.Header.{eachChannel}
 use Rattle.jpeg_segments.proofs.Walks.{fromChannel, from-first, from-on, from-off, from-end}
-use Rattle.jpeg_segments.proofs.Rules.{standsIn, zero-no, above-yes, both-yes, first-no, second-no}
+use Rattle.jpeg_segments.proofs.Rules.{standsIn, zero-no, above-yes, and-no, and-on}
 use Rattle.jpeg_segments.proofs.complete.Statement.{statement}
 use Rattle.jpeg_segments.proofs.complete.Tie as tie
 
@@ -30,7 +31,7 @@ place-of-requires : tie.Need-place-of-requires Inv-loop μ-loop
 place-of-requires c κs = tt
 
 returns : tie.Need-returns Inv-loop μ-loop
-returns c = sym (c .before .before .before .before .before .loop .inv .1 ∙ from-off (standsIn (c .before .before .before .before .before .before .before .before .before .before .before .before .args .found)) (c .before .before .before .before .before .before .before .before .before .before .before .before .args .found .channels) (c .before .before .before .before .before .loop .c) (c .before .before .before .before .loop-test .taken) (first-no (ltb 0 (quantAt (c .before .before .before .before .before .before .before .before .before .before .before .before .args .found) (c .before .before .before .before .before .loop .c))) _ (zero-no _ (quantAt (c .before .before .before .before .before .before .before .before .before .before .before .before .args .found) (c .before .before .before .before .before .loop .c)) (c .before .place-of .ensures) (c .if1 .taken))))
+returns c = sym (c .before .before .before .before .before .loop .inv .1 ∙ from-off (standsIn (c .before .before .before .before .before .before .before .before .before .before .before .before .args .found)) (c .before .before .before .before .before .before .before .before .before .before .before .before .args .found .channels) (c .before .before .before .before .before .loop .c) (c .before .before .before .before .loop-test .taken) (and-no (ltb 0 (quantAt (c .before .before .before .before .before .before .before .before .before .before .before .before .args .found) (c .before .before .before .before .before .loop .c))) _ (zero-no _ (quantAt (c .before .before .before .before .before .before .before .before .before .before .before .before .args .found) (c .before .before .before .before .before .loop .c)) (c .before .place-of .ensures) (c .if1 .taken))))
 
 slice-aggregate-place-of-3 : tie.Need-slice-aggregate-place-of-3 Inv-loop μ-loop
 slice-aggregate-place-of-3 c = search needs
@@ -42,7 +43,7 @@ place-of-requires-2 : tie.Need-place-of-requires-2 Inv-loop μ-loop
 place-of-requires-2 c κs = tt
 
 returns-2 : tie.Need-returns-2 Inv-loop μ-loop
-returns-2 c = sym (c .before .before .before .before .before .before .before .before .before .loop .inv .1 ∙ from-off (standsIn (c .before .before .before .before .before .before .before .before .before .before .before .before .before .before .before .before .args .found)) (c .before .before .before .before .before .before .before .before .before .before .before .before .before .before .before .before .args .found .channels) (c .before .before .before .before .before .before .before .before .before .loop .c) (c .before .before .before .before .before .before .before .before .loop-test .taken) (second-no (ltb 0 (quantAt (c .before .before .before .before .before .before .before .before .before .before .before .before .before .before .before .before .args .found) (c .before .before .before .before .before .before .before .before .before .loop .c))) _ (above-yes _ (quantAt (c .before .before .before .before .before .before .before .before .before .before .before .before .before .before .before .before .args .found) (c .before .before .before .before .before .before .before .before .before .loop .c)) (c .before .before .before .before .before .place-of .ensures) (c .before .before .before .before .if1 .left)) (first-no (ltb 0 (dcAt (c .before .before .before .before .before .before .before .before .before .before .before .before .before .before .before .before .args .found) (c .before .before .before .before .before .before .before .before .before .loop .c))) _ (zero-no _ (dcAt (c .before .before .before .before .before .before .before .before .before .before .before .before .before .before .before .before .args .found) (c .before .before .before .before .before .before .before .before .before .loop .c)) (c .before .place-of2 .ensures) (c .if2 .taken)))))
+returns-2 c = sym (c .before .before .before .before .before .before .before .before .before .loop .inv .1 ∙ from-off (standsIn (c .before .before .before .before .before .before .before .before .before .before .before .before .before .before .before .before .args .found)) (c .before .before .before .before .before .before .before .before .before .before .before .before .before .before .before .before .args .found .channels) (c .before .before .before .before .before .before .before .before .before .loop .c) (c .before .before .before .before .before .before .before .before .loop-test .taken) (and-on (ltb 0 (quantAt (c .before .before .before .before .before .before .before .before .before .before .before .before .before .before .before .before .args .found) (c .before .before .before .before .before .before .before .before .before .loop .c))) _ false (above-yes _ (quantAt (c .before .before .before .before .before .before .before .before .before .before .before .before .before .before .before .before .args .found) (c .before .before .before .before .before .before .before .before .before .loop .c)) (c .before .before .before .before .before .place-of .ensures) (c .before .before .before .before .if1 .left)) (and-no (ltb 0 (dcAt (c .before .before .before .before .before .before .before .before .before .before .before .before .before .before .before .before .args .found) (c .before .before .before .before .before .before .before .before .before .loop .c))) _ (zero-no _ (dcAt (c .before .before .before .before .before .before .before .before .before .before .before .before .before .before .before .before .args .found) (c .before .before .before .before .before .before .before .before .before .loop .c)) (c .before .place-of2 .ensures) (c .if2 .taken)))))
 
 slice-aggregate-place-of-5 : tie.Need-slice-aggregate-place-of-5 Inv-loop μ-loop
 slice-aggregate-place-of-5 c = search needs
@@ -54,7 +55,7 @@ place-of-requires-3 : tie.Need-place-of-requires-3 Inv-loop μ-loop
 place-of-requires-3 c κs = tt
 
 returns-3 : tie.Need-returns-3 Inv-loop μ-loop
-returns-3 c = sym (c .before .before .before .before .before .before .before .before .before .before .before .before .before .loop .inv .1 ∙ from-off (standsIn (c .before .before .before .before .before .before .before .before .before .before .before .before .before .before .before .before .before .before .before .before .args .found)) (c .before .before .before .before .before .before .before .before .before .before .before .before .before .before .before .before .before .before .before .before .args .found .channels) (c .before .before .before .before .before .before .before .before .before .before .before .before .before .loop .c) (c .before .before .before .before .before .before .before .before .before .before .before .before .loop-test .taken) (second-no (ltb 0 (quantAt (c .before .before .before .before .before .before .before .before .before .before .before .before .before .before .before .before .before .before .before .before .args .found) (c .before .before .before .before .before .before .before .before .before .before .before .before .before .loop .c))) _ (above-yes _ (quantAt (c .before .before .before .before .before .before .before .before .before .before .before .before .before .before .before .before .before .before .before .before .args .found) (c .before .before .before .before .before .before .before .before .before .before .before .before .before .loop .c)) (c .before .before .before .before .before .before .before .before .before .place-of .ensures) (c .before .before .before .before .before .before .before .before .if1 .left)) (second-no (ltb 0 (dcAt (c .before .before .before .before .before .before .before .before .before .before .before .before .before .before .before .before .before .before .before .before .args .found) (c .before .before .before .before .before .before .before .before .before .before .before .before .before .loop .c))) _ (above-yes _ (dcAt (c .before .before .before .before .before .before .before .before .before .before .before .before .before .before .before .before .before .before .before .before .args .found) (c .before .before .before .before .before .before .before .before .before .before .before .before .before .loop .c)) (c .before .before .before .before .before .place-of2 .ensures) (c .before .before .before .before .if2 .left)) (zero-no _ (acAt (c .before .before .before .before .before .before .before .before .before .before .before .before .before .before .before .before .before .before .before .before .args .found) (c .before .before .before .before .before .before .before .before .before .before .before .before .before .loop .c)) (c .before .place-of3 .ensures) (c .if3 .taken)))))
+returns-3 c = sym (c .before .before .before .before .before .before .before .before .before .before .before .before .before .loop .inv .1 ∙ from-off (standsIn (c .before .before .before .before .before .before .before .before .before .before .before .before .before .before .before .before .before .before .before .before .args .found)) (c .before .before .before .before .before .before .before .before .before .before .before .before .before .before .before .before .before .before .before .before .args .found .channels) (c .before .before .before .before .before .before .before .before .before .before .before .before .before .loop .c) (c .before .before .before .before .before .before .before .before .before .before .before .before .loop-test .taken) (and-on (ltb 0 (quantAt (c .before .before .before .before .before .before .before .before .before .before .before .before .before .before .before .before .before .before .before .before .args .found) (c .before .before .before .before .before .before .before .before .before .before .before .before .before .loop .c))) _ false (above-yes _ (quantAt (c .before .before .before .before .before .before .before .before .before .before .before .before .before .before .before .before .before .before .before .before .args .found) (c .before .before .before .before .before .before .before .before .before .before .before .before .before .loop .c)) (c .before .before .before .before .before .before .before .before .before .place-of .ensures) (c .before .before .before .before .before .before .before .before .if1 .left)) (and-on (ltb 0 (dcAt (c .before .before .before .before .before .before .before .before .before .before .before .before .before .before .before .before .before .before .before .before .args .found) (c .before .before .before .before .before .before .before .before .before .before .before .before .before .loop .c))) _ false (above-yes _ (dcAt (c .before .before .before .before .before .before .before .before .before .before .before .before .before .before .before .before .before .before .before .before .args .found) (c .before .before .before .before .before .before .before .before .before .before .before .before .before .loop .c)) (c .before .before .before .before .before .place-of2 .ensures) (c .before .before .before .before .if2 .left)) (zero-no _ (acAt (c .before .before .before .before .before .before .before .before .before .before .before .before .before .before .before .before .before .before .before .before .args .found) (c .before .before .before .before .before .before .before .before .before .before .before .before .before .loop .c)) (c .before .place-of3 .ensures) (c .if3 .taken)))))
 
 add-c : tie.Need-add-c Inv-loop μ-loop
 add-c c = search needs
@@ -63,7 +64,7 @@ loop-less : tie.Need-loop-less Inv-loop μ-loop
 loop-less c = omega arith
 
 loop-again : tie.Need-loop-again Inv-loop μ-loop
-loop-again c = (omega arith, c .before .before .before .before .before .before .before .before .before .before .before .before .before .loop .inv .1 ∙ from-on (standsIn (c .before .before .before .before .before .before .before .before .before .before .before .before .before .before .before .before .before .before .before .before .args .found)) (c .before .before .before .before .before .before .before .before .before .before .before .before .before .before .before .before .before .before .before .before .args .found .channels) (c .before .before .before .before .before .before .before .before .before .before .before .before .before .loop .c) (c .before .before .before .before .before .before .before .before .before .before .before .before .loop-test .taken) (both-yes (ltb 0 (quantAt (c .before .before .before .before .before .before .before .before .before .before .before .before .before .before .before .before .before .before .before .before .args .found) (c .before .before .before .before .before .before .before .before .before .before .before .before .before .loop .c))) _ (above-yes _ (quantAt (c .before .before .before .before .before .before .before .before .before .before .before .before .before .before .before .before .before .before .before .before .args .found) (c .before .before .before .before .before .before .before .before .before .before .before .before .before .loop .c)) (c .before .before .before .before .before .before .before .before .before .place-of .ensures) (c .before .before .before .before .before .before .before .before .if1 .left)) (both-yes (ltb 0 (dcAt (c .before .before .before .before .before .before .before .before .before .before .before .before .before .before .before .before .before .before .before .before .args .found) (c .before .before .before .before .before .before .before .before .before .before .before .before .before .loop .c))) _ (above-yes _ (dcAt (c .before .before .before .before .before .before .before .before .before .before .before .before .before .before .before .before .before .before .before .before .args .found) (c .before .before .before .before .before .before .before .before .before .before .before .before .before .loop .c)) (c .before .before .before .before .before .place-of2 .ensures) (c .before .before .before .before .if2 .left)) (above-yes _ (acAt (c .before .before .before .before .before .before .before .before .before .before .before .before .before .before .before .before .before .before .before .before .args .found) (c .before .before .before .before .before .before .before .before .before .before .before .before .before .loop .c)) (c .before .place-of3 .ensures) (c .if3 .left)))))
+loop-again c = (omega arith, c .before .before .before .before .before .before .before .before .before .before .before .before .before .loop .inv .1 ∙ from-on (standsIn (c .before .before .before .before .before .before .before .before .before .before .before .before .before .before .before .before .before .before .before .before .args .found)) (c .before .before .before .before .before .before .before .before .before .before .before .before .before .before .before .before .before .before .before .before .args .found .channels) (c .before .before .before .before .before .before .before .before .before .before .before .before .before .loop .c) (c .before .before .before .before .before .before .before .before .before .before .before .before .loop-test .taken) (and-on (ltb 0 (quantAt (c .before .before .before .before .before .before .before .before .before .before .before .before .before .before .before .before .before .before .before .before .args .found) (c .before .before .before .before .before .before .before .before .before .before .before .before .before .loop .c))) _ true (above-yes _ (quantAt (c .before .before .before .before .before .before .before .before .before .before .before .before .before .before .before .before .before .before .before .before .args .found) (c .before .before .before .before .before .before .before .before .before .before .before .before .before .loop .c)) (c .before .before .before .before .before .before .before .before .before .place-of .ensures) (c .before .before .before .before .before .before .before .before .if1 .left)) (and-on (ltb 0 (dcAt (c .before .before .before .before .before .before .before .before .before .before .before .before .before .before .before .before .before .before .before .before .args .found) (c .before .before .before .before .before .before .before .before .before .before .before .before .before .loop .c))) _ true (above-yes _ (dcAt (c .before .before .before .before .before .before .before .before .before .before .before .before .before .before .before .before .before .before .before .before .args .found) (c .before .before .before .before .before .before .before .before .before .before .before .before .before .loop .c)) (c .before .before .before .before .before .place-of2 .ensures) (c .before .before .before .before .if2 .left)) (above-yes _ (acAt (c .before .before .before .before .before .before .before .before .before .before .before .before .before .before .before .before .before .before .before .before .args .found) (c .before .before .before .before .before .before .before .before .before .before .before .before .before .loop .c)) (c .before .place-of3 .ensures) (c .if3 .left)))))
 
 returns-4 : tie.Need-returns-4 Inv-loop μ-loop
 returns-4 c = sym (c .before .loop .inv .1 ∙ from-end (standsIn (c .before .before .before .before .before .before .before .before .args .found)) (c .before .before .before .before .before .before .before .before .args .found .channels) (c .before .loop .c) (c .loop-test .left))

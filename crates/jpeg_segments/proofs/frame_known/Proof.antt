@@ -1,12 +1,11 @@
-use Rattle.jpeg_segments.proofs.Rules.{known-bits, known-one, known-three}
-use borrow.Author.Tests.{lt-leb}
+use Rattle.jpeg_segments.proofs.Rules.{known-short, known-bits, known-one, known-three}
 use mathlib.Core.Path.{sym, ap, _∙_}
 use lib.Dec.{eqb}
 use Rattle.jpeg_segments.proofs.frame_known.Statement.{statement}
 use Rattle.jpeg_segments.proofs.frame_known.Tie as tie
 
 returns : tie.Need-returns
-returns c = simp (lt-leb 6 _ (c .if1 .taken))
+returns c = known-short (c .before .before .args .body .now) (c .if1 .taken)
 
 byte-at-requires : tie.Need-byte-at-requires
 byte-at-requires c κs = tt

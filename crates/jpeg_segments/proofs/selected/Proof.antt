@@ -1,11 +1,12 @@
 use borrow.Author.Tests.{le-leb, lt-leb}
 use Prim.Native.Nat.{_≤_, _-_, _/_, _%_}
 use mathlib.Core.Path.{_≡_, sym, ap, _∙_}
+use mathlib.Core.Bool.{true, false}
 use native.Mathlib.Omega.{arith}
 use lib.Dec.{leb}
 use Rattle.reading.specs.Header.{byte, eachChannel, dcId, acId, selected}
 use Rattle.jpeg_segments.proofs.Walks.{fromChannel, from-first, from-on, from-off, from-end}
-use Rattle.jpeg_segments.proofs.Rules.{selectedAt, both-yes, first-no, second-no}
+use Rattle.jpeg_segments.proofs.Rules.{selectedAt, and-no, and-on}
 use Rattle.jpeg_segments.proofs.selected.Statement.{statement}
 use Rattle.jpeg_segments.proofs.selected.Tie as tie
 
@@ -41,10 +42,10 @@ byte-at-requires-2 : tie.Need-byte-at-requires-2 Inv-loop μ-loop
 byte-at-requires-2 c κs = tt
 
 returns : tie.Need-returns Inv-loop μ-loop
-returns c = sym (so-far (c .before .before .before) ∙ from-off (selectedAt (c .before .before .before .before .before .before .args .body .now)) (c .before .before .before .before .byte-at .result) (c .before .before .before .loop .c) (c .before .before .loop-test .taken) (first-no (leb (dcId (c .before .before .before .before .before .before .args .body .now) (c .before .before .before .loop .c)) 3) _ (lt-leb (dcId (c .before .before .before .before .before .before .args .body .now) (c .before .before .before .loop .c)) 3 (omega (arith, c .if1 .taken, dc-is (c .before))))))
+returns c = sym (so-far (c .before .before .before) ∙ from-off (selectedAt (c .before .before .before .before .before .before .args .body .now)) (c .before .before .before .before .byte-at .result) (c .before .before .before .loop .c) (c .before .before .loop-test .taken) (and-no (leb (dcId (c .before .before .before .before .before .before .args .body .now) (c .before .before .before .loop .c)) 3) _ (lt-leb (dcId (c .before .before .before .before .before .before .args .body .now) (c .before .before .before .loop .c)) 3 (omega (arith, c .if1 .taken, dc-is (c .before))))))
 
 returns-2 : tie.Need-returns-2 Inv-loop μ-loop
-returns-2 c = sym (so-far (c .before .before .before .before) ∙ from-off (selectedAt (c .before .before .before .before .before .before .before .args .body .now)) (c .before .before .before .before .before .byte-at .result) (c .before .before .before .before .loop .c) (c .before .before .before .loop-test .taken) (second-no (leb (dcId (c .before .before .before .before .before .before .before .args .body .now) (c .before .before .before .before .loop .c)) 3) _ (le-leb (dcId (c .before .before .before .before .before .before .before .args .body .now) (c .before .before .before .before .loop .c)) 3 (omega (arith, c .before .if1 .left, dc-is (c .before .before)))) (lt-leb (acId (c .before .before .before .before .before .before .before .args .body .now) (c .before .before .before .before .loop .c)) 3 (omega (arith, c .if2 .taken, ac-is (c .before .before))))))
+returns-2 c = sym (so-far (c .before .before .before .before) ∙ from-off (selectedAt (c .before .before .before .before .before .before .before .args .body .now)) (c .before .before .before .before .before .byte-at .result) (c .before .before .before .before .loop .c) (c .before .before .before .loop-test .taken) (and-on (leb (dcId (c .before .before .before .before .before .before .before .args .body .now) (c .before .before .before .before .loop .c)) 3) _ false (le-leb (dcId (c .before .before .before .before .before .before .before .args .body .now) (c .before .before .before .before .loop .c)) 3 (omega (arith, c .before .if1 .left, dc-is (c .before .before)))) (lt-leb (acId (c .before .before .before .before .before .before .before .args .body .now) (c .before .before .before .before .loop .c)) 3 (omega (arith, c .if2 .taken, ac-is (c .before .before))))))
 
 add-c : tie.Need-add-c Inv-loop μ-loop
 add-c c = omega (arith, c .before .before .before .loop-test .taken, c .before .before .before .before .before .byte-at .ensures, c .before .before .before .before .before .before .shared-slice-known .given 0)
@@ -55,7 +56,7 @@ loop-less c = omega (arith, c .before .before .before .loop-test .taken)
 loop-again : tie.Need-loop-again Inv-loop μ-loop
 loop-again c = (
   omega (arith, c .before .before .before .loop-test .taken),
-  c .before .before .before .before .loop .inv .1 ∙ from-on (selectedAt (c .before .before .before .before .before .before .before .args .body .now)) (c .before .before .before .before .before .byte-at .result) (c .before .before .before .before .loop .c) (c .before .before .before .loop-test .taken) (both-yes (leb (dcId (c .before .before .before .before .before .before .before .args .body .now) (c .before .before .before .before .loop .c)) 3) _ (le-leb (dcId (c .before .before .before .before .before .before .before .args .body .now) (c .before .before .before .before .loop .c)) 3 (omega (arith, c .before .if1 .left, dc-is (c .before .before)))) (le-leb (acId (c .before .before .before .before .before .before .before .args .body .now) (c .before .before .before .before .loop .c)) 3 (omega (arith, c .if2 .left, ac-is (c .before .before))))),
+  c .before .before .before .before .loop .inv .1 ∙ from-on (selectedAt (c .before .before .before .before .before .before .before .args .body .now)) (c .before .before .before .before .before .byte-at .result) (c .before .before .before .before .loop .c) (c .before .before .before .loop-test .taken) (and-on (leb (dcId (c .before .before .before .before .before .before .before .args .body .now) (c .before .before .before .before .loop .c)) 3) _ true (le-leb (dcId (c .before .before .before .before .before .before .before .args .body .now) (c .before .before .before .before .loop .c)) 3 (omega (arith, c .before .if1 .left, dc-is (c .before .before)))) (le-leb (acId (c .before .before .before .before .before .before .before .args .body .now) (c .before .before .before .before .loop .c)) 3 (omega (arith, c .if2 .left, ac-is (c .before .before))))),
 )
 
 returns-3 : tie.Need-returns-3 Inv-loop μ-loop

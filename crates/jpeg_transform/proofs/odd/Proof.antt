@@ -1,14 +1,14 @@
 -- `jpeg_transform::odd` meets its contract: its weights are those of the odd half. Assumes nothing.
-use mathlib.Core.Path.{_≡_, refl, _∙_, ap}
-use mathlib.Core.List.{List, [], _∷_}
+use mathlib.Core.Path.{_≡_, refl, _∙_}
+use mathlib.Core.List.{[], _∷_}
 use Prim.Native.Nat.{ℕ, _^_, _<_}
 use borrow.Author.Needs.{sfits-of}
-use lib.IntN.{ℤ, pos}
+use lib.IntN.{ℤ}
 use lib.Signed.{mag}
 use mir.Syntax.{w64}
 use mir.Val.{toZ, ofZ, hbits}
 use mir.Facts.{toZ-ofZ}
-use Rattle.whole.specs.Expressions.{at, neg}
+use Rattle.whole.specs.Expressions.{at}
 use Rattle.jpeg_transform.specs.declared.Four.{Four}
 use Rattle.jpeg_transform.specs.Halves.{odds0, odds1, odds2, odds3, weighed, oddOf}
 use Rattle.jpeg_transform.proofs.Lines.{lent-is, lent-small, within-all}

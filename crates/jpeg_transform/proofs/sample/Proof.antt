@@ -61,6 +61,9 @@ cast-fits (negsuc n) p q = true≢false p
 
 -- ---- every need
 
+returns : tie.Need-returns
+returns c = low _ (c .if1 .taken) ∙ ap clamped (sum-is (c .before) 137975824384 tt)
+
 quotient-fits : (c : tie.Else2) → SFits w64 (quotZ (sum (c .before .before)) (pos 1073741824))
 quotient-fits c =
     let s = c .before .before in
@@ -68,9 +71,6 @@ quotient-fits c =
 
 cast-result : tie.Need-cast-result
 cast-result c = rw (toZ-ofZ (quotient-fits c)) (cast-fits (sum (c .before .before)) (c .before .if1 .left) (c .if2 .left))
-
-returns : tie.Need-returns
-returns c = low _ (c .if1 .taken) ∙ ap clamped (sum-is (c .before) 137975824384 tt)
 
 returns-2 : tie.Need-returns-2
 returns-2 c = high _ (c .before .if1 .left) (c .if2 .taken) ∙ ap clamped (sum-is (c .before .before) 137975824384 tt)

@@ -1,0 +1,154 @@
+-- Padding and markers: what the tests of the code say of them, the end of a scan, and the restart before an MCU.
+use mathlib.Core.List.{List, [], _∷_}
+use mathlib.Core.Path.{_≡_, refl, sym, _∙_, ap}
+use mathlib.Core.Bool.{Bool, true, false, true≢false}
+use mathlib.Core.Option.{none, some}
+use Prim.Native.Nat.{ℕ, zero, suc, _+_, _-_, _*_, _/_, _%_, _^_, _<_, _≤_}
+use native.Mathlib.Nat.{not-suc-le-zero, le-of-suc-le-suc, mod-eq-of-lt, div-eq-of-lt, div-zero, le-div-iff-mul-le}
+use native.Mathlib.Omega.{arith}
+use lib.Pow.{pow-mono}
+use lib.Dec.{ltb, eqb}
+use lib.ListN.{length, getD, getElem?}
+use borrow.Author.Tests.{lt-ltb, le-ltb, eq-eqb, ne-eqb, ltb-true, ltb-false, eqb-true, eqb-false}
+use Rattle.reading.specs.declared.Bits.{Bits}
+use Rattle.reading.specs.declared.Fault.the-variants.{Broken}
+use Rattle.reading.specs.declared.ScanCursor.{ScanCursor}
+use Rattle.reading.specs.Tests.{_and_, isAt}
+use Rattle.reading.specs.Bits.{padded, ended}
+use Rattle.reading.specs.Layout.{dueBefore, restartBefore}
+use Rattle.jpeg_scan.specs.declared.Halt.the-variants.{Yes}
+use Rattle.jpeg_scan.specs.Steps.{marked, onTo, behindMarker, restarted}
+
+-- two tests for the same fact
+same-test : (a b c d : ℕ) → (a ≡ b → c ≡ d) → (c ≡ d → a ≡ b) → eqb a b ≡ eqb c d
+same-test a b c d f g = go (eqb a b) refl
+  where
+    go : (t : Bool) → eqb a b ≡ t → eqb a b ≡ eqb c d
+    go true e = e ∙ sym (eq-eqb c d (f (eqb-true a b e)))
+    go false e = e ∙ sym (ne-eqb c d (λ (h : c ≡ d). eqb-false a b e (g h)))
+
+-- ---- padding
+
+-- more unread bits than a byte has are never all ones
+pub padded-over : (byte left : ℕ) → 8 < left → byte < 256 → false ≡ padded (record { at = 0; byte = byte; left = left })
+padded-over byte left h i =
+    let p : 2 ^ 9 ≤ 2 ^ left = pow-mono {i = 9} h in
+    let z : byte % 2 ^ left ≡ byte = mod-eq-of-lt (omega arith) in
+    sym (ne-eqb _ _ (λ (e : byte % 2 ^ left ≡ 2 ^ left - 1). let y : ⊥ = omega arith in y))
+
+pub shifted : (left : ℕ) → left ≤ 8 → (1 * 2 ^ left) % 18446744073709551616 ≡ 2 ^ left
+shifted left h =
+    let m : 2 ^ left ≤ 2 ^ 8 = pow-mono {j = 8} h in
+    omega arith
+
+pub padded-is : (byte left p : ℕ) → p ≡ 2 ^ left → eqb (byte % p) (p - 1) ≡ padded (record { at = 0; byte = byte; left = left })
+padded-is byte left p e = rw e
+
+-- ---- a marker
+
+at-in : (s : List ℕ) (i : ℕ) → i < length s → getElem? s i ≡ some (getD s i 0)
+at-in [] i h = absurd (not-suc-le-zero h)
+at-in (x ∷ s) zero h = refl
+at-in (x ∷ s) (suc i) h = at-in s i (le-of-suc-le-suc h)
+
+at-out : (s : List ℕ) (i : ℕ) → length s ≤ i → getElem? s i ≡ none
+at-out [] i h = refl
+at-out (x ∷ s) zero h = absurd (not-suc-le-zero h)
+at-out (x ∷ s) (suc i) h = at-out s i (le-of-suc-le-suc h)
+
+is-at : (s : List ℕ) (i x : ℕ) → i < length s → isAt s i x ≡ eqb (getD s i 0) x
+is-at s i x h = rw (at-in s i h)
+
+is-out : (s : List ℕ) (i x : ℕ) → length s ≤ i → isAt s i x ≡ false
+is-out s i x h = rw (at-out s i h)
+
+module _ (s : List ℕ) (b : Bits) (code : ℕ) where
+  pub marked-bare : padded b ≡ false → false ≡ marked s b code
+  unfolding marked
+  marked-bare e = rw e
+
+  module _ (e : padded b ≡ true) where
+    pub marked-out : length s ≤ b .at → false ≡ marked s b code
+    unfolding marked
+    marked-out h = rw (e, is-out s (b .at) 255 h)
+
+    module _ (h : b .at < length s) where
+      pub marked-other : (getD s (b .at) 0 ≡ 255 → ⊥) → false ≡ marked s b code
+      unfolding marked
+      marked-other i = rw (e, is-at s (b .at) 255 h ∙ ne-eqb _ _ i)
+
+      module _ (i : getD s (b .at) 0 ≡ 255) where
+        pub marked-cut : length s ≤ b .at + 1 → false ≡ marked s b code
+        unfolding marked
+        marked-cut j = rw (e, is-at s (b .at) 255 h ∙ eq-eqb _ _ i, is-out s (b .at + 1) code j)
+
+        pub marked-is : b .at + 1 < length s → eqb (getD s (b .at + 1) 0) code ≡ marked s b code
+        unfolding marked
+        marked-is j = rw (e, is-at s (b .at) 255 h ∙ eq-eqb _ _ i, is-at s (b .at + 1) code j)
+
+  -- a marker that was found has two bytes
+  pub marked-inside : marked s b code ≡ true → b .at + 1 < length s
+  unfolding marked
+  marked-inside e = go (padded b) (isAt s (b .at) 255) (ltb (b .at + 1) (length s)) refl e
+    where
+      go : (x y t : Bool) → ltb (b .at + 1) (length s) ≡ t → x and y and isAt s (b .at + 1) code ≡ true → b .at + 1 < length s
+      go x y true l f = ltb-true (b .at + 1) (length s) l
+      go true true false l f = absurd (true≢false (sym f ∙ is-out s (b .at + 1) code (ltb-false (b .at + 1) (length s) l)))
+      go true false false l f = absurd (true≢false (sym f))
+      go false y false l f = absurd (true≢false (sym f))
+
+-- ---- the end
+
+and-three : (x y z w : Bool) → x and y and z and w ≡ (x and y and z) and w
+and-three true true z w = refl
+and-three true false z w = refl
+and-three false y z w = refl
+
+end-is : (s : List ℕ) (b : Bits) → ended s b ≡ marked s b 217 and eqb (b .at + 2) (length s)
+unfolding marked
+end-is s b = and-three (padded b) (isAt s (b .at) 255) (isAt s (b .at + 1) 217) (eqb (b .at + 2) (length s))
+
+pub ended-bare : (s : List ℕ) (b : Bits) → marked s b 217 ≡ false → false ≡ ended s b
+ended-bare s b e = sym (end-is s b ∙ ap (λ (t : Bool). t and eqb (b .at + 2) (length s)) e)
+
+pub ended-is : (s : List ℕ) (b : Bits) → marked s b 217 ≡ true → eqb (length s - b .at) 2 ≡ ended s b
+ended-is s b e =
+    let h : b .at + 1 < length s = marked-inside s b 217 e in
+    same-test (length s - b .at) 2 (b .at + 2) (length s) (λ (x : length s - b .at ≡ 2). omega arith) (λ (x : b .at + 2 ≡ length s). omega arith)
+    ∙ sym (end-is s b ∙ ap (λ (t : Bool). t and eqb (b .at + 2) (length s)) e)
+
+-- ---- the restart before MCU m
+
+module _ (interval m : ℕ) where
+  pub due-first : m ≡ 0 → false ≡ dueBefore interval m
+  due-first e = rw (le-ltb 0 m (omega arith))
+
+  module _ (h : m ≡ 0 → ⊥) where
+    pub due-none : interval ≡ 0 → false ≡ dueBefore interval m
+    due-none e = rw (lt-ltb 0 m (omega arith), le-ltb 0 interval (omega arith))
+
+    pub due-is : (interval ≡ 0 → ⊥) → eqb (m % interval) 0 ≡ dueBefore interval m
+    due-is i = rw (lt-ltb 0 m (omega arith), lt-ltb 0 interval (omega arith))
+
+  pub code-early : m < interval → 208 ≡ restartBefore interval m
+  code-early h = ap (λ (k : ℕ). 208 + (k - 1) % 8) (sym (div-eq-of-lt h))
+
+  pub code-none : interval ≡ 0 → 208 ≡ restartBefore interval m
+  code-none e = rw (e, div-zero)
+
+  pub code-some : interval ≤ m → (interval ≡ 0 → ⊥) → 1 ≤ m / interval
+  code-some h i = le-div-iff-mul-le {k = interval} {x = 1} {y = m} (omega arith) .1 (omega arith)
+
+module _ (s : List ℕ) (interval m : ℕ) (q : ScanCursor) where
+  pub restart-not : dueBefore interval m ≡ false → onTo q ≡ restarted s interval m q
+  unfolding restarted
+  restart-not e = rw e
+
+  module _ (e : dueBefore interval m ≡ true) where
+    pub restart-broken : marked s (q .bits) (restartBefore interval m) ≡ false → record { halt = Yes Broken; cursor = q } ≡ restarted s interval m q
+    unfolding restarted
+    restart-broken h = rw (e, h)
+
+    pub restart-marked : marked s (q .bits) (restartBefore interval m) ≡ true → onTo (behindMarker q) ≡ restarted s interval m q
+    unfolding restarted
+    restart-marked h = rw (e, h)

@@ -1,0 +1,152 @@
+-- The blocks of one MCU. Before its block j the levels of j blocks are read: put before what is still to be read they are what was to
+-- be read at the start, and each block's samples stand at its own part of the scratch. One block more keeps this (`further`), a fault is
+-- the scan's fault (`broken`), and behind the last block it is what the contract says (`whole`, `out`).
+use mathlib.Core.Path.{_≡_, refl, sym, _∙_, ap, ap₂, subst⁻¹}
+use mathlib.Core.Bool.{Bool, true, false, cond}
+use mathlib.Core.List.{List, [], _∷_, _++_}
+use Prim.Native.Nat.{ℕ, _+_, _*_, _-_, _<_, _≤_, min}
+use native.Mathlib.Omega.{arith}
+use lib.Dec.{ltb}
+use lib.ListN.{length, getD, take, drop, length-append}
+use lib.IntN.{ℤ}
+use borrow.Author.Tests.{lt-ltb, ltb-true}
+use Rattle.reading.specs.declared.Bits.{Bits}
+use Rattle.reading.specs.declared.BlockRead.{BlockRead}
+use Rattle.reading.specs.declared.BlockRead.the-variants.{Got, Stop}
+use Rattle.reading.specs.declared.Fault.{Fault}
+use Rattle.reading.specs.declared.ScanCursor.{ScanCursor}
+use Rattle.reading.specs.Reader.{Read, fault}
+use Rattle.reading.specs.Block.{places}
+use Rattle.reading.specs.Answers.{said, levelsOf}
+use Rattle.reading.specs.Transform.{samplesTo}
+use Rattle.reading.specs.Scan as scan
+use Rattle.jpeg_scan.specs.declared.Plan.{Plan}
+use Rattle.jpeg_scan.specs.Plans.{chan, Stands}
+use Rattle.jpeg_scan.specs.Steps.{ahead, resumed, before, placed, inked, Passed}
+use Rattle.jpeg_scan.proofs.Standing.{chan-below}
+use Rattle.jpeg_scan.proofs.Onward.{before-none, before-before, before-fault, ahead-none, resumed-none, inside, channel-here, blockAt, past, block-stop, block-next, block-reach}
+use Rattle.jpeg_scan.proofs.Samples.{inked-not, inked-none, inked-more, inked-one, painted-length}
+
+-- the bytes that have the tables
+abbrev pub head : Plan → List ℕ → List ℕ
+head n s = take (n .start) s
+
+-- the scratch behind a block at the cursor q, of channel c and with the levels l, of which the first k are not 0
+abbrev pub paintedAt : Plan → List ℕ → ℕ → ScanCursor → Bool → List ℤ → ℕ → List ℕ → List ℕ
+paintedAt n s c q write l k old =
+    cond write (placed (64 * q .done) (samplesTo (take 64 (drop (getD (n .quants) c 0) (head n s))) l k) old) old
+
+-- the blocks from block j of an MCU on: the restart before its first block is done
+abbrev entered : List ℕ → scan.Plan → ℕ → ℕ → ScanCursor → Read Bits (List (List ℤ))
+entered s p N j q = cond (ltb 0 j) (ahead s p N q) (resumed s p N q)
+
+-- what was read of the MCU before its block j, for a plan of the rules
+pub record On (s : List ℕ) (p : scan.Plan) (n : Plan) (write : Bool) (old : List ℕ) (from : ScanCursor) (new : List ℕ) (q : ScanCursor) (j : ℕ) : Type 0 where
+  pub levels : List (List ℤ)
+  pub count : length levels ≡ j
+  pub same : resumed s p (n .blocks) from ≡ before levels (entered s p (n .blocks) j q)
+  pub here : new ≡ inked write p (from .done) levels old
+
+-- before block j: `from` is the cursor and `old` the scratch at the start of the MCU, q and `new` are those now
+pub record Walk (s : List ℕ) (n : Plan) (write : Bool) (old : List ℕ) (from : ScanCursor) (new : List ℕ) (q : ScanCursor) (j : ℕ) : Type 0 where
+  pub size : length new ≡ length old
+  pub place : q .done ≡ from .done + j
+  pub few : j ≤ n .per
+  pub left : j ≤ n .blocks - from .done
+  pub on : (p : scan.Plan) (m : ℕ) → Stands (head n s) n p → from .done ≡ m * n .per → On s p n write old from new q j
+
+pub begin : (s : List ℕ) (n : Plan) (write : Bool) (old : List ℕ) (q : ScanCursor) → Walk s n write old q old q 0
+begin s n write old q =
+    record {
+      size = refl;
+      place = omega arith;
+      few = omega arith;
+      left = omega arith;
+      on = λ p m st e.
+          record { levels = []; count = refl; same = sym (before-none (resumed s p (n .blocks) q)); here = sym (inked-none write p (q .done) old) };
+    }
+
+pub below : (lumas j : ℕ) {c : ℕ} → c ≡ chan lumas j → c < 3
+below lumas j {c} u = subst⁻¹ (λ (k : ℕ). k < 3) u (chan-below lumas j)
+
+module _ {s : List ℕ} {n : Plan} {write : Bool} {old : List ℕ} {from : ScanCursor} {new : List ℕ} {q : ScanCursor} {j : ℕ} (w : Walk s n write old from new q j) where
+  module _ (p : scan.Plan) (m : ℕ) (st : Stands (head n s) n p) (e : from .done ≡ m * n .per) where
+    o : On s p n write old from new q j
+    o = w .on p m st e
+
+    at : q .done ≡ m * n .per + j
+    at = w .place ∙ ap (λ (k : ℕ). k + j) e
+
+    -- ---- the last block is read
+
+    finish : entered s p (n .blocks) j q ≡ ahead s p (n .blocks) q → length (o .levels) ≡ min (n .per) (n .blocks - from .done) → Passed s p n from q write old new
+    finish a c =
+        record {
+          levels = o .levels;
+          count = c;
+          place = w .place ∙ ap (λ (k : ℕ). from .done + k) (sym (o .count));
+          same = o .same ∙ ap (before (o .levels)) a;
+          here = o .here;
+        }
+
+    -- of the MCU
+    pub whole : n .per ≤ j → Passed s p n from q write old new
+    whole h = finish (rw (lt-ltb 0 j (omega (arith, st .some))) refl) (omega (arith, o .count, w .few, w .left))
+
+    -- of the scan
+    pub out : n .blocks ≤ q .done → Passed s p n from q write old new
+    out h = finish (none (ltb 0 j)) (omega (arith, o .count, w .few, w .left, w .place))
+      where
+        none : (t : Bool) → cond t (ahead s p (n .blocks) q) (resumed s p (n .blocks) q) ≡ ahead s p (n .blocks) q
+        none true = refl
+        none false = resumed-none s p (n .blocks) q h ∙ sym (ahead-none s p (n .blocks) q h)
+
+    -- ---- block j is read
+
+    behind : j < n .per → entered s p (n .blocks) j q ≡ resumed s p (n .blocks) q
+    behind h = go (ltb 0 j) refl
+      where
+        go : (t : Bool) → ltb 0 j ≡ t → cond t (ahead s p (n .blocks) q) (resumed s p (n .blocks) q) ≡ resumed s p (n .blocks) q
+        go true l = inside st s m j (n .blocks) q at (ltb-true 0 j l) h
+        go false l = refl
+
+    module _ (h : j < n .per) (i : q .done < n .blocks) {c : ℕ} (u : c ≡ chan (n .lumas) j) {x : BlockRead} (v : x ≡ said (blockAt (head n s) n s c q)) where
+      few-c : c < 3
+      few-c = below (n .lumas) j u
+
+      pub broken : {f : Fault} → x ≡ Stop f → (resumed s p (n .blocks) from ≡ fault f) × (write ≡ false → new ≡ old)
+      broken {f} g = (
+        o .same ∙ ap (before (o .levels)) (behind h ∙ block-stop st s m j (n .blocks) q at h i c u few-c v g) ∙ before-fault (o .levels) f,
+        λ (t : write ≡ false). o .here ∙ ap (λ (b : Bool). inked b p (from .done) (o .levels) old) t ∙ inked-not p (from .done) (o .levels) old,
+      )
+
+      more : {b : Bits} {z : ℤ} {k : ℕ} → x ≡ Got b z k → {l : List ℤ} → l ≡ levelsOf (blockAt (head n s) n s c q) → {new′ : List ℕ} → new′ ≡ paintedAt n s c q write l k new
+          → (write ≡ true → 64 * n .blocks ≤ length old) → On s p n write old from new′ (past q c z b) (j + 1)
+      more {b} {z} {k} g {l} y {new′} d room =
+          let next : resumed s p (n .blocks) q ≡ before (l ∷ []) (ahead s p (n .blocks) (past q c z b)) =
+          block-next st s m j (n .blocks) q at h i c u few-c v g ∙ ap (λ (r : List ℤ). before (r ∷ []) (ahead s p (n .blocks) (past q c z b))) (sym y) in
+          let reach : k ≡ places l = block-reach st s m j (n .blocks) q at h i c u few-c v g ∙ ap places (sym y) in
+          let place : q .done ≡ from .done + length (o .levels) = w .place ∙ ap (λ (a : ℕ). from .done + a) (sym (o .count)) in
+          record {
+            levels = o .levels ++ (l ∷ []);
+            count = length-append (o .levels) (l ∷ []) ∙ ap (λ (a : ℕ). a + 1) (o .count);
+            same =
+                o .same ∙ ap (before (o .levels)) (behind h ∙ next) ∙ before-before (o .levels) (l ∷ []) (ahead s p (n .blocks) (past q c z b))
+                ∙ ap (before (o .levels ++ (l ∷ []))) (rw (lt-ltb 0 (j + 1) (omega arith)) refl);
+            here =
+                d ∙ inked-one write p (q .done) c (take 64 (drop (getD (n .quants) c 0) (head n s))) l k new (channel-here st s m j (q .done) at h ∙ sym u) (st .quant-is c few-c) reach
+                ∙ ap₂ (λ (a : ℕ) (x : List ℕ). inked write p a (l ∷ []) x) place (o .here)
+                ∙ inked-more write p (from .done) (o .levels) (l ∷ []) old (λ (t : write ≡ true). omega (arith, room t, w .place));
+          }
+
+  pub further : j < n .per → q .done < n .blocks → {c : ℕ} → c ≡ chan (n .lumas) j → {x : BlockRead} → x ≡ said (blockAt (head n s) n s c q)
+      → {b : Bits} {z : ℤ} {k : ℕ} → x ≡ Got b z k → {l : List ℤ} → l ≡ levelsOf (blockAt (head n s) n s c q) → {new′ : List ℕ} → new′ ≡ paintedAt n s c q write l k new
+      → (write ≡ true → 64 * n .blocks ≤ length old) → Walk s n write old from new′ (past q c z b) (j + 1)
+  further h i {c} u v {k = k} g {l} y d room =
+      record {
+        size = ap length d ∙ painted-length write (q .done) (take 64 (drop (getD (n .quants) c 0) (head n s))) l k new (λ (t : write ≡ true). omega (arith, room t, w .size)) ∙ w .size;
+        place = omega (arith, w .place);
+        few = omega arith;
+        left = omega (arith, w .left, w .place);
+        on = λ p m st e. more p m st e h i u v g y d room;
+      }

@@ -1,0 +1,209 @@
+-- Reading on: the blocks from a cursor on are the restart before its MCU, one block, and the blocks behind it.
+use mathlib.Core.List.{List, [], _∷_, _++_, append-assoc, append-nil}
+use mathlib.Core.Path.{_≡_, refl, sym, _∙_, ap, ap₂}
+use mathlib.Core.Bool.{Bool, true, false, cond}
+use Prim.Native.Nat.{ℕ, zero, suc, _+_, _-_, _*_, _/_, _%_, _<_, _≤_}
+use native.Mathlib.Nat.{mod-eq-of-lt, mul-mod-left, mul-div-cancel, mul-add-mod-self-right}
+use native.Mathlib.Numerals.{add-one}
+use native.Mathlib.Omega.{arith}
+use lib.Dec.{eqb}
+use lib.ListN.{getD, set}
+use lib.IntN.{ℤ, pos}
+use borrow.Author.Tests.{ne-eqb}
+use Rattle.reading.specs.declared.Bits.{Bits}
+use Rattle.reading.specs.declared.BlockRead.{BlockRead}
+use Rattle.reading.specs.declared.BlockRead.the-variants as answer
+use Rattle.reading.specs.declared.Fault.{Fault}
+use Rattle.reading.specs.declared.Fault.the-variants.{Broken}
+use Rattle.reading.specs.declared.ScanCursor.{ScanCursor}
+use Rattle.reading.specs.Tests.{_and_, isAt}
+use Rattle.reading.specs.Reader.{Read, got, fault, Reader, onward, _>>_, give}
+use Rattle.reading.specs.Bits.{one, file, mark, padded}
+use Rattle.reading.specs.Huffman.{Table, tableAt}
+use Rattle.reading.specs.Block.{block, places}
+use Rattle.reading.specs.Layout.{channelIn, channelOf, perMcu, mcuOf, dueBefore, restartDue, restartBefore, restartCode}
+use Rattle.reading.specs.Answers.{said, levelsOf}
+use Rattle.reading.specs.Scan as scan
+use Rattle.jpeg_block.proofs.Answered.{Taken, told}
+use Rattle.jpeg_scan.specs.declared.Plan.{Plan}
+use Rattle.jpeg_scan.specs.declared.Halt.{Halt}
+use Rattle.jpeg_scan.specs.declared.Halt.the-variants.{No, Yes}
+use Rattle.jpeg_scan.specs.declared.CursorRead.{CursorRead}
+use Rattle.jpeg_scan.specs.Plans.{chan, Stands}
+use Rattle.jpeg_scan.specs.Steps.{marked, onTo, behindMarker, restarted, begun, ahead, resumed, before}
+
+-- ---- blocks put before a reading
+
+pub before-none : (o : Read Bits (List (List ℤ))) → before [] o ≡ o
+unfolding before
+before-none (got ls b) = refl
+before-none (fault f) = refl
+
+pub before-before : (ls ms : List (List ℤ)) (o : Read Bits (List (List ℤ))) → before ls (before ms o) ≡ before (ls ++ ms) o
+unfolding before
+before-before ls ms (got ns b) = ap (λ (l : List (List ℤ)). got l b) (sym (append-assoc ls ms ns))
+before-before ls ms (fault f) = refl
+
+pub before-fault : (ls : List (List ℤ)) (f : Fault) → before ls (fault f) ≡ fault f
+unfolding before
+before-fault ls f = refl
+
+pub before-got : (ls : List (List ℤ)) (b : Bits) → before ls (got [] b) ≡ got ls b
+unfolding before
+before-got ls b = ap (λ (l : List (List ℤ)). got l b) (append-nil ls)
+
+before-one : (l : List ℤ) (o : Read Bits (List (List ℤ))) → onward o (λ ls. give (l ∷ ls)) ≡ before (l ∷ []) o
+unfolding before
+before-one l (got ls b) = refl
+before-one l (fault f) = refl
+
+-- ---- no blocks are left
+
+pub ahead-none : (s : List ℕ) (p : scan.Plan) (n : ℕ) (q : ScanCursor) → n ≤ q .done → ahead s p n q ≡ got [] (q .bits)
+unfolding ahead
+ahead-none s p n q h = let z : n - q .done ≡ 0 = omega arith in rw z
+
+pub resumed-none : (s : List ℕ) (p : scan.Plan) (n : ℕ) (q : ScanCursor) → n ≤ q .done → resumed s p n q ≡ got [] (q .bits)
+unfolding resumed
+resumed-none s p n q h = let z : n - q .done ≡ 0 = omega arith in rw z
+
+-- ---- behind a restart
+
+abbrev nothing : Unit {0}
+nothing = tt
+
+abbrev pub wentBy : Halt → ScanCursor → (ScanCursor → Read Bits (List (List ℤ))) → Read Bits (List (List ℤ))
+wentBy No q f = f q
+wentBy (Yes e) q f = fault e
+
+-- on from where a part of a scan has led
+abbrev pub went : CursorRead → (ScanCursor → Read Bits (List (List ℤ))) → Read Bits (List (List ℤ))
+went x f = wentBy (x .halt) (x .cursor) f
+
+pub went-by : {x y : CursorRead} → y ≡ x → {h : Halt} → x .halt ≡ h → (f : ScanCursor → Read Bits (List (List ℤ))) → went y f ≡ wentBy h (x .cursor) f
+went-by {x} {y} e {h} g f = ap (λ (z : CursorRead). went z f) e ∙ ap (λ (k : Halt). wentBy k (x .cursor) f) g
+
+-- ---- one block
+
+-- a block of channel c behind the prediction z; the tables stand in t
+abbrev pub blockBy : List ℕ → Plan → List ℕ → ℕ → ℤ → Bits → Read Bits (List ℤ)
+blockBy t n s c z b = block (one s) (tableAt t (getD (n .dcs) c 0)) (tableAt t (getD (n .acs) c 0)) z b
+
+-- the block at a cursor, where it is one of channel c
+abbrev pub blockAt : List ℕ → Plan → List ℕ → ℕ → ScanCursor → Read Bits (List ℤ)
+blockAt t n s c q = blockBy t n s c (getD (q .predictors) c (pos 0)) (q .bits)
+
+-- the cursor behind a block of channel c: its first level predicts the channel's next one
+abbrev pub past : ScanCursor → ℕ → ℤ → Bits → ScanCursor
+past q c z b = record { bits = b; predictors = set (q .predictors) c z; done = q .done + 1 }
+
+onward-same : {A B : Type 0} (o : Read Bits A) (f g : A → Reader Bits B) → ((a : A) (q : Bits) → f a q ≡ g a q) → onward o f ≡ onward o g
+onward-same (got a q) f g h = h a q
+onward-same (fault e) f g h = refl
+
+resumed-block : (s : List ℕ) (p : scan.Plan) (N : ℕ) (q : ScanCursor) → q .done < N → (c : ℕ) → channelOf (p .shape) (q .done) ≡ c
+    → resumed s p N q ≡ onward (block (one s) (p .channels c .dc) (p .channels c .ac) (getD (q .predictors) c (pos 0)) (q .bits)) (λ l b. before (l ∷ []) (ahead s p N (past q c (getD l 0 (pos 0)) b)))
+unfolding resumed ahead file
+resumed-block s p N q i c u =
+    let more : N - q .done ≡ suc (N - (q .done + 1)) = omega arith in
+    rw (more, u)
+    (onward-same (block (one s) (p .channels c .dc) (p .channels c .ac) (getD (q .predictors) c (pos 0)) (q .bits)) _ _
+    (λ l b. before-one l _ ∙ ap (λ (k : ℕ). before (l ∷ []) (scan.blocks (file s) p (N - (q .done + 1)) k (set (q .predictors) c (getD l 0 (pos 0))) b)) (sym (add-one (q .done)))))
+
+ahead-restart : (s : List ℕ) (p : scan.Plan) (N : ℕ) (q : ScanCursor) → q .done < N
+    → ahead s p N q ≡ onward (scan.restart (file s) p (q .done) (q .predictors) (q .bits)) (λ qs b. resumed s p N (record { bits = b; predictors = qs; done = q .done }))
+unfolding ahead resumed file
+ahead-restart s p N q i = let more : N - q .done ≡ suc (N - (q .done + 1)) = omega arith in rw more
+
+module _ {t : List ℕ} {n : Plan} {p : scan.Plan} (st : Stands t n p) (s : List ℕ) where
+  -- block j of MCU m
+  module _ (m j k : ℕ) (e : k ≡ m * n .per + j) (h : j < n .per) where
+    place-in : k % perMcu (p .shape) ≡ j
+    place-in = ap₂ (λ (a b : ℕ). a % b) e (st .per-is) ∙ mul-add-mod-self-right m (n .per) j ∙ mod-eq-of-lt h
+
+    pub channel-here : channelOf (p .shape) k ≡ chan (n .lumas) j
+    unfolding channelOf
+    channel-here = ap (λ (i : ℕ). channelIn (p .shape .factors) i) place-in ∙ st .channel-is j h
+
+    -- inside an MCU no restart is due
+    not-due : 0 < j → restartDue (p .shape) (p .interval) k ≡ false
+    unfolding restartDue
+    not-due i = ap (λ (x : ℕ). eqb x 0 and dueBefore (p .interval) (mcuOf (p .shape) k)) place-in ∙ ap (λ (x : Bool). x and dueBefore (p .interval) (mcuOf (p .shape) k)) (ne-eqb j 0 (λ (z : j ≡ 0). omega arith))
+
+  pub inside : (m j : ℕ) (N : ℕ) (q : ScanCursor) → q .done ≡ m * n .per + j → 0 < j → j < n .per → ahead s p N q ≡ resumed s p N q
+  unfolding ahead resumed
+  inside m j N q e i h = go (N - q .done)
+    where
+      go : (k : ℕ) → scan.blocks (file s) p k (q .done) (q .predictors) (q .bits) ≡ begun (file s) p k (q .done) (q .predictors) (q .bits)
+      go zero = refl
+      go (suc k) = rw (not-due m j (q .done) e h i)
+
+  -- the block at a cursor
+  module _ (m j N : ℕ) (q : ScanCursor) (e : q .done ≡ m * n .per + j) (h : j < n .per) (i : q .done < N) (c : ℕ) (u : c ≡ chan (n .lumas) j) (few : c < 3) where
+    abbrev B : Read Bits (List ℤ)
+    B = blockAt t n s c q
+
+    first : resumed s p N q ≡ onward B (λ l b. before (l ∷ []) (ahead s p N (past q c (getD l 0 (pos 0)) b)))
+    first = resumed-block s p N q i c (channel-here m j (q .done) e h ∙ sym u) ∙ ap₂ (λ (dc ac : Table). after dc ac) (st .dc-is c few) (st .ac-is c few)
+      where
+        after : Table → Table → Read Bits (List (List ℤ))
+        after dc ac = onward (block (one s) dc ac (getD (q .predictors) c (pos 0)) (q .bits)) (λ l b. before (l ∷ []) (ahead s p N (past q c (getD l 0 (pos 0)) b)))
+
+    module _ {x : BlockRead} (said-so : x ≡ said B) where
+      pub block-stop : {f : Fault} → x ≡ answer.Stop f → resumed s p N q ≡ fault f
+      block-stop {f} g = first ∙ ap (λ (o : Read Bits (List ℤ)). onward o (λ l b. before (l ∷ []) (ahead s p N (past q c (getD l 0 (pos 0)) b)))) (told B said-so g .read)
+
+      pub block-next : {b : Bits} {z : ℤ} {k : ℕ} → x ≡ answer.Got b z k → resumed s p N q ≡ before (levelsOf B ∷ []) (ahead s p N (past q c z b))
+      block-next {b} {z} {k} g =
+          let y : Taken B b z k = told B said-so g in
+          first ∙ ap (λ (o : Read Bits (List ℤ)). onward o (λ l b. before (l ∷ []) (ahead s p N (past q c (getD l 0 (pos 0)) b)))) (y .read)
+          ∙ ap₂ (λ (l : List ℤ) (w : ℤ). before (l ∷ []) (ahead s p N (past q c w b))) (sym (y .left)) (sym (y .first))
+
+      pub block-reach : {b : Bits} {z : ℤ} {k : ℕ} → x ≡ answer.Got b z k → k ≡ places (levelsOf B)
+      block-reach {b} {z} {k} g = let y : Taken B b z k = told B said-so g in y .reach ∙ ap places (sym (y .left))
+
+  -- the restart before MCU m
+  module _ (m N : ℕ) (q : ScanCursor) (e : q .done ≡ m * n .per) (i : q .done < N) where
+    mcu-is : mcuOf (p .shape) (q .done) ≡ m
+    mcu-is = ap₂ (λ (a b : ℕ). a / b) e (st .per-is) ∙ mul-div-cancel m (st .some)
+
+    due-is : restartDue (p .shape) (p .interval) (q .done) ≡ dueBefore (n .interval) m
+    unfolding restartDue
+    due-is =
+        ap (λ (x : ℕ). eqb x 0 and dueBefore (p .interval) (mcuOf (p .shape) (q .done))) (ap₂ (λ (a b : ℕ). a % b) e (st .per-is) ∙ mul-mod-left m (n .per))
+        ∙ ap₂ dueBefore (st .interval-is) mcu-is
+
+    code-is : restartCode (p .shape) (p .interval) (q .done) ≡ restartBefore (n .interval) m
+    code-is = ap₂ restartBefore (st .interval-is) mcu-is
+
+    pub restart-next : ahead s p N q ≡ went (restarted s (n .interval) m q) (resumed s p N)
+    unfolding restarted marked file
+    restart-next = ahead-restart s p N q i ∙ rw (due-is, code-is) (go (dueBefore (n .interval) m))
+      where
+        code : ℕ
+        code = restartBefore (n .interval) m
+
+        after : List ℤ → Bits → Read Bits (List (List ℤ))
+        after qs b = resumed s p N (record { bits = b; predictors = qs; done = q .done })
+
+        found : (x : Bool)
+            → onward (onward (cond x (got nothing (scan.firstBit (q .bits .at + 2))) (fault Broken)) (λ _. give scan.noPredictors)) after
+            ≡ went (cond x (onTo (behindMarker q)) (record { halt = Yes Broken; cursor = q })) (resumed s p N)
+        found true = refl
+        found false = refl
+
+        go : (t : Bool)
+            → onward (cond t (mark s code >> give scan.noPredictors) (give (q .predictors)) (q .bits)) after
+            ≡ went (cond t (cond (marked s (q .bits) code) (onTo (behindMarker q)) (record { halt = Yes Broken; cursor = q })) (onTo q)) (resumed s p N)
+        go true = found (padded (q .bits) and isAt s (q .bits .at) 255 and isAt s (q .bits .at + 1) code)
+        go false = refl
+
+    -- a restart counts no block
+    pub restart-done : restarted s (n .interval) m q .cursor .done ≡ q .done
+    unfolding restarted
+    restart-done = go (dueBefore (n .interval) m) (marked s (q .bits) (restartBefore (n .interval) m))
+      where
+        go : (t x : Bool) → (cond t (cond x (onTo (behindMarker q)) (record { halt = Yes Broken; cursor = q })) (onTo q)) .cursor .done ≡ q .done
+        go true true = refl
+        go true false = refl
+        go false x = refl

@@ -1,0 +1,127 @@
+-- The samples of blocks in the scratch: one block's, and those of blocks one after another.
+use mathlib.Core.List.{List, [], _∷_, _++_, append-assoc, append-nil}
+use mathlib.Core.Path.{_≡_, refl, sym, _∙_, ap, ap₂}
+use mathlib.Core.Bool.{Bool, true, false, cond}
+use Prim.Native.Nat.{ℕ, suc, _+_, _-_, _*_, _/_, _%_, _≤_}
+use native.Mathlib.Omega.{arith}
+use lib.ListN.{length, take, drop, length-append, length-take, length-drop, take-append-drop, drop-of-length-le}
+use lib.Seq.{length-take-le, take-at, drop-at, drop-drop}
+use lib.IntN.{ℤ}
+use borrow.Author.Tests.{le-ltb}
+use Rattle.whole.specs.Lists.{length-from}
+use Rattle.reading.specs.Block.{places}
+use Rattle.reading.specs.Layout.{channelOf}
+use Rattle.reading.specs.Transform.{coefficients, plane, sampleOf, samples, samplesTo, painted}
+use Rattle.reading.specs.Reading.{dequantized, blockSamples}
+use Rattle.reading.specs.Scan as scan
+use Rattle.jpeg_block.proofs.Reach.{samples-enough}
+use Rattle.jpeg_scan.specs.Steps.{placed, inked}
+
+-- ---- the samples of blocks one after another
+
+pub samples-length : (c : List ℤ) → length (samples c) ≡ 64
+unfolding samples
+samples-length c = length-from (λ (k : ℕ). sampleOf (plane c (k / 8) (k % 8))) 0 64
+
+abbrev pub samplesOf : scan.Plan → ℕ → List (List ℤ) → List ℕ
+samplesOf p k ls = blockSamples (dequantized p k ls)
+
+pub samplesTo-length : (q : List ℕ) (l : List ℤ) (n : ℕ) → length (samplesTo q l n) ≡ 64
+unfolding samplesTo
+samplesTo-length q l n = samples-length (coefficients q (take n l))
+
+pub samplesOf-length : (p : scan.Plan) (k : ℕ) (ls : List (List ℤ)) → length (samplesOf p k ls) ≡ 64 * length ls
+samplesOf-length p k [] = refl
+samplesOf-length p k (l ∷ ls) =
+    let c : List ℤ = coefficients (p .channels (channelOf (p .shape) k) .quant) l in
+    length-append (samples c) (samplesOf p (suc k) ls) ∙ ap₂ (λ (a b : ℕ). a + b) (samples-length c) (samplesOf-length p (suc k) ls) ∙ omega arith
+
+pub samplesOf-append : (p : scan.Plan) (k : ℕ) (ls ms : List (List ℤ)) → samplesOf p k (ls ++ ms) ≡ samplesOf p k ls ++ samplesOf p (k + length ls) ms
+samplesOf-append p k [] ms = let z : k ≡ k + 0 = omega arith in ap (λ (i : ℕ). samplesOf p i ms) z
+samplesOf-append p k (l ∷ ls) ms =
+    let c : List ℤ = coefficients (p .channels (channelOf (p .shape) k) .quant) l in
+    let z : suc k + length ls ≡ k + suc (length ls) = omega arith in
+    ap (λ (r : List ℕ). samples c ++ r) (samplesOf-append p (suc k) ls ms ∙ ap (λ (i : ℕ). samplesOf p (suc k) ls ++ samplesOf p i ms) z)
+    ∙ sym (append-assoc (samples c) (samplesOf p (suc k) ls) (samplesOf p (k + suc (length ls)) ms))
+
+-- ---- in the scratch
+
+-- a part of 64 bytes holds the samples and nothing else
+painted-is : (q : List ℕ) (l : List ℤ) (n : ℕ) (out : List ℕ) → length out ≡ 64 → painted q l n out ≡ samplesTo q l n
+unfolding painted
+painted-is q l n out e =
+    rw (le-ltb (length out) 64 (omega arith))
+    (ap (λ (r : List ℕ). samplesTo q l n ++ r) (drop-of-length-le out {i = length (samplesTo q l n)} (omega (arith, samplesTo-length q l n))) ∙ append-nil (samplesTo q l n))
+
+-- a part of 64 bytes that was lent, painted, and came back
+pub painted-part : (q : List ℕ) (l : List ℤ) (n a w : ℕ) (old new : List ℕ) → w ≡ 64 → a + 64 ≤ length old → {x : List ℕ} → x ≡ q → new ≡ painted x l n (take w (drop a old))
+    → take a old ++ (new ++ drop w (drop a old)) ≡ placed a (samplesTo q l n) old
+unfolding placed
+painted-part q l n a w old new e h {x} u g =
+    let size : length (take w (drop a old)) ≡ 64 = length-take w (drop a old) ∙ omega (arith, length-drop a old) in
+    let is : new ≡ samplesTo q l n = g ∙ ap (λ (y : List ℕ). painted y l n (take w (drop a old))) u ∙ painted-is q l n (take w (drop a old)) size in
+    let sum : a + w ≡ a + length (samplesTo q l n) = omega (arith, samplesTo-length q l n) in
+    ap₂ (λ (x y : List ℕ). take a old ++ (x ++ y)) is (drop-drop w a old ∙ ap (λ (k : ℕ). drop k old) sum)
+
+placed-none : (a : ℕ) (old : List ℕ) → placed a [] old ≡ old
+unfolding placed
+placed-none a old = let z : a + 0 ≡ a = omega arith in rw z (take-append-drop a old)
+
+placed-placed : (a : ℕ) (xs ys old : List ℕ) → a ≤ length old → placed (a + length xs) ys (placed a xs old) ≡ placed a (xs ++ ys) old
+unfolding placed
+placed-placed a xs ys old h =
+    let head : List ℕ = take a old ++ xs in
+    let tail : List ℕ = drop (a + length xs) old in
+    let size : length head ≡ a + length xs = length-append (take a old) xs ∙ ap (λ (k : ℕ). k + length xs) (length-take-le a old h) in
+    let whole : take a old ++ (xs ++ tail) ≡ head ++ tail = sym (append-assoc (take a old) xs tail) in
+    let front : take (a + length xs) (head ++ tail) ≡ head = take-at head tail (a + length xs) size in
+    let sum : a + length xs + length ys ≡ a + length (xs ++ ys) = omega (arith, length-append xs ys) in
+    let back : drop (a + length xs + length ys) (head ++ tail) ≡ drop (a + length (xs ++ ys)) old =
+    sym (drop-drop (length ys) (a + length xs) (head ++ tail)) ∙ ap (drop (length ys)) (drop-at head tail (a + length xs) size)
+    ∙ drop-drop (length ys) (a + length xs) old ∙ ap (λ (k : ℕ). drop k old) sum in
+    ap (λ (l : List ℕ). take (a + length xs) l ++ (ys ++ drop (a + length xs + length ys) l)) whole
+    ∙ ap₂ (λ (f b : List ℕ). f ++ (ys ++ b)) front back
+    ∙ append-assoc (take a old) xs (ys ++ drop (a + length (xs ++ ys)) old)
+    ∙ ap (λ (l : List ℕ). take a old ++ l) (sym (append-assoc xs ys (drop (a + length (xs ++ ys)) old)))
+
+placed-length : (a : ℕ) (xs old : List ℕ) → a + length xs ≤ length old → length (placed a xs old) ≡ length old
+unfolding placed
+placed-length a xs old h =
+    length-append (take a old) (xs ++ drop (a + length xs) old)
+    ∙ omega (arith, length-append xs (drop (a + length xs) old), length-drop (a + length xs) old, length-take-le a old (omega arith))
+
+pub painted-length : (write : Bool) (k : ℕ) (q : List ℕ) (l : List ℤ) (n : ℕ) (old : List ℕ) → (write ≡ true → 64 * k + 64 ≤ length old)
+    → length (cond write (placed (64 * k) (samplesTo q l n) old) old) ≡ length old
+painted-length true k q l n old h = placed-length (64 * k) (samplesTo q l n) old (omega (arith, samplesTo-length q l n, h refl))
+painted-length false k q l n old h = refl
+
+pub inked-not : (p : scan.Plan) (k : ℕ) (ls : List (List ℤ)) (old : List ℕ) → inked false p k ls old ≡ old
+unfolding inked
+inked-not p k ls old = refl
+
+pub inked-none : (write : Bool) (p : scan.Plan) (k : ℕ) (old : List ℕ) → inked write p k [] old ≡ old
+unfolding inked
+inked-none false p k old = refl
+inked-none true p k old = placed-none (64 * k) old
+
+-- blocks, and then blocks behind them
+pub inked-more : (write : Bool) (p : scan.Plan) (k : ℕ) (ls ms : List (List ℤ)) (old : List ℕ) → (write ≡ true → 64 * k ≤ length old)
+    → inked write p (k + length ls) ms (inked write p k ls old) ≡ inked write p k (ls ++ ms) old
+unfolding inked
+inked-more false p k ls ms old h = refl
+inked-more true p k ls ms old h =
+    let z : 64 * (k + length ls) ≡ 64 * k + length (samplesOf p k ls) = omega (arith, samplesOf-length p k ls) in
+    ap (λ (a : ℕ). placed a (samplesOf p (k + length ls) ms) (placed (64 * k) (samplesOf p k ls) old)) z
+    ∙ placed-placed (64 * k) (samplesOf p k ls) (samplesOf p (k + length ls) ms) old (h refl)
+    ∙ ap (λ (l : List ℕ). placed (64 * k) l old) (sym (samplesOf-append p k ls ms))
+
+-- one block, as the code paints it
+pub inked-one : (write : Bool) (p : scan.Plan) (k c : ℕ) (q : List ℕ) (l : List ℤ) (reach : ℕ) (old : List ℕ)
+    → channelOf (p .shape) k ≡ c → p .channels c .quant ≡ q → reach ≡ places l
+    → cond write (placed (64 * k) (samplesTo q l reach) old) old ≡ inked write p k (l ∷ []) old
+unfolding inked
+inked-one false p k c q l reach old u v e = refl
+inked-one true p k c q l reach old u v e =
+    ap (λ (x : List ℕ). placed (64 * k) x old)
+    (ap (samplesTo q l) e ∙ samples-enough l q ∙ ap (λ (x : List ℕ). samples (coefficients x l)) (sym v)
+    ∙ ap (λ (d : ℕ). samples (coefficients (p .channels d .quant) l)) (sym u) ∙ sym (append-nil (samples (coefficients (p .channels (channelOf (p .shape) k) .quant) l))))

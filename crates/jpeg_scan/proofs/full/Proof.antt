@@ -1,0 +1,35 @@
+use mathlib.Core.Path.{sym, subst}
+use Prim.Native.Nat.{ℕ, _<_, _^_, _*_, _%_}
+use lib.Pow.{pow-pos}
+use Rattle.jpeg_scan.proofs.Marks.{padded-over, shifted, padded-is}
+use borrow.Author.Needs.{needs}
+use Rattle.jpeg_scan.proofs.full.Statement.{statement}
+use Rattle.jpeg_scan.proofs.full.Tie as tie
+use Rattle.jpeg_scan.proofs.full.Reads as reads
+use Rattle.jpeg_scan.proofs.full.Lts as lts
+
+-- src/lib.rt:160:9
+returns : tie.Need-returns
+returns c = padded-over _ _ (c .if1 .taken) (search needs)
+
+-- src/lib.rt:162:13
+shl-p : tie.Need-shl-p
+shl-p c = search needs
+
+positive : (c : tie.Else1) → 0 < (1 * 2 ^ c .before .args .left) % 18446744073709551616
+positive c = subst (λ (k : ℕ). 0 < k) (sym (shifted _ (c .if1 .left))) (pow-pos _)
+
+-- src/lib.rt:163:5
+rem-result : tie.Need-rem-result
+rem-result c = positive c
+
+-- src/lib.rt:163:26
+sub-result : tie.Need-sub-result
+sub-result c = positive c
+
+-- src/lib.rt:156:1
+returns-2 : tie.Need-returns-2
+returns-2 c = padded-is _ _ _ (shifted _ (c .if1 .left))
+
+pub full-spec : {M : Type 1} → statement M
+full-spec = tie.close (tie.spec returns shl-p rem-result sub-result returns-2)

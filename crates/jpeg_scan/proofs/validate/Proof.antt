@@ -1,0 +1,23 @@
+use mathlib.Core.Bool.{true≢false}
+use mathlib.Core.Path.{sym}
+use borrow.Author.Needs.{needs}
+use Rattle.jpeg_scan.proofs.validate.Statement.{statement}
+use Rattle.jpeg_scan.proofs.validate.Tie as tie
+use Rattle.jpeg_scan.proofs.validate.Reads as reads
+use Rattle.jpeg_scan.proofs.validate.Lts as lts
+use Rattle.jpeg_scan.proofs.run.Reads as run-reads
+
+-- src/lib.rt:373:26
+slice-aggregate-run : tie.Need-slice-aggregate-run
+slice-aggregate-run c = search needs
+
+-- src/lib.rt:373:5
+run-requires : tie.Need-run-requires
+run-requires c κs = λ t. absurd (true≢false (sym t))
+
+-- src/lib.rt:369:1
+returns : tie.Need-returns
+returns c = search needs
+
+pub validate-spec : {M : Type 1} → statement M
+validate-spec = tie.close (tie.spec slice-aggregate-run run-requires returns)

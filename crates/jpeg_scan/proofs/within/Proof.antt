@@ -1,0 +1,16 @@
+use borrow.Author.Tests.{le-leb, lt-leb}
+use Rattle.jpeg_scan.proofs.within.Statement.{statement}
+use Rattle.jpeg_scan.proofs.within.Tie as tie
+use Rattle.jpeg_scan.proofs.within.Reads as reads
+use Rattle.jpeg_scan.proofs.within.Lts as lts
+
+-- src/lib.rt:53:9
+returns : tie.Need-returns
+returns c = rw (le-leb _ _ (c .if1 .taken))
+
+-- src/lib.rt:49:1
+returns-2 : tie.Need-returns-2
+returns-2 c = rw (lt-leb _ _ (c .if1 .left))
+
+pub within-spec : {M : Type 1} → statement M
+within-spec = tie.close (tie.spec returns returns-2)

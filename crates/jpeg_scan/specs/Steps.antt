@@ -1,0 +1,107 @@
+-- The steps in which a scan is read: the restart before an MCU, the blocks of an MCU, the end; and what is left in the scratch.
+use mathlib.Core.Path.{_≡_}
+use mathlib.Core.List.{List, [], _∷_, _++_}
+use mathlib.Core.Bool.{Bool, true, false, cond}
+use Prim.Native.Nat.{ℕ, zero, suc, _+_, _*_, _-_, min}
+use lib.ListN.{length, getD, set, take, drop}
+use lib.IntN.{ℤ, pos}
+use Rattle.reading.specs.declared.Bits.{Bits}
+use Rattle.reading.specs.declared.Fault.the-variants.{Broken}
+use Rattle.reading.specs.declared.Record.{Record}
+use Rattle.reading.specs.declared.ScanCursor.{ScanCursor}
+use Rattle.reading.specs.Tests.{_and_, isAt, over}
+use Rattle.reading.specs.Reader.{Read, got, fault, Reader, _>>=_, give}
+use Rattle.reading.specs.Bits.{Source, padded, file}
+use Rattle.reading.specs.Block.{block}
+use Rattle.reading.specs.Layout.{channelOf, dueBefore, restartBefore}
+use Rattle.reading.specs.Scan as scan
+use Rattle.reading.specs.Reading.{dequantized, blockSamples, allSamples}
+use Rattle.jpeg_scan.specs.declared.Plan.{Plan}
+use Rattle.jpeg_scan.specs.declared.Halt.{Halt}
+use Rattle.jpeg_scan.specs.declared.Halt.the-variants.{No, Yes}
+use Rattle.jpeg_scan.specs.declared.CursorRead.{CursorRead}
+use Rattle.jpeg_scan.specs.Plans.{Stands}
+
+-- ---- the restart
+
+-- padding, then 255 and a code
+unfoldable pub marked : List ℕ → Bits → ℕ → Bool
+marked s b code = padded b and isAt s (b .at) 255 and isAt s (b .at + 1) code
+
+abbrev pub onTo : ScanCursor → CursorRead
+onTo q = record { halt = No; cursor = q }
+
+-- behind a marker: the predictors become 0
+abbrev pub behindMarker : ScanCursor → ScanCursor
+behindMarker q = record { bits = scan.firstBit (q .bits .at + 2); predictors = scan.noPredictors; done = q .done }
+
+-- before MCU m: where a restart is due, padding and its marker
+unfoldable pub restarted : List ℕ → ℕ → ℕ → ScanCursor → CursorRead
+unfolding marked
+restarted s interval m q =
+    cond (dueBefore interval m)
+    (cond (marked s (q .bits) (restartBefore interval m)) (onTo (behindMarker q)) (record { halt = Yes Broken; cursor = q }))
+    (onTo q)
+
+-- ---- the blocks from a cursor on
+
+-- n more blocks from block k on, the restart before the first of them done
+abbrev pub begun : {S : Type 0} → Source S → scan.Plan → ℕ → ℕ → List ℤ → Reader S (List (List ℤ))
+begun src p zero k ps = give []
+begun src p (suc n) k ps =
+    let c = channelOf (p .shape) k in
+    let ch = p .channels c in
+    block (src .next) (ch .dc) (ch .ac) (getD ps c (pos 0)) >>= λ l. scan.blocks src p n (suc k) (set ps c (getD l 0 (pos 0))) >>= λ ls. give (l ∷ ls)
+
+-- the blocks from a cursor on, of n blocks in all
+unfoldable pub ahead : List ℕ → scan.Plan → ℕ → ScanCursor → Read Bits (List (List ℤ))
+unfolding file
+ahead s p n q = scan.blocks (file s) p (n - q .done) (q .done) (q .predictors) (q .bits)
+
+-- the same, the restart before the first of them done
+unfoldable pub resumed : List ℕ → scan.Plan → ℕ → ScanCursor → Read Bits (List (List ℤ))
+unfolding file
+resumed s p n q = begun (file s) p (n - q .done) (q .done) (q .predictors) (q .bits)
+
+-- blocks that were read, put before those that are read
+unfoldable pub before : List (List ℤ) → Read Bits (List (List ℤ)) → Read Bits (List (List ℤ))
+before ls (got ms b) = got (ls ++ ms) b
+before ls (fault f) = fault f
+
+-- ---- the scratch
+
+-- bytes put at a place
+unfoldable pub placed : ℕ → List ℕ → List ℕ → List ℕ
+placed a new old = take a old ++ (new ++ drop (a + length new) old)
+
+-- the scratch behind the blocks ls, which start at block k: each block's samples at its own part, where they are written
+unfoldable pub inked : Bool → scan.Plan → ℕ → List (List ℤ) → List ℕ → List ℕ
+unfolding placed
+inked false p k ls old = old
+inked true p k ls old = placed (64 * k) (blockSamples (dequantized p k ls)) old
+
+-- ---- what the blocks of one MCU leave
+
+-- they were read: as many as an MCU has, or as are left
+pub record Passed (s : List ℕ) (p : scan.Plan) (n : Plan) (from q : ScanCursor) (write : Bool) (old new : List ℕ) : Type 0 where
+  pub levels : List (List ℤ)
+  pub count : length levels ≡ min (n .per) (n .blocks - from .done)
+  pub place : q .done ≡ from .done + length levels
+  pub same : resumed s p (n .blocks) from ≡ before levels (ahead s p (n .blocks) q)
+  pub here : new ≡ inked write p (from .done) levels old
+
+abbrev pub Behind : List ℕ → scan.Plan → Plan → ScanCursor → Bool → List ℕ → Halt → ScanCursor → List ℕ → Type 0
+Behind s p n from write old No q new = Passed s p n from q write old new
+Behind s p n from write old (Yes f) q new = (resumed s p (n .blocks) from ≡ fault f) × (write ≡ false → new ≡ old)
+
+-- for every plan of the rules that the numbers stand for, where an MCU starts at the cursor
+pub record Went (s : List ℕ) (n : Plan) (from : ScanCursor) (write : Bool) (old : List ℕ) (r : CursorRead) (new : List ℕ) : Type 0 where
+  pub size : length new ≡ length old
+  pub each : (p : scan.Plan) (m : ℕ) → Stands (take (n .start) s) n p → from .done ≡ m * n .per → Behind s p n from write old (r .halt) (r .cursor) new
+
+-- what a whole scan leaves in the scratch: without samples the scratch as it was; with them, of an accepted scan, its samples
+-- and then the old tail
+abbrev pub Left : Bool → List ℕ → Record → List ℕ → List ℕ → Type 0
+Left false s r old new = new ≡ old
+Left true s r old new =
+    (ls : List (List ℤ)) (b : Bits) → scan.scanOf s r ≡ got ls b → new ≡ over (allSamples s r ls) old
