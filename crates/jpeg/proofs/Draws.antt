@@ -1,0 +1,121 @@
+-- What drawing a record leaves in the two buffers.
+use mathlib.Core.Path.{_≡_, refl, sym, ap, ap₂, _∙_, subst, subst⁻¹}
+use mathlib.Core.Bool.{Bool, true, false}
+use mathlib.Core.List.{List, _++_}
+use Prim.Native.Nat.{ℕ, _*_, _<_, _≤_}
+use native.Mathlib.Omega.{arith}
+use lib.Dec.{T}
+use lib.IntN.{ℤ}
+use lib.ListN.{length, take, drop}
+use lib.Seq.{take-at, length-take-le}
+use Rattle.reading.specs.declared.Bits.{Bits}
+use Rattle.reading.specs.declared.Budget.{Budget}
+use Rattle.reading.specs.declared.Decoding.{Decoding}
+use Rattle.reading.specs.declared.Fault.{Fault}
+use Rattle.reading.specs.declared.Record.{Record}
+use Rattle.reading.specs.declared.Refusal.the-variants.{NotItsRecord}
+use Rattle.reading.specs.declared.ScanRead.{ScanRead}
+use Rattle.reading.specs.declared.ScanRead.the-variants.{Done, Stop}
+use Rattle.reading.specs.declared.Verdict.the-variants.{Accepted, Refused}
+use Rattle.reading.specs.Tests.{over}
+use Rattle.reading.specs.Reader.{Read, got, fault}
+use Rattle.reading.specs.Header.{done, header}
+use Rattle.reading.specs.Scan.{levels, readable, scanOf}
+use Rattle.reading.specs.Answers.{scanRead}
+use Rattle.reading.specs.Reading.{allSamples, picture, drawn}
+use Rattle.reading.specs.Calls.{same, undecoded, decodedWith}
+use Rattle.reading.proofs.Equal.{records-equal}
+use Rattle.reading.proofs.WantOfCode.{AllBytes}
+use Rattle.jpeg_header.proofs.Accepted as H
+use Rattle.jpeg_scan.proofs.Counted.{scan-levels, samples-counted}
+use Rattle.jpeg_scan.proofs.Ends as E
+use Rattle.jpeg.specs.Meets.{Meets}
+use Rattle.jpeg.specs.Rows.{Sized, Drawable}
+use Rattle.jpeg.specs.Steps.{drawnAs, left}
+use Rattle.jpeg.proofs.Facts.{header-readable, scan-is}
+use Rattle.jpeg.proofs.Decodes.{drawn-other, drawn-fault, drawn-done}
+
+pub sized : (s : List ℕ) → AllBytes s → (colour : Bool) (r : Record) → header s colour ≡ done r → Sized r
+sized s y colour r e =
+    let a = H.header-accepted colour s y r e in
+    record {
+      channels = a .frame .count;
+      hs-least = a .frame .across .0;
+      hs-most = a .frame .across .1;
+      vs-least = a .frame .down .0;
+      vs-most = a .frame .down .1;
+      alone = λ e. a .frame .single e .0;
+      width-most = omega (arith, a .frame .wide .1);
+      height-most = omega (arith, a .frame .high .1);
+    }
+
+module _ (s : List ℕ) (y : AllBytes s) (q r : Record) (out scratch : List ℕ) (rest : Budget) (m : Meets s q r out scratch) (t : Bool) (e : t ≡ same q r) where
+  pub draws-other : {answer : Decoding} → answer ≡ record { verdict = Refused NotItsRecord; budget = rest } → t ≡ false → left answer out scratch ≡ drawnAs s q r out scratch rest
+  draws-other a f = ap (λ x. left x out scratch) a ∙ drawn-other s q r out scratch rest (sym e ∙ f)
+
+  module _ (f : t ≡ true) where
+    itself : q ≡ r
+    itself = records-equal q r (subst⁻¹ T (sym e ∙ f) tt)
+
+    head : header s (r .colour) ≡ done r
+    head = m .head ∙ ap done itself
+
+    okay : readable s r ≡ true
+    okay = header-readable s y (r .colour) r head
+
+    accepted : H.Accepted (r .colour) r
+    accepted = H.header-accepted (r .colour) s y r head
+
+    room : 64 * r .blocks ≤ length scratch
+    room = omega (arith, m .scratch-room, accepted .scratch)
+
+    module _ (v : ScanRead) (e3 : v ≡ scanRead (scanOf s r)) (scratch′ : List ℕ) (e4 : scratch′ ≡ drawn s r (scanOf s r) scratch) where
+      pub draws-stop : {answer : Decoding} → answer ≡ record { verdict = Refused NotItsRecord; budget = rest } → (g : Fault) → v ≡ Stop g → left answer out scratch′ ≡ drawnAs s q r out scratch rest
+      draws-stop a g p =
+          let o = E.refused (scanOf s r) e3 p in
+          ap₂ (λ x z. left x out z) a (e4 ∙ sym (E.drawn-stop s r scratch o))
+          ∙ drawn-fault s q r out scratch rest (sym e ∙ f) g (sym (scan-is s r okay) ∙ o)
+
+      module _ (p : v ≡ Done) where
+        read : E.Accepted (scanOf s r)
+        read = E.accepted (scanOf s r) e3 p
+
+        scanned : levels s r ≡ got (E.accepted (scanOf s r) e3 p .blocks-read) (E.accepted (scanOf s r) e3 p .behind)
+        scanned = scan-levels s r (E.accepted (scanOf s r) e3 p .is)
+
+        all : List ℕ
+        all = allSamples s r (E.accepted (scanOf s r) e3 p .blocks-read)
+
+        counted : length all ≡ r .scratch
+        unfolding all
+        counted = samples-counted s r scanned ∙ sym (accepted .scratch)
+
+        filled : scratch′ ≡ over all scratch
+        unfolding all
+        filled = e4 ∙ sym (E.drawn-all s r scratch (E.accepted (scanOf s r) e3 p) room)
+
+        part : take (r .scratch) scratch′ ≡ all
+        part = ap (take (r .scratch)) filled ∙ take-at all (drop (length all) scratch) (r .scratch) counted
+
+        full : length (take (r .scratch) scratch′) ≡ 64 * r .blocks
+        full = ap length part ∙ counted ∙ accepted .scratch
+
+        pub draws-part : r .scratch ≡ length (take (r .scratch) scratch′)
+        draws-part = sym (ap length part ∙ counted)
+
+        pub draws-drawable : Drawable r (take (r .scratch) scratch′) out
+        draws-drawable =
+            record {
+              sized = sized s y (r .colour) r head;
+              output = accepted .output;
+              room = m .out-room;
+              blocks = accepted .blocks;
+              whole = omega (arith, full);
+            }
+
+        pub draws-done : {answer : Decoding} {out′ : List ℕ} → answer ≡ record { verdict = Accepted; budget = rest } → out′ ≡ over (picture r (take (r .scratch) scratch′)) out → left answer out′ scratch′ ≡ drawnAs s q r out scratch rest
+        unfolding all
+        draws-done {answer} {out′} a b =
+            ap (λ x. left x out′ scratch′) a
+            ∙ ap₂ (λ x z. left (record { verdict = Accepted; budget = rest }) x z) (b ∙ ap (λ x. over (picture r x) out) part) filled
+            ∙ drawn-done s q r out scratch rest (sym e ∙ f) (E.accepted (scanOf s r) e3 p .blocks-read) (E.accepted (scanOf s r) e3 p .behind) scanned

@@ -1,0 +1,68 @@
+-- `jpeg::render::spread_2` meets its contract. The loop's invariant: j samples are spread; each is stored twice. Assumes nothing.
+use Prim.Native.Nat.{_*_, _-_}
+use native.Mathlib.Omega.{arith}
+use Rattle.jpeg.proofs.Drawing.{twice}
+use Rattle.jpeg.proofs.Spreading.{SpreadTo, spread-none, spread-next, spread-all}
+use Rattle.jpeg.proofs.render.spread_2.Statement.{statement}
+use Rattle.jpeg.proofs.render.spread_2.Tie as tie
+
+abbrev Inv-loop : tie.InvT-loop
+Inv-loop samples chroma spread₀ j₀ spread j = SpreadTo samples chroma 2 j spread
+
+abbrev μ-loop : tie.MeasureT-loop
+μ-loop samples chroma spread₀ j₀ spread j = 8 - j
+
+loop-holds : tie.Need-loop-holds Inv-loop μ-loop
+loop-holds c = spread-none _ _ _ _ (c .pre .1)
+
+add-sample : tie.Need-add-sample Inv-loop μ-loop
+add-sample c = omega arith
+
+shared-slice-read-sample : tie.Need-shared-slice-read-sample Inv-loop μ-loop
+shared-slice-read-sample c = omega arith
+
+mul-spread : tie.Need-mul-spread Inv-loop μ-loop
+mul-spread c = omega arith
+
+element-write-spread : tie.Need-element-write-spread Inv-loop μ-loop
+element-write-spread c = omega arith
+
+mul-spread-2 : tie.Need-mul-spread-2 Inv-loop μ-loop
+mul-spread-2 c = omega arith
+
+add-spread : tie.Need-add-spread Inv-loop μ-loop
+add-spread c = omega arith
+
+element-write-spread-2 : tie.Need-element-write-spread-2 Inv-loop μ-loop
+element-write-spread-2 c = omega arith
+
+add-j : tie.Need-add-j Inv-loop μ-loop
+add-j c = omega arith
+
+loop-less : tie.Need-loop-less Inv-loop μ-loop
+loop-less c = omega arith
+
+loop-again : tie.Need-loop-again Inv-loop μ-loop
+loop-again c = spread-next _ _ _ (c .before .before .loop .j) 2 (2 * c .before .before .loop .j) _ _ (c .before .before .loop .inv) (c .before .loop-test .taken) (omega arith) (omega arith) (omega arith) (twice _ (2 * c .before .before .loop .j) _)
+
+returns : tie.Need-returns Inv-loop μ-loop
+returns c = spread-all _ _ _ _ _ (c .before .loop .inv) (c .loop-test .left)
+
+pub spread-2-spec : {M : Type 1} → statement M
+spread-2-spec =
+    tie.close
+    (tie.spec
+    Inv-loop
+    μ-loop
+    loop-holds
+    add-sample
+    shared-slice-read-sample
+    mul-spread
+    element-write-spread
+    mul-spread-2
+    add-spread
+    element-write-spread-2
+    add-j
+    loop-less
+    loop-again
+    returns)

@@ -1,0 +1,5 @@
+-- The calls in the parts that the code has.
+pub mod Steps
+pub mod Meets
+pub mod Drawn
+pub mod Rows

@@ -1,0 +1,12 @@
+-- What stands before a record is drawn: the header gave one, and both buffers have room for the record that was given.
+use mathlib.Core.Path.{_≡_}
+use mathlib.Core.List.{List}
+use Prim.Native.Nat.{ℕ, _≤_}
+use lib.ListN.{length}
+use Rattle.reading.specs.declared.Record.{Record}
+use Rattle.reading.specs.Header.{done, header}
+
+pub record Meets (s : List ℕ) (q r : Record) (out scratch : List ℕ) : Type 0 where
+  pub head : header s (r .colour) ≡ done q
+  pub out-room : r .output ≤ length out
+  pub scratch-room : r .scratch ≤ length scratch

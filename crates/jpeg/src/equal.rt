@@ -1,0 +1,133 @@
+// Whether two records are equal in every field: what number 8 turns on.
+ghost use mathlib.Core.Path.{_≡_};
+ghost use Rattle.reading.specs.Calls.{eqList, same, sameFrame, sameIds, sameTables, sameSizes};
+use reading::Record;
+
+fn same_list(a: &[usize], b: &[usize]) -> bool
+    ensures { λ r. ⌜ r ≡ eqList (now (a .entry)) (now (b .entry)) ⌝ }
+{
+    if a.len() != b.len() {
+        return false;
+    }
+    let mut i = 0usize;
+    while i < a.len() {
+        if a[i] != b[i] {
+            return false;
+        }
+        i += 1;
+    }
+    true
+}
+
+fn same_three(a: [usize; 3], b: [usize; 3]) -> bool
+    ensures { λ r. ⌜ r ≡ eqList a b ⌝ }
+{
+    same_list(&a, &b)
+}
+
+fn same_four(a: [usize; 4], b: [usize; 4]) -> bool
+    ensures { λ r. ⌜ r ≡ eqList a b ⌝ }
+{
+    same_list(&a, &b)
+}
+
+fn same_frame(a: Record, b: Record) -> bool
+    ensures { λ r. ⌜ r ≡ sameFrame a b ⌝ }
+{
+    if a.width != b.width {
+        return false;
+    }
+    if a.height != b.height {
+        return false;
+    }
+    if a.channels != b.channels {
+        return false;
+    }
+    if a.hs != b.hs {
+        return false;
+    }
+    a.vs == b.vs
+}
+
+fn same_ids(a: Record, b: Record) -> bool
+    ensures { λ r. ⌜ r ≡ sameIds a b ⌝ }
+{
+    let a1 = a.ids;
+    let b1 = b.ids;
+    if !same_three(a1, b1) {
+        return false;
+    }
+    let a2 = a.qids;
+    let b2 = b.qids;
+    if !same_three(a2, b2) {
+        return false;
+    }
+    let a3 = a.dcids;
+    let b3 = b.dcids;
+    if !same_three(a3, b3) {
+        return false;
+    }
+    let a4 = a.acids;
+    let b4 = b.acids;
+    same_three(a4, b4)
+}
+
+fn same_tables(a: Record, b: Record) -> bool
+    ensures { λ r. ⌜ r ≡ sameTables a b ⌝ }
+{
+    let a1 = a.quants;
+    let b1 = b.quants;
+    if !same_four(a1, b1) {
+        return false;
+    }
+    let a2 = a.dcs;
+    let b2 = b.dcs;
+    if !same_four(a2, b2) {
+        return false;
+    }
+    let a3 = a.acs;
+    let b3 = b.acs;
+    same_four(a3, b3)
+}
+
+fn same_sizes(a: Record, b: Record) -> bool
+    ensures { λ r. ⌜ r ≡ sameSizes a b ⌝ }
+{
+    if a.interval != b.interval {
+        return false;
+    }
+    if a.start != b.start {
+        return false;
+    }
+    if a.blocks != b.blocks {
+        return false;
+    }
+    if a.scratch != b.scratch {
+        return false;
+    }
+    if a.output != b.output {
+        return false;
+    }
+    if a.work != b.work {
+        return false;
+    }
+    if a.colour {
+        return b.colour;
+    }
+    !b.colour
+}
+
+pub fn same(a: Record, b: Record) -> bool
+    ensures { λ r. ⌜ r ≡ same a b ⌝ }
+{
+    if !same_frame(a, b) {
+        return false;
+    }
+    if !same_ids(a, b) {
+        return false;
+    }
+    if !same_tables(a, b) {
+        return false;
+    }
+    same_sizes(a, b)
+}

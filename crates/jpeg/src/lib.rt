@@ -1,0 +1,198 @@
+// The public calls (the rules' 'Refusal numbers'): inspect and decode, with their prices, limits and refusals in order.
+ghost use mathlib.Core.Path.{_≡_};
+ghost use mathlib.Core.Bool.{true};
+ghost use Prim.Native.Nat.{_+_, _*_, _^_, _<_};
+ghost use lib.Dec.{ltb, leb};
+ghost use Rattle.reading.specs.Tests.{_or_};
+ghost use Rattle.reading.specs.Scan.{readable};
+ghost use Rattle.reading.specs.declared.Verdict.the-variants.{Refused};
+ghost use Rattle.reading.specs.Calls.{tooLarge, gives, inspection, inspect, decode};
+ghost use Rattle.jpeg.specs.Meets.{Meets};
+ghost use Rattle.jpeg.specs.Steps.{weighed, drawnAs, left};
+
+mod equal;
+mod layout;
+mod render;
+
+use reading::Budget;
+use reading::Decoding;
+use reading::Inspection;
+use reading::Limits;
+use reading::Record;
+use reading::Refusal;
+use reading::ScanRead;
+use reading::Verdict;
+
+// 2n + 1 does not fit 64 bits. No slice is so long; the test keeps the price whole without that.
+fn past_counting(n: usize) -> bool
+    ensures { λ r. ⌜ r ≡ leb (2 ^ 64) (2 * n + 1) ⌝ }
+{
+    9223372036854775808 <= n
+}
+
+// Number 1.
+fn too_long(n: usize, limit: usize) -> bool
+    ensures { λ r. ⌜ r ≡ (ltb limit n or leb (2 ^ 64) (2 * n + 1)) ⌝ }
+{
+    if limit < n {
+        return true;
+    }
+    past_counting(n)
+}
+
+// The header's price.
+fn header_price(n: usize) -> u64
+    requires { ⌜ 2 * n + 1 < 2 ^ 64 ⌝ }
+    ensures { λ r. ⌜ r ≡ 2 * n + 1 ⌝ }
+{
+    Budget::FILE_BYTE * (n as u64) + Budget::FILE
+}
+
+// Number 6.
+fn too_large(limits: Limits, found: Record) -> bool
+    ensures { λ r. ⌜ r ≡ tooLarge limits found ⌝ }
+{
+    if limits.side < found.width {
+        return true;
+    }
+    if limits.side < found.height {
+        return true;
+    }
+    if limits.output < found.scratch {
+        return true;
+    }
+    limits.output < found.output
+}
+
+fn refused(x: Refusal, budget: Budget) -> Inspection
+    ensures { λ r. ⌜ r ≡ inspection (gives x) budget ⌝ }
+{
+    let found = Record::none();
+    Inspection {
+        verdict: Verdict::Refused(x),
+        budget: budget,
+        found: found,
+    }
+}
+
+// Inspect behind the header: 6, then 2 for work, then the scan.
+fn weigh(s: &[u8], limits: Limits, left: Budget, found: Record) -> Inspection
+    requires { ⌜ readable (now s) found ≡ true ⌝ }
+    ensures { λ r. ⌜ r ≡ weighed (now (s .entry)) limits left found ⌝ }
+{
+    if too_large(limits, found) {
+        return refused(Refusal::TooLarge, left);
+    }
+    let work = found.work;
+    if !left.covers(work) {
+        return refused(Refusal::OverBudget, left);
+    }
+    let rest = left.less(work);
+    match jpeg_scan::validate(s, found) {
+        ScanRead::Stop(f) => refused(Refusal::Scan(f), rest),
+        ScanRead::Done => Inspection {
+            verdict: Verdict::Accepted,
+            budget: rest,
+            found: found,
+        },
+    }
+}
+
+// What a file holds: its record, or the number of the first rule that refuses it. The budget is looked at before the first byte.
+pub fn inspect(s: &[u8], colour: bool, limits: Limits, budget: Budget) -> Inspection
+    ensures { λ r. ⌜ r ≡ inspect (now (s .entry)) colour limits budget ⌝ }
+{
+    let n = s.len();
+    if too_long(n, limits.input) {
+        return refused(Refusal::TooLong, budget);
+    }
+    let price = header_price(n);
+    if !budget.covers(price) {
+        return refused(Refusal::OverBudget, budget);
+    }
+    let left = budget.less(price);
+    let head = jpeg_header::header(s, colour);
+    let verdict = head.verdict;
+    let found = head.found;
+    match verdict {
+        Verdict::Refused(x) => refused(x, left),
+        Verdict::Accepted => weigh(s, limits, left, found),
+    }
+}
+
+fn undecoded(x: Refusal, budget: Budget) -> Decoding
+    ensures { λ r. ⌜ r ≡ record { verdict = Refused x; budget = budget } ⌝ }
+{
+    Decoding {
+        verdict: Verdict::Refused(x),
+        budget: budget,
+    }
+}
+
+// Decode behind the header, which read one record where another was given: 8 where they differ or the scan is refused. The scan is
+// read to its end before the first sample is written, so a refusal writes nothing.
+fn draw(
+    s: &[u8],
+    read: Record,
+    found: Record,
+    out: &mut [u8],
+    scratch: &mut [u8],
+    rest: Budget,
+) -> Decoding
+    requires { ⌜ Meets (now s) read found (now out) (now scratch) ⌝ }
+    ensures { λ r. ⌜ left r (now (out .exit)) (now (scratch .exit)) ≡ drawnAs (now (s .entry)) read found (now (out .entry)) (now (scratch .entry)) rest ⌝ }
+{
+    if !equal::same(read, found) {
+        return undecoded(Refusal::NotItsRecord, rest);
+    }
+    match jpeg_scan::draw(s, found, scratch) {
+        ScanRead::Stop(_) => undecoded(Refusal::NotItsRecord, rest),
+        ScanRead::Done => {
+            let n = found.scratch;
+            render::picture(found, &scratch[..n], out);
+            Decoding {
+                verdict: Verdict::Accepted,
+                budget: rest,
+            }
+        }
+    }
+}
+
+// The block samples and the picture of a file whose record is given; any record may come in. Limits are set aside.
+pub fn decode(
+    s: &[u8],
+    found: Record,
+    out: &mut [u8],
+    scratch: &mut [u8],
+    budget: Budget,
+) -> Decoding
+    ensures { λ r. ⌜ left r (now (out .exit)) (now (scratch .exit)) ≡ decode (now (s .entry)) found (now (out .entry)) (now (scratch .entry)) budget ⌝ }
+{
+    if out.len() < found.output {
+        return undecoded(Refusal::ShortRoom, budget);
+    }
+    if scratch.len() < found.scratch {
+        return undecoded(Refusal::ShortRoom, budget);
+    }
+    let n = s.len();
+    if past_counting(n) {
+        return undecoded(Refusal::OverBudget, budget);
+    }
+    let price = header_price(n);
+    if !budget.covers(price) {
+        return undecoded(Refusal::OverBudget, budget);
+    }
+    let left = budget.less(price);
+    let work = found.work;
+    if !left.covers(work) {
+        return undecoded(Refusal::OverBudget, budget);
+    }
+    let rest = left.less(work);
+    let head = jpeg_header::header(s, found.colour);
+    let verdict = head.verdict;
+    let read = head.found;
+    match verdict {
+        Verdict::Refused(_) => undecoded(Refusal::NotItsRecord, rest),
+        Verdict::Accepted => draw(s, read, found, out, scratch, rest),
+    }
+}

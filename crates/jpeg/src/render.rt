@@ -1,0 +1,271 @@
+// The picture from its block samples (the rules' 'Samples, places, colour'): row by row, channels interleaved, in colour where it is
+// chosen and there are three channels. A row's first places are found once and then counted on, from MCU to MCU and from block to
+// block, so that no pixel and no run of pixels costs a division. An MCU's chroma samples are spread over its pixels before the
+// loop over pixels; nearly all files have sampling 1 or 2 across, which are spread by loops of their own.
+use crate::layout;
+use reading::Record;
+ghost use mathlib.Core.Path.{_≡_};
+ghost use Prim.Native.Nat.{_+_, _*_, _≤_, _<_, min};
+ghost use lib.Dec.{eqb};
+ghost use lib.ListN.{length, getD};
+ghost use Rattle.reading.specs.Tests.{_and_, over};
+ghost use Rattle.reading.specs.Reading.{pixel, picture};
+ghost use Rattle.jpeg.specs.Drawn.{written, pixels};
+ghost use Rattle.jpeg.specs.Rows.{Drawable, RunFits, RunsFit, ColourFits, McuFits, three, shown, inRun, inRuns, inMcu, Spread};
+
+// The smaller of two numbers.
+fn least(a: usize, b: usize) -> usize
+    ensures { λ r. ⌜ r ≡ min a b ⌝ }
+{
+    if a < b {
+        return a;
+    }
+    b
+}
+
+// Each of 8 chroma samples once.
+fn spread_1(samples: &[u8], chroma: usize, spread: &mut [u8; 32])
+    requires { ⌜ (chroma + 8 ≤ length (now samples)) × (length (now spread) ≡ 32) ⌝ }
+    ensures { λ _. ⌜ Spread (now (samples .entry)) chroma 1 (now (spread .exit)) ⌝ }
+{
+    let mut j = 0usize;
+    while j < 8 {
+        spread[j] = samples[chroma + j];
+        j += 1;
+    }
+}
+
+// Each of 8 chroma samples twice.
+fn spread_2(samples: &[u8], chroma: usize, spread: &mut [u8; 32])
+    requires { ⌜ (chroma + 8 ≤ length (now samples)) × (length (now spread) ≡ 32) ⌝ }
+    ensures { λ _. ⌜ Spread (now (samples .entry)) chroma 2 (now (spread .exit)) ⌝ }
+{
+    let mut j = 0usize;
+    while j < 8 {
+        let sample = samples[chroma + j];
+        spread[2 * j] = sample;
+        spread[2 * j + 1] = sample;
+        j += 1;
+    }
+}
+
+// Each of 8 chroma samples hs times. Four are written; the next sample writes over those that are too many.
+fn spread_wide(samples: &[u8], chroma: usize, hs: usize, spread: &mut [u8; 32])
+    requires { ⌜ (chroma + 8 ≤ length (now samples)) × (length (now spread) ≡ 32) × (hs ≤ 4) ⌝ }
+    ensures { λ _. ⌜ Spread (now (samples .entry)) chroma hs (now (spread .exit)) ⌝ }
+{
+    let mut j = 0usize;
+    while j < 8 {
+        let sample = samples[chroma + j];
+        let at = hs * j;
+        spread[at] = sample;
+        spread[at + 1] = sample;
+        spread[at + 2] = sample;
+        spread[at + 3] = sample;
+        j += 1;
+    }
+}
+
+// One pixel of three channels.
+fn pixel(y: u8, b: u8, r: u8, colour: bool, out: &mut [u8], at: usize)
+    requires { ⌜ at + 3 ≤ length (now out) ⌝ }
+    ensures { λ _. ⌜ now (out .exit) ≡ written (shown colour (three y b r)) at 3 (now (out .entry)) ⌝ }
+{
+    if colour {
+        out[at] = jpeg_color::red(y, r);
+        out[at + 1] = jpeg_color::green(y, b, r);
+        out[at + 2] = jpeg_color::blue(y, b);
+    } else {
+        out[at] = y;
+        out[at + 1] = b;
+        out[at + 2] = r;
+    }
+}
+
+// At most 8 pixels of three channels: luma samples side by side in one block, and their chroma samples from x on.
+fn run(
+    samples: &[u8],
+    luma: usize,
+    cb: &[u8; 32],
+    cr: &[u8; 32],
+    x: usize,
+    n: usize,
+    colour: bool,
+    out: &mut [u8],
+    at: usize,
+)
+    requires { ⌜ RunFits (now samples) (now out) luma x n at ⌝ }
+    ensures { λ _. ⌜ now (out .exit) ≡ pixels (inRun (now (samples .entry)) luma (now (cb .entry)) (now (cr .entry)) x colour) 3 at n (now (out .entry)) ⌝ }
+{
+    let mut i = 0usize;
+    while i < n {
+        let y = samples[luma + i];
+        let b = cb[x + i];
+        let r = cr[x + i];
+        pixel(y, b, r, colour, out, at + i * 3);
+        i += 1;
+    }
+}
+
+// The pixels of an MCU in one row, run by run: each block has 8 of them.
+fn runs(
+    samples: &[u8],
+    luma: usize,
+    cb: &[u8; 32],
+    cr: &[u8; 32],
+    n: usize,
+    colour: bool,
+    out: &mut [u8],
+    at: usize,
+)
+    requires { ⌜ RunsFit (now samples) (now out) luma n at ⌝ }
+    ensures { λ _. ⌜ now (out .exit) ≡ pixels (inRuns (now (samples .entry)) luma (now (cb .entry)) (now (cr .entry)) colour) 3 at n (now (out .entry)) ⌝ }
+{
+    let mut x = 0usize;
+    while x < n {
+        let m = least(n - x, 8);
+        run(samples, luma + 8 * x, cb, cr, x, m, colour, out, at + x * 3);
+        x += m;
+    }
+}
+
+// An MCU of three channels in one row, sampling 1 across. This and the next two are three functions, and not one with a choice in
+// it: so each is compiled with its own spreading straight before its loop over pixels, which makes that loop quick.
+fn mcu_1(
+    samples: &[u8],
+    luma: usize,
+    chroma: usize,
+    n: usize,
+    colour: bool,
+    out: &mut [u8],
+    at: usize,
+)
+    requires { ⌜ ColourFits (now samples) (now out) luma chroma 1 n at ⌝ }
+    ensures { λ _. ⌜ now (out .exit) ≡ pixels (inMcu (now (samples .entry)) luma chroma 1 colour) 3 at n (now (out .entry)) ⌝ }
+{
+    let mut cb = [0u8; 32];
+    let mut cr = [0u8; 32];
+    spread_1(samples, chroma, &mut cb);
+    spread_1(samples, chroma + 64, &mut cr);
+    runs(samples, luma, &cb, &cr, n, colour, out, at);
+}
+
+// The same, sampling 2 across.
+fn mcu_2(
+    samples: &[u8],
+    luma: usize,
+    chroma: usize,
+    n: usize,
+    colour: bool,
+    out: &mut [u8],
+    at: usize,
+)
+    requires { ⌜ ColourFits (now samples) (now out) luma chroma 2 n at ⌝ }
+    ensures { λ _. ⌜ now (out .exit) ≡ pixels (inMcu (now (samples .entry)) luma chroma 2 colour) 3 at n (now (out .entry)) ⌝ }
+{
+    let mut cb = [0u8; 32];
+    let mut cr = [0u8; 32];
+    spread_2(samples, chroma, &mut cb);
+    spread_2(samples, chroma + 64, &mut cr);
+    runs(samples, luma, &cb, &cr, n, colour, out, at);
+}
+
+// The same, any sampling.
+fn mcu_wide(
+    samples: &[u8],
+    luma: usize,
+    chroma: usize,
+    hs: usize,
+    n: usize,
+    colour: bool,
+    out: &mut [u8],
+    at: usize,
+)
+    requires { ⌜ ColourFits (now samples) (now out) luma chroma hs n at ⌝ }
+    ensures { λ _. ⌜ now (out .exit) ≡ pixels (inMcu (now (samples .entry)) luma chroma hs colour) 3 at n (now (out .entry)) ⌝ }
+{
+    let mut cb = [0u8; 32];
+    let mut cr = [0u8; 32];
+    spread_wide(samples, chroma, hs, &mut cb);
+    spread_wide(samples, chroma + 64, hs, &mut cr);
+    runs(samples, luma, &cb, &cr, n, colour, out, at);
+}
+
+// At most 8 pixels of one channel: the samples as they are.
+fn gray(samples: &[u8], luma: usize, n: usize, out: &mut [u8], at: usize)
+    requires { ⌜ (luma + n ≤ length (now samples)) × (at + n ≤ length (now out)) ⌝ }
+    ensures { λ _. ⌜ now (out .exit) ≡ pixels (λ i c. getD (now (samples .entry)) (luma + i) 0) 1 at n (now (out .entry)) ⌝ }
+{
+    let mut i = 0usize;
+    while i < n {
+        out[at + i] = samples[luma + i];
+        i += 1;
+    }
+}
+
+// The pixels of an MCU in one row.
+fn mcu(
+    samples: &[u8],
+    luma: usize,
+    chroma: usize,
+    hs: usize,
+    n: usize,
+    channels: usize,
+    colour: bool,
+    out: &mut [u8],
+    at: usize,
+)
+    requires { ⌜ McuFits (now samples) (now out) luma chroma hs n channels at ⌝ }
+    ensures { λ _. ⌜ now (out .exit) ≡ pixels (inMcu (now (samples .entry)) luma chroma hs (colour and eqb channels 3)) channels at n (now (out .entry)) ⌝ }
+{
+    if channels == 1 {
+        gray(samples, luma, n, out, at);
+    } else if hs == 1 {
+        mcu_1(samples, luma, chroma, n, colour, out, at);
+    } else if hs == 2 {
+        mcu_2(samples, luma, chroma, n, colour, out, at);
+    } else {
+        mcu_wide(samples, luma, chroma, hs, n, colour, out, at);
+    }
+}
+
+// Row y, MCU by MCU; the last MCU may reach past the picture's side.
+fn row(found: Record, y: usize, samples: &[u8], out: &mut [u8])
+    requires { ⌜ Drawable found (now samples) (now out) × (y < found .height) ⌝ }
+    ensures { λ _. ⌜ now (out .exit) ≡ pixels (λ x. pixel found (now (samples .entry)) x y) (found .channels) (y * (found .width * found .channels)) (found .width) (now (out .entry)) ⌝ }
+{
+    let start = y * (found.width * found.channels);
+    let step = 64 * layout::per_mcu(found);
+    let mut luma = layout::luma_of_row(found, y);
+    let mut chroma = layout::chroma_of_row(found, y);
+    let mut x = 0usize;
+    while x < found.width {
+        let n = least(found.width - x, 8 * found.hs);
+        mcu(
+            samples,
+            luma,
+            chroma,
+            found.hs,
+            n,
+            found.channels,
+            found.colour,
+            out,
+            start + x * found.channels,
+        );
+        luma += step;
+        chroma += step;
+        x += n;
+    }
+}
+
+// The picture of a record from the samples of all its blocks, over what stood in the buffer.
+pub(crate) fn picture(found: Record, samples: &[u8], out: &mut [u8])
+    requires { ⌜ Drawable found (now samples) (now out) ⌝ }
+    ensures { λ _. ⌜ now (out .exit) ≡ over (picture found (now (samples .entry))) (now (out .entry)) ⌝ }
+{
+    let mut y = 0usize;
+    while y < found.height {
+        row(found, y, samples, out);
+        y += 1;
+    }
+}

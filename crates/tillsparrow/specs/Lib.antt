@@ -1,0 +1,2 @@
+-- What the program's own functions say.
+pub mod Filled
