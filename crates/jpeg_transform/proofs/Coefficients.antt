@@ -17,7 +17,7 @@ use Rattle.whole.specs.Lists.{from, listOf, length-from, getD-from, is-list-of,
 use Rattle.reading.specs.Tests.{allFrom, over}
 use Rattle.reading.specs.Transform.{zigzag, zigzagPlace, dequantizedAt, coefficients, basis, plane, sampleOf, samples, samplesTo, painted}
 use Rattle.reading.proofs.Plain.{and-left, and-right}
-use Rattle.jpeg_transform.proofs.DoubleSum.{sumOf, sum-zero, basisAt, doubleSum, double-sum}
+use Rattle.reading.proofs.DoubleSum.{sumOf, sum-zero, basisAt, doubleSum, double-sum}
 
 -- ---- the zigzag and its inverse
 

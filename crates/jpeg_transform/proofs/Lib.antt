@@ -1,5 +1,4 @@
 -- Theorems about the transform, and laws that belong to no one function.
-pub mod DoubleSum
 pub mod Lines
 pub mod Stores
 pub mod Passes

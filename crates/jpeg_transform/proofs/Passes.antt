@@ -16,7 +16,7 @@ use Rattle.whole.specs.Lists.{from, getD-from, is-list-of, listOf-cong}
 use Rattle.reading.specs.Tests.{over}
 use Rattle.reading.specs.Transform.{basis, weights, line, row, plane, sampleOf, samples}
 use Rattle.jpeg_transform.specs.Passes.{place, spaced, lines, puts, rowed, rowsOf, columned, columnsOf}
-use Rattle.jpeg_transform.proofs.DoubleSum.{each-weights, weights-short}
+use Rattle.reading.proofs.DoubleSum.{each-weights, weights-short}
 use Rattle.jpeg_transform.proofs.Stores.{place-is, length-puts, puts-same, puts-other, over-is}
 
 -- ---- one line

@@ -1,5 +1,7 @@
 pub mod Places
 pub mod Equal
+pub mod DoubleSum
+pub mod Inside
 pub mod Theorems
 pub mod Plain
 pub mod Written
