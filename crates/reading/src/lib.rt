@@ -436,3 +436,10 @@ pub enum ScanRead {
     Done,
     Stop(Fault),
 }
+
+// What settling a whole scan answers: its length, or that a code is wanting, or the fault.
+pub enum ScanSettled {
+    Done(usize),
+    NoCode,
+    Stop(Fault),
+}
