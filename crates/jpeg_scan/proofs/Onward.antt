@@ -101,7 +101,7 @@ onward-same : {A B : Type 0} (o : Read Bits A) (f g : A → Reader Bits B) → (
 onward-same (got a q) f g h = h a q
 onward-same (fault e) f g h = refl
 
-resumed-block : (s : List ℕ) (p : scan.Plan) (N : ℕ) (q : ScanCursor) → q .done < N → (c : ℕ) → channelOf (p .shape) (q .done) ≡ c
+pub resumed-block : (s : List ℕ) (p : scan.Plan) (N : ℕ) (q : ScanCursor) → q .done < N → (c : ℕ) → channelOf (p .shape) (q .done) ≡ c
     → resumed s p N q ≡ onward (block (one s) (p .channels c .dc) (p .channels c .ac) (getD (q .predictors) c (pos 0)) (q .bits)) (λ l b. before (l ∷ []) (ahead s p N (past q c (getD l 0 (pos 0)) b)))
 unfolding resumed ahead file
 resumed-block s p N q i c u =
@@ -126,7 +126,7 @@ module _ {t : List ℕ} {n : Plan} {p : scan.Plan} (st : Stands t n p) (s : List
     channel-here = ap (λ (i : ℕ). channelIn (p .shape .factors) i) place-in ∙ st .channel-is j h
 
     -- inside an MCU no restart is due
-    not-due : 0 < j → restartDue (p .shape) (p .interval) k ≡ false
+    pub not-due : 0 < j → restartDue (p .shape) (p .interval) k ≡ false
     unfolding restartDue
     not-due i = ap (λ (x : ℕ). eqb x 0 and dueBefore (p .interval) (mcuOf (p .shape) k)) place-in ∙ ap (λ (x : Bool). x and dueBefore (p .interval) (mcuOf (p .shape) k)) (ne-eqb j 0 (λ (z : j ≡ 0). omega arith))
 
@@ -167,13 +167,13 @@ module _ {t : List ℕ} {n : Plan} {p : scan.Plan} (st : Stands t n p) (s : List
     mcu-is : mcuOf (p .shape) (q .done) ≡ m
     mcu-is = ap₂ (λ (a b : ℕ). a / b) e (st .per-is) ∙ mul-div-cancel m (st .some)
 
-    due-is : restartDue (p .shape) (p .interval) (q .done) ≡ dueBefore (n .interval) m
+    pub due-is : restartDue (p .shape) (p .interval) (q .done) ≡ dueBefore (n .interval) m
     unfolding restartDue
     due-is =
         ap (λ (x : ℕ). eqb x 0 and dueBefore (p .interval) (mcuOf (p .shape) (q .done))) (ap₂ (λ (a b : ℕ). a % b) e (st .per-is) ∙ mul-mod-left m (n .per))
         ∙ ap₂ dueBefore (st .interval-is) mcu-is
 
-    code-is : restartCode (p .shape) (p .interval) (q .done) ≡ restartBefore (n .interval) m
+    pub code-is : restartCode (p .shape) (p .interval) (q .done) ≡ restartBefore (n .interval) m
     code-is = ap₂ restartBefore (st .interval-is) mcu-is
 
     pub restart-next : ahead s p N q ≡ went (restarted s (n .interval) m q) (resumed s p N)

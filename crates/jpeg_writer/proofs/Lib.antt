@@ -9,3 +9,9 @@ pub mod Filled
 pub mod Coders
 pub mod Lengths
 pub mod Measured
+pub mod Inks
+pub mod SheetFilled
+pub mod Comings
+pub mod McuPassed
+pub mod ScanPassed
+pub mod SettledAnswers

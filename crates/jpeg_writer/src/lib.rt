@@ -1,16 +1,27 @@
-// Writing a settled scan: bits into bytes, the words of a table's codes, blocks, padding and markers. It carries the rules' part
-// on the settled scan. A byte is stored where the lent buffer has room and is counted in any case, so that one path both
-// measures and writes.
+// A record's scan, read and written settled: bits into bytes, the words of a table's codes, blocks, padding and markers, and the
+// pass over a whole scan. It carries the rules' part on the settled scan. A byte is stored where the lent buffer has room and is
+// counted in any case, so that one path both measures and writes.
 ghost use mathlib.Core.Path.{_≡_};
 ghost use mathlib.Core.List.{[], _∷_};
-ghost use Prim.Native.Nat.{_+_, _≤_, _<_, _^_};
+ghost use mathlib.Core.Option.{some};
+ghost use Prim.Native.Nat.{_+_, _*_, _≤_, _<_, _^_};
 ghost use lib.IntN.{natAbs};
-ghost use lib.ListN.{length, getD, replicate};
+ghost use lib.ListN.{length, getD, replicate, take};
 ghost use Rattle.reading.specs.Huffman.{bitsOf, tableAt};
-ghost use Rattle.reading.specs.Settled.{fieldOf, blockBy};
+ghost use Rattle.reading.specs.Layout.{dueBefore, restartBefore};
+ghost use Rattle.reading.specs.Settled.{fieldOf, blockBy, onto, cut, settledOf, scanSettled, laidOver};
 ghost use Rattle.jpeg_writer.specs.Page.{spot, byteAt, stuffedAt, bytesAt, page, fresh, Proper, Grown, Puts, closedAt, restarted};
 ghost use Rattle.jpeg_writer.specs.Words.{codeWords, wordCode, coderOf, kept};
 ghost use Rattle.jpeg_writer.specs.Steps.{categoryOf, zerosAt, over, valueAt, turnAt, wordAt};
+ghost use Rattle.jpeg_writer.specs.Sheets.{wordsIn, basesOf, Sheet};
+ghost use Rattle.jpeg_writer.specs.Pass.{finalBy, Fit, Moves, lastPart, Closes, Went, Ran, Measures};
+use jpeg_scan::Halt;
+use jpeg_scan::Plan;
+use reading::BlockRead;
+use reading::Fault;
+use reading::Record;
+use reading::ScanCursor;
+use reading::ScanSettled;
 
 // Where the next byte goes, the value of the bits that wait for it, and how many bits it still wants, 1 to 8.
 struct Pen {
@@ -391,6 +402,219 @@ fn put_block(out: &mut [u8], p: Pen, dc: &[u32], ac: &[u32], levels: &[i16], pre
                 place = turn.place;
                 run = turn.run;
             }
+        }
+    }
+}
+
+// Where the six tables stand: of each channel that of the first level and that of the later ones.
+fn bases(plan: Plan) -> [usize; 6]
+    ensures { λ r. ⌜ r ≡ basesOf plan ⌝ }
+{
+    let dcs = plan.dcs;
+    let acs = plan.acs;
+    [dcs[0], acs[0], dcs[1], acs[1], dcs[2], acs[2]]
+}
+
+// The words of six tables, 256 for each.
+fn fill_sheet(t: &[u8], places: [usize; 6], words: &mut [u32])
+    requires { ⌜ length (now words) ≡ 1536 ⌝ }
+    ensures { λ r. ⌜ Sheet (now (t .entry)) places 6 (now (words .exit)) ⌝ }
+{
+    let mut i = 0usize;
+    while i < 6 {
+        let a = 256 * i;
+        let e = a + 256;
+        codes(t, places[i], &mut words[a..e]);
+        i += 1;
+    }
+}
+
+// A block of channel c behind what is written. After the want of a code nothing more is written.
+fn put_on(
+    out: &mut [u8],
+    ink: Outcome,
+    words: &[u32],
+    c: usize,
+    levels: &[i16; 64],
+    pred: i32,
+) -> Outcome
+    requires { ⌜ Fit ink × (c < 3) × (length (now words) ≡ 1536) ⌝ }
+    ensures { λ r. ⌜ Moves (onto (blockBy (coderOf (wordsIn (512 * c) (now (words .entry)))) (coderOf (wordsIn (512 * c + 256) (now (words .entry)))) pred (now (levels .entry)))) ink (now (out .entry)) r (now (out .exit)) ⌝ }
+{
+    let a = 512 * c;
+    let b = a + 256;
+    let e = b + 256;
+    match ink {
+        Outcome::NoCode => Outcome::NoCode,
+        Outcome::Done(p) => put_block(out, p, &words[a..b], &words[b..e], levels, pred),
+    }
+}
+
+// The restart before MCU m, where one is due.
+fn mark(out: &mut [u8], ink: Outcome, m: usize, interval: usize) -> Outcome
+    requires { ⌜ Fit ink ⌝ }
+    ensures { λ r. ⌜ Moves (cut (dueBefore interval m) (restartBefore interval m)) ink (now (out .entry)) r (now (out .exit)) ⌝ }
+{
+    if !jpeg_scan::restart_due(m, interval) {
+        return ink;
+    }
+    match ink {
+        Outcome::NoCode => Outcome::NoCode,
+        Outcome::Done(p) => {
+            let code = jpeg_scan::restart_code(m, interval);
+            Outcome::Done(restart(out, p, code as u8))
+        }
+    }
+}
+
+// The end of a scan: how many bytes it has.
+fn last(out: &mut [u8], ink: Outcome) -> ScanSettled
+    requires { ⌜ Fit ink ⌝ }
+    ensures { λ r. ⌜ Closes (finalBy ink (now (out .entry)) (some lastPart)) r (now (out .exit)) ⌝ }
+{
+    match ink {
+        Outcome::NoCode => ScanSettled::NoCode,
+        Outcome::Done(p) => ScanSettled::Done(put_end(out, p)),
+    }
+}
+
+// Behind what was read and written.
+struct Moved {
+    halt: Halt,
+    cursor: ScanCursor,
+    ink: Outcome,
+}
+
+// The blocks of one MCU, or those that are left of the scan, are read and written; the restart before it is done.
+fn mcu(s: &[u8], plan: Plan, words: &[u32], from: ScanCursor, pen: Outcome, out: &mut [u8]) -> Moved
+    requires { ⌜ (plan .start ≤ length (now s)) × Sheet (take (plan .start) (now s)) (basesOf plan) 6 (now words) × Fit pen ⌝ }
+    ensures { λ r. ⌜ Went (now (s .entry)) plan from pen (now (out .entry)) r (now (out .exit)) ⌝ }
+{
+    let start = plan.start;
+    let dcs = plan.dcs;
+    let acs = plan.acs;
+    let mut levels = [0i16; 64];
+    let mut bits = from.bits;
+    let mut predictors = from.predictors;
+    let mut done = from.done;
+    let mut ink = pen;
+    let mut j = 0usize;
+    let halt = 'walk: loop {
+        if plan.per <= j {
+            break 'walk Halt::No;
+        }
+        if plan.blocks <= done {
+            break 'walk Halt::No;
+        }
+        let c = jpeg_scan::channel(j, plan.lumas);
+        let prediction = predictors[c];
+        match jpeg_block::block(
+            &s[..start],
+            dcs[c],
+            acs[c],
+            s,
+            bits,
+            prediction,
+            &mut levels,
+        ) {
+            BlockRead::Stop(f) => {
+                break 'walk Halt::Yes(f);
+            }
+            BlockRead::Got(b, first, reach) => {
+                ink = put_on(out, ink, words, c, &levels, prediction);
+                predictors[c] = first;
+                bits = b;
+            }
+        }
+        done += 1;
+        j += 1;
+    };
+    Moved {
+        halt: halt,
+        cursor: ScanCursor {
+            bits: bits,
+            predictors: predictors,
+            done: done,
+        },
+        ink: ink,
+    }
+}
+
+// A pass over a whole scan: it is read to its end or to a fault, and written from the start of the buffer on until a code is
+// wanting.
+fn run(s: &[u8], plan: Plan, words: &[u32], out: &mut [u8]) -> ScanSettled
+    requires { ⌜ (plan .start ≤ length (now s)) × (0 < plan .per) × (plan .blocks < 2 ^ 32) × Sheet (take (plan .start) (now s)) (basesOf plan) 6 (now words) ⌝ }
+    ensures { λ r. ⌜ Ran (now (s .entry)) plan (now (out .entry)) r (now (out .exit)) ⌝ }
+{
+    let interval = plan.interval;
+    let blocks = plan.blocks;
+    let mut cursor = ScanCursor::fresh(plan.start);
+    let mut ink = Outcome::Done(Pen::fresh(0));
+    let mut m = 0usize;
+    'mcus: loop {
+        if blocks <= cursor.done {
+            if jpeg_scan::at_end(s, cursor.bits) {
+                break 'mcus last(out, ink);
+            }
+            break 'mcus ScanSettled::Stop(Fault::Broken);
+        }
+        let a = jpeg_scan::restart(s, cursor, m, interval);
+        let h = a.halt;
+        match h {
+            Halt::Yes(f) => {
+                break 'mcus ScanSettled::Stop(f);
+            }
+            Halt::No => {
+                let marked = mark(out, ink, m, interval);
+                let b = mcu(s, plan, words, a.cursor, marked, out);
+                let g = b.halt;
+                match g {
+                    Halt::Yes(f) => {
+                        break 'mcus ScanSettled::Stop(f);
+                    }
+                    Halt::No => {
+                        cursor = b.cursor;
+                        ink = b.ink;
+                    }
+                }
+            }
+        }
+        m += 1;
+    }
+}
+
+// A pass that keeps nothing: what a scan comes to.
+fn measure(s: &[u8], plan: Plan, words: &[u32]) -> ScanSettled
+    requires { ⌜ (plan .start ≤ length (now s)) × (0 < plan .per) × (plan .blocks < 2 ^ 32) × Sheet (take (plan .start) (now s)) (basesOf plan) 6 (now words) ⌝ }
+    ensures { λ r. ⌜ Measures (now (s .entry)) plan r ⌝ }
+{
+    let mut none = [0u8; 1];
+    run(s, plan, words, &mut none)
+}
+
+// The scan of a record is read and measured, and then, where it was accepted, lacks no code and the buffer has room for all of it,
+// read again and written: so a refusal writes nothing.
+pub fn settled(s: &[u8], found: Record, out: &mut [u8]) -> ScanSettled
+    ensures { λ r. ⌜ (r ≡ scanSettled (settledOf (now (s .entry)) found)) × (now (out .exit) ≡ laidOver (settledOf (now (s .entry)) found) (now (out .entry))) ⌝ }
+{
+    if 4294967296 <= found.blocks {
+        return ScanSettled::Stop(Fault::Broken);
+    }
+    let plan = Plan::of(s, found);
+    if plan.per == 0 {
+        return ScanSettled::Stop(Fault::Broken);
+    }
+    let start = plan.start;
+    let mut words = [0u32; 1536];
+    fill_sheet(&s[..start], bases(plan), &mut words);
+    match measure(s, plan, &words) {
+        ScanSettled::Stop(f) => ScanSettled::Stop(f),
+        ScanSettled::NoCode => ScanSettled::NoCode,
+        ScanSettled::Done(n) => {
+            if out.len() < n {
+                return ScanSettled::Done(n);
+            }
+            run(s, plan, &words, out)
         }
     }
 }

@@ -1,0 +1,113 @@
+-- `settled`: what the first pass says is the answer, and what the second leaves is the settled scan (SettledAnswers).
+use Prim.Native.Nat.{_≤_, _<_, _^_, _*_}
+use mathlib.Core.Path.{_≡_, sym, _∙_, ap}
+use native.Mathlib.Omega.{arith}
+use lib.Seq.{length-take-le}
+use borrow.Author.Needs.{needs}
+use Rattle.reading.specs.Settled.{settledOf}
+use Rattle.jpeg_scan.specs.declared.Plan.{Plan}
+use Rattle.jpeg_scan.proofs.Standing.{Ready, ready, unready}
+use Rattle.jpeg_writer.proofs.SheetFilled.{sheet-as}
+use Rattle.jpeg_writer.proofs.SettledAnswers.{passed-settled, measured-settled, says-stop, stays-stop, stays-lacking, stays-short, writes-all, settled-many, settled-unread}
+use borrow.Author.Needs.{needs}
+use Rattle.jpeg_writer.proofs.settled.Statement.{statement}
+use Rattle.jpeg_writer.proofs.settled.Tie as tie
+
+few : (c : tie.Else1) → c .before .before .before .before .args .found .blocks < 2 ^ 32
+few c = omega (arith, c .if1 .left)
+
+set-up : (c : tie.Else2) → Ready (c .before .before .before .before .before .before .before .args .s .now) (c .before .before .before .before .before .before .before .args .found) (c .before .before .of .result)
+set-up c = ready (c .before .before .before .before .before .before .before .args .s .now) (c .before .before .before .before .before .before .before .args .found) (c .before .before .of .ensures) (c .if2 .left)
+
+blocks-few : (c : tie.Else2) → c .before .before .of .result .blocks < 2 ^ 32
+blocks-few c = omega (arith, few (c .before .before .before), ap (λ (n : Plan). n .blocks) (set-up c .plan-is))
+
+returns : tie.Need-returns
+returns c = says-stop (c .before .before .before .before .args .out .now) (settled-many (c .before .before .before .before .args .s .now) (c .before .before .before .before .args .found) (omega (arith, c .if1 .taken)))
+
+of-requires : tie.Need-of-requires
+of-requires c κs = search needs
+
+returns-2 : tie.Need-returns-2
+returns-2 c = says-stop (c .before .before .before .before .before .before .before .args .out .now) (settled-unread (c .before .before .before .before .before .before .before .args .s .now) (c .before .before .before .before .before .before .before .args .found) (few (c .before .before .before)) (unready (c .before .before .before .before .before .before .before .args .s .now) (c .before .before .before .before .before .before .before .args .found) (c .before .before .of .ensures) (c .if2 .taken)))
+
+slice-aggregate-fill-sheet : tie.Need-slice-aggregate-fill-sheet
+slice-aggregate-fill-sheet c = sym (length-take-le _ _ (set-up (c .before) .inside))
+
+bases-requires : tie.Need-bases-requires
+bases-requires c κs = search needs
+
+slice-aggregate-fill-sheet-2 : tie.Need-slice-aggregate-fill-sheet-2
+slice-aggregate-fill-sheet-2 c = search needs
+
+fill-sheet-requires : tie.Need-fill-sheet-requires
+fill-sheet-requires c κs = search needs
+
+slice-aggregate-measure : tie.Need-slice-aggregate-measure
+slice-aggregate-measure c = search needs
+
+measure-requires : tie.Need-measure-requires
+measure-requires c κs = (set-up (c .before .before .before .before .before .before) .inside, set-up (c .before .before .before .before .before .before) .numbers .some, blocks-few (c .before .before .before .before .before .before), sheet-as (c .before .before .before .before .bases .ensures) (c .before .before .fill-sheet .ensures))
+
+enum-known-f : tie.Need-enum-known-f
+enum-known-f c = search needs
+
+enum-told : tie.Need-enum-told
+enum-told c = search needs
+
+enum-known-n : tie.Need-enum-known-n
+enum-known-n c = search needs
+
+returns-3 : tie.Need-returns-3
+returns-3 c =
+    let e = measured-settled (set-up (c .before .before .before .before .before .before .before .before .before .before .before)) (few (c .before .before .before .before .before .before .before .before .before .before .before .before .before .before)) (c .before .before .before .before .measure .ensures) in
+    (sym (c .before .before .n .given .1) ∙ e, stays-short (settledOf (c .before .before .before .before .before .before .before .before .before .before .before .before .before .before .before .before .before .before .args .s .now) (c .before .before .before .before .before .before .before .before .before .before .before .before .before .before .before .before .before .before .args .found)) (c .before .before .before .before .before .before .before .before .before .before .before .before .before .before .before .before .before .before .args .out .now) e (c .before .before .n .given .1) (c .if3 .taken))
+
+slice-aggregate-run : tie.Need-slice-aggregate-run
+slice-aggregate-run c = search needs
+
+run-requires : tie.Need-run-requires
+run-requires c κs = (set-up (c .before .before .before .before .before .before .before .before .before .before .before .before .before) .inside, set-up (c .before .before .before .before .before .before .before .before .before .before .before .before .before) .numbers .some, blocks-few (c .before .before .before .before .before .before .before .before .before .before .before .before .before), sheet-as (c .before .before .before .before .before .before .before .before .before .before .before .bases .ensures) (c .before .before .before .before .before .before .before .before .before .fill-sheet .ensures))
+
+returns-4 : tie.Need-returns-4
+returns-4 c =
+    let e = measured-settled (set-up (c .before .before .before .before .before .before .before .before .before .before)) (few (c .before .before .before .before .before .before .before .before .before .before .before .before .before)) (c .before .before .before .measure .ensures) in
+    (sym (c .before .f .given .1) ∙ e, stays-stop (settledOf (c .before .before .before .before .before .before .before .before .before .before .before .before .before .before .before .before .before .args .s .now) (c .before .before .before .before .before .before .before .before .before .before .before .before .before .before .before .before .before .args .found)) (c .before .before .before .before .before .before .before .before .before .before .before .before .before .before .before .before .before .args .out .now) e (c .before .f .given .1))
+
+returns-5 : tie.Need-returns-5
+returns-5 c =
+    let e = measured-settled (set-up (c .before .before .before .before .before .before .before .before .before)) (few (c .before .before .before .before .before .before .before .before .before .before .before .before)) (c .before .before .measure .ensures) in
+    (sym (c .enum-told .given .1) ∙ e, stays-lacking (settledOf (c .before .before .before .before .before .before .before .before .before .before .before .before .before .before .before .before .args .s .now) (c .before .before .before .before .before .before .before .before .before .before .before .before .before .before .before .before .args .found)) (c .before .before .before .before .before .before .before .before .before .before .before .before .before .before .before .before .args .out .now) e (c .enum-told .given .1))
+
+same-length : tie.Need-same-length
+same-length c = search needs
+
+returns-6 : tie.Need-returns-6
+returns-6 c =
+    let e = measured-settled (set-up (c .before .before .before .before .before .before .before .before .before .before .before .before .before .before .before .before)) (few (c .before .before .before .before .before .before .before .before .before .before .before .before .before .before .before .before .before .before .before)) (c .before .before .before .before .before .before .before .before .before .measure .ensures) in
+    let a = passed-settled (set-up (c .before .before .before .before .before .before .before .before .before .before .before .before .before .before .before .before)) (few (c .before .before .before .before .before .before .before .before .before .before .before .before .before .before .before .before .before .before .before)) (c .before .before .run .ensures) in
+    (a .says, writes-all (settledOf (c .before .before .before .before .before .before .before .before .before .before .before .before .before .before .before .before .before .before .before .before .before .before .before .args .s .now) (c .before .before .before .before .before .before .before .before .before .before .before .before .before .before .before .before .before .before .before .before .before .before .before .args .found)) (c .before .before .before .before .before .before .before .before .before .before .before .before .before .before .before .before .before .before .before .before .before .before .before .args .out .now) e (c .before .before .before .before .before .before .before .n .given .1) (c .before .before .before .before .before .if3 .left) a)
+
+pub settled-spec : {M : Type 1} → statement M
+settled-spec =
+    tie.close
+    (tie.spec
+    returns
+    of-requires
+    returns-2
+    slice-aggregate-fill-sheet
+    bases-requires
+    slice-aggregate-fill-sheet-2
+    fill-sheet-requires
+    slice-aggregate-measure
+    measure-requires
+    enum-known-f
+    enum-told
+    enum-known-n
+    returns-3
+    slice-aggregate-run
+    run-requires
+    returns-4
+    returns-5
+    same-length
+    returns-6)
