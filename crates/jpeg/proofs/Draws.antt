@@ -25,8 +25,8 @@ use Rattle.reading.specs.Answers.{scanRead}
 use Rattle.reading.specs.Reading.{allSamples, picture, drawn}
 use Rattle.reading.specs.Calls.{same, undecoded, decodedWith}
 use Rattle.reading.proofs.Equal.{records-equal}
-use Rattle.reading.proofs.WantOfCode.{AllBytes}
-use Rattle.jpeg_header.proofs.Accepted as H
+use Rattle.reading.proofs.FileBytes.{AllBytes}
+use Rattle.reading.proofs.Accepted as H
 use Rattle.jpeg_scan.proofs.Counted.{scan-levels, samples-counted}
 use Rattle.jpeg_scan.proofs.Ends as E
 use Rattle.jpeg.specs.Meets.{Meets}

@@ -11,8 +11,8 @@ use Rattle.reading.specs.Tests.{_and_, within}
 use Rattle.reading.specs.Header.{done, header}
 use Rattle.reading.specs.Scan.{levels, readable, scanOf}
 use Rattle.reading.proofs.HeaderEnds.{header-within}
-use Rattle.reading.proofs.WantOfCode.{AllBytes}
-use Rattle.jpeg_header.proofs.Accepted.{header-accepted}
+use Rattle.reading.proofs.FileBytes.{AllBytes}
+use Rattle.reading.proofs.Accepted.{header-accepted}
 
 within-yes : (a b n : ℕ) → a ≤ n → n ≤ b → within a b n ≡ true
 within-yes a b n p q = rw (le-leb a n p, le-leb n b q) refl

@@ -5,7 +5,7 @@ use mathlib.Core.Bool.{Bool, true, false, not}
 use mathlib.Core.List.{List}
 use native.Mathlib.Omega.{arith}
 use native.Mathlib.Nat.{not-suc-le-zero}
-use lib.Dec.{leb, eqb}
+use lib.Dec.{leb, eqb, lit<}
 use lib.ListN.{length, take, drop, length-take}
 use borrow.Author.Tests.{le-leb, lt-leb, eq-eqb, ne-eqb}
 use Rattle.reading.specs.declared.Refusal.{Refusal}
@@ -17,24 +17,24 @@ use Rattle.reading.specs.declared.Record.{Record}
 use Rattle.reading.specs.Header.{more, done, stop, byte, window, step, steps, opens, opening, header}
 use Rattle.reading.proofs.Stages.{refuse-go, refuse-yes}
 use Rattle.reading.proofs.HeaderEnds.{Down, on, Ok, inside, left, step-down}
-use Rattle.reading.proofs.WantOfCode.{AllBytes}
-use Rattle.jpeg_header.specs.Frames.{Framed}
+use Rattle.reading.proofs.FileBytes.{AllBytes}
+use Rattle.reading.proofs.Frames.{Shaped}
 use Rattle.jpeg_header.specs.Steps.{stageBy, stageOf, Inside, InsideCase}
 use Rattle.jpeg_header.specs.declared.Progress.the-variants.{More, Done, Stop}
 use Rattle.jpeg_header.specs.declared.Stepped.{Stepped}
-use Rattle.jpeg_header.proofs.Accepted.{Sound, step-sound, opening-framed}
-use Rattle.jpeg_header.proofs.Accepted as accepted
+use Rattle.reading.proofs.Accepted.{Sound, step-sound}
+use Rattle.reading.proofs.Accepted as accepted
 
 module _ (s : List ℕ) (colour : Bool) where
   -- what holds between two steps: the steps that are left give the whole header
   pub record Running (h : Header) : Type 0 where
     pub fuel : ℕ
     pub ok : Ok (length s) h
-    pub framed : Framed h
+    pub shaped : Shaped h
     pub enough : left (length s) h < fuel
     pub same : header s colour ≡ steps s colour fuel (more h)
 
-  sound-more : (h : Header) → Sound colour (more h) → Framed h
+  sound-more : (h : Header) → Sound colour (more h) → Shaped h
   sound-more h (accepted.on _ f) = f
 
   down-more : (n m : ℕ) (h : Header) → Down n m (more h) → Ok n h × (left n h < m)
@@ -70,7 +70,7 @@ module _ (s : List ℕ) (colour : Bool) where
       record {
         fuel = next h r .fuel;
         ok = d .0;
-        framed = sound-more i (subst⁻¹ (Sound colour) e (step-sound colour s y h (r .framed)));
+        shaped = sound-more i (subst⁻¹ (Sound colour) e (step-sound colour s y h (r .shaped)));
         enough = omega (arith, d .1, next h r .less);
         same = next h r .same ∙ ap (steps s colour (next h r .fuel)) (sym e);
       }
@@ -95,7 +95,7 @@ module _ (s : List ℕ) (colour : Bool) where
       record {
         fuel = 2 * length s + 1;
         ok = (l, tt);
-        framed = λ k. absurd (not-suc-le-zero k);
+        shaped = ((λ k. absurd (not-suc-le-zero k)), lit< tt);
         enough = omega arith;
         same = ap (steps s colour (2 * length s + 1)) (refuse-go (not (opens s)) Malformed (more opening) (ap not e));
       }

@@ -34,6 +34,8 @@ use Rattle.reading.proofs.Stages.{refused-or, chosen-or}
 pub record TableOk (s : List ℕ) (at x : ℕ) : Type 0 where
   pub fitting : T (codesFit (take 16 (drop x s)) 0 0)
   pub by : x + 16 + sum (take 16 (drop x s)) ≤ at
+  -- 1 to 256 symbols
+  pub some : (1 ≤ sum (take 16 (drop x s))) × (sum (take 16 (drop x s)) ≤ 256)
 
 -- the place of a quantizer that ends by `at`
 pub record QuantOk (s : List ℕ) (at x : ℕ) : Type 0 where
@@ -76,13 +78,13 @@ module _ (s : List ℕ) (colour : Bool) where
     pub lum : 0 < r .hs * r .vs
     pub count : r .blocks ≡ blockCount (shapeIn r)
 
-  data Kept : Stage → Type 0 where
+  pub data Kept : Stage → Type 0 where
     on : (h : Header) → Inv h → Kept (more h)
     ready : (r : Record) → Ready r → Kept (done r)
     off : (x : Refusal) → Kept (stop x)
 
   later : (a b : ℕ) → a ≤ b → (x : ℕ) → TableOk s a x → TableOk s b x
-  later a b h x t = record { fitting = t .fitting; by = le-trans (t .by) h }
+  later a b h x t = record { fitting = t .fitting; by = le-trans (t .by) h; some = t .some }
 
   later-q : (a b : ℕ) → a ≤ b → (x : ℕ) → QuantOk s a x → QuantOk s b x
   later-q a b h x t = record { nonzero = t .nonzero; by = le-trans (t .by) h }
@@ -158,22 +160,27 @@ module _ (s : List ℕ) (colour : Bool) where
       w : List ℕ
       w = window s (h .at) e
 
-      parts : (a b c d e f : Bool) → T (a and b and c and d and e and f) → T a × T f
-      parts true true true true true f t = (tt, t)
+      parts : (a b c d e f : Bool) → T (a and b and c and d and e and f) → T a × T d × T f
+      parts true true true true true f t = (tt, tt, t)
       parts true true true true false f t = absurd t
       parts true true true false e f t = absurd t
       parts true true false d e f t = absurd t
       parts true false c d e f t = absurd t
       parts false b c d e f t = absurd t
 
-      both : T (leb 17 (length w)) × T (codesFit (countsOf w) 0 0)
+      both : T (leb 17 (length w)) × T (within 1 256 (sum (countsOf w))) × T (codesFit (countsOf w) 0 0)
       both = parts (leb 17 (length w)) (leb (byte w 0 / 16) 1) (leb (byte w 0 % 16) 3) (within 1 256 (sum (countsOf w))) (leb (17 + sum (countsOf w)) (length w)) (codesFit (countsOf w) 0 0) t
 
       same : countsOf w ≡ take 16 (drop (h .at + 1) s)
       same = counts-same (h .at) e (le-trans (leb→le 17 (length w) (both .0)) (window-short (h .at) e))
 
       ok : TableOk s (h .at + (17 + sum (countsOf w))) (h .at + 1)
-      ok = record { fitting = subst (λ l. T (codesFit l 0 0)) same (both .1); by = subst (λ l. h .at + 1 + 16 + sum l ≤ h .at + (17 + sum (countsOf w))) same (omega arith) }
+      ok =
+          record {
+            fitting = subst (λ l. T (codesFit l 0 0)) same (both .2);
+            by = subst (λ l. h .at + 1 + 16 + sum l ≤ h .at + (17 + sum (countsOf w))) same (omega arith);
+            some = subst (λ l. (1 ≤ sum l) × (sum l ≤ 256)) same (leb→le 1 _ (and-left (leb 1 (sum (countsOf w))) _ (both .1)), leb→le _ 256 (and-right (leb 1 (sum (countsOf w))) _ (both .1)));
+          }
 
   quant-kept : (h : Header) → Inv h → (e : ℕ) → T (quantizerFits (window s (h .at) e)) → Inv (withQuantizer (window s (h .at) e) h)
   quant-kept h v e t =
@@ -212,6 +219,18 @@ module _ (s : List ℕ) (colour : Bool) where
   stepIn-kept h v (Quantizers e) = chosen-or Kept (eqb (h .at) e) _ _ (λ t. on _ (kept h v (moved h e Marker) refl refl refl (omega (arith, eqb→eq (h .at) e (subst⁻¹ T t tt))) (v .lum))) (λ t. refused-or Kept off (not (quantizerFits (window s (h .at) e))) Malformed _ (λ u. on _ (quant-kept h v e (is-so (quantizerFits (window s (h .at) e)) u))))
   stepIn-kept h v (Huffman e) = chosen-or Kept (eqb (h .at) e) _ _ (λ t. on _ (kept h v (moved h e Marker) refl refl refl (omega (arith, eqb→eq (h .at) e (subst⁻¹ T t tt))) (v .lum))) (λ t. refused-or Kept off (not (tableFits (window s (h .at) e))) Malformed _ (λ u. on _ (table-kept h v e (is-so (tableFits (window s (h .at) e)) u))))
 
+  pub step-kept : (h : Header) → Inv h → Kept (step s colour h)
+  step-kept h v = stepIn-kept h v (h .case)
+
+  pub opening-kept : Inv opening
+  opening-kept = record { dcs = zero-places; acs = zero-places; quants = zero-quants; lum = λ k. absurd (not-suc-le-zero k) }
+    where
+      zero-quants : Places (QuantOk s 2) (replicate 4 0)
+      zero-quants = ((λ k. absurd (not-suc-le-zero k)), ((λ k. absurd (not-suc-le-zero k)), ((λ k. absurd (not-suc-le-zero k)), ((λ k. absurd (not-suc-le-zero k)), tt))))
+
+      zero-places : Places (TableOk s 2) (replicate 4 0)
+      zero-places = ((λ k. absurd (not-suc-le-zero k)), ((λ k. absurd (not-suc-le-zero k)), ((λ k. absurd (not-suc-le-zero k)), ((λ k. absurd (not-suc-le-zero k)), tt))))
+
   abbrev ends-ready : Stage → Type 0
   ends-ready (more h) = Unit {0}
   ends-ready (done r) = Ready r
@@ -221,19 +240,13 @@ module _ (s : List ℕ) (colour : Bool) where
   steps-kept zero st (on h v) = tt
   steps-kept zero st (ready r q) = q
   steps-kept zero st (off x) = tt
-  steps-kept (suc k) st (on h v) = steps-kept k (step s colour h) (stepIn-kept h v (h .case))
+  steps-kept (suc k) st (on h v) = steps-kept k (step s colour h) (step-kept h v)
   steps-kept (suc k) st (ready r q) = q
   steps-kept (suc k) st (off x) = tt
 
   pub header-ready : (r : Record) → header s colour ≡ done r → Ready r
   unfolding header
-  header-ready r e = subst ends-ready e (steps-kept (2 * length s + 1) (started s) (refused-or Kept off (not (leb 2 (length s) and eqb (byte s 0) 255 and eqb (byte s 1) 216)) Malformed (more opening) (λ t. on opening (record { dcs = zero-places; acs = zero-places; quants = zero-quants; lum = λ k. absurd (not-suc-le-zero k) }))))
-    where
-      zero-quants : Places (QuantOk s 2) (replicate 4 0)
-      zero-quants = ((λ k. absurd (not-suc-le-zero k)), ((λ k. absurd (not-suc-le-zero k)), ((λ k. absurd (not-suc-le-zero k)), ((λ k. absurd (not-suc-le-zero k)), tt))))
-
-      zero-places : Places (TableOk s 2) (replicate 4 0)
-      zero-places = ((λ k. absurd (not-suc-le-zero k)), ((λ k. absurd (not-suc-le-zero k)), ((λ k. absurd (not-suc-le-zero k)), ((λ k. absurd (not-suc-le-zero k)), tt))))
+  header-ready r e = subst ends-ready e (steps-kept (2 * length s + 1) (started s) (refused-or Kept off (not (leb 2 (length s) and eqb (byte s 0) 255 and eqb (byte s 1) 216)) Malformed (more opening) (λ t. on opening opening-kept)))
 
 -- ---- the plan of an accepted record
 

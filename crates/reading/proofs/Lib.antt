@@ -14,7 +14,12 @@ pub mod Packed
 pub mod ScanWritten
 pub mod HeaderPrefix
 pub mod FineRead
+pub mod FileBytes
+pub mod Frames
 pub mod GoodTables
+pub mod Accepted
+pub mod States
+pub mod Judgement
 pub mod Demand3
 pub mod Levels
 pub mod OnePicture

@@ -16,7 +16,7 @@ use Rattle.reading.specs.Header.{Stage, more, done, stop, header}
 use Rattle.reading.proofs.HeaderEnds.{finished, header-ends}
 use Rattle.reading.proofs.OnePicture as O
 use Rattle.reading.proofs.WantOfCode as W
-use Rattle.reading.proofs.WantOfCode.{AllBytes}
+use Rattle.reading.proofs.FileBytes.{AllBytes}
 use Rattle.reading.proofs.Demand3 as D
 use Rattle.reading.proofs.Demand3.{Settles}
 use Rattle.reading.specs.Scan.{planOf}
