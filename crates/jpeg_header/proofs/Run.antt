@@ -16,6 +16,7 @@ use Rattle.reading.specs.declared.Header.{Header}
 use Rattle.reading.specs.declared.Record.{Record}
 use Rattle.reading.specs.Header.{more, done, stop, byte, window, step, steps, opens, opening, header}
 use Rattle.reading.proofs.Stages.{refuse-go, refuse-yes}
+use Rattle.reading.proofs.HeaderPrefix.{steps-done, steps-stop}
 use Rattle.reading.proofs.HeaderEnds.{Down, on, Ok, inside, left, step-down}
 use Rattle.reading.proofs.FileBytes.{AllBytes}
 use Rattle.reading.proofs.Frames.{Shaped}
@@ -39,14 +40,6 @@ module _ (s : List ℕ) (colour : Bool) where
 
   down-more : (n m : ℕ) (h : Header) → Down n m (more h) → Ok n h × (left n h < m)
   down-more n m h (on _ o d) = (o, d)
-
-  steps-done : (k : ℕ) (r : Record) → steps s colour k (done r) ≡ done r
-  steps-done zero r = refl
-  steps-done (suc k) r = refl
-
-  steps-stop : (k : ℕ) (x : Refusal) → steps s colour k (stop x) ≡ stop x
-  steps-stop zero x = refl
-  steps-stop (suc k) x = refl
 
   -- one step, out of the steps that are left
   record Next (h : Header) : Type 0 where
@@ -76,10 +69,10 @@ module _ (s : List ℕ) (colour : Bool) where
       }
 
   pub run-done : (h : Header) (q : Record) → Running h → done q ≡ step s colour h → header s colour ≡ done q
-  run-done h q r e = next h r .same ∙ ap (steps s colour (next h r .fuel)) (sym e) ∙ steps-done (next h r .fuel) q
+  run-done h q r e = next h r .same ∙ ap (steps s colour (next h r .fuel)) (sym e) ∙ steps-done s colour (next h r .fuel) q
 
   pub run-stop : (h : Header) (x : Refusal) → Running h → stop x ≡ step s colour h → header s colour ≡ stop x
-  run-stop h x r e = next h r .same ∙ ap (steps s colour (next h r .fuel)) (sym e) ∙ steps-stop (next h r .fuel) x
+  run-stop h x r e = next h r .same ∙ ap (steps s colour (next h r .fuel)) (sym e) ∙ steps-stop s colour (next h r .fuel) x
 
   pub run-inside : (h : Header) → Running h → Inside (length s) h
   run-inside h r = go (h .case) (r .ok .1)
@@ -102,7 +95,7 @@ module _ (s : List ℕ) (colour : Bool) where
 
   pub run-closed : opens s ≡ false → header s colour ≡ stop Malformed
   unfolding header
-  run-closed e = ap (steps s colour (2 * length s + 1)) (refuse-yes (not (opens s)) Malformed (more opening) (ap not e)) ∙ steps-stop (2 * length s + 1) Malformed
+  run-closed e = ap (steps s colour (2 * length s + 1)) (refuse-yes (not (opens s)) Malformed (more opening) (ap not e)) ∙ steps-stop s colour (2 * length s + 1) Malformed
 
 -- ---- the file's first two bytes
 

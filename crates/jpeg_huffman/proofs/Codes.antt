@@ -21,7 +21,9 @@ use Rattle.reading.specs.Reader.{Read, got, fault, Reader, onward, _>>=_, give}
 use Rattle.reading.specs.Bits.{one}
 use Rattle.reading.specs.Huffman.{tableAt, sum, codeFrom, symbol}
 use Rattle.reading.specs.Answers.{bitRead}
-use Rattle.jpeg_bits.proofs.Field.{grown, small, bit-below}
+use Rattle.reading.proofs.FineRead.{onward-onward}
+use Rattle.reading.proofs.BitAnswers.{bit-below}
+use Rattle.whole.specs.Powers.{grown, small}
 
 -- ---- counts
 
@@ -68,10 +70,6 @@ symbol-none t s base b h = rw (drop-of-length-le t h)
 abbrev tried : (t s : List ℕ) (more at f index w : ℕ) → Reader Bits ℕ
 tried t s more at f index w =
     cond (ltb w (2 * f + getD t at 0)) (give (index + (w - 2 * f))) (codeFrom (one s) (countsAt t (at + 1) (more - 1)) w (2 * f + getD t at 0) (index + getD t at 0))
-
-onward-onward : {A B C : Type 0} (o : Read Bits A) (f : A → Reader Bits B) (g : B → Reader Bits C) → onward (onward o f) g ≡ onward o (λ a. f a >>= g)
-onward-onward (got a q) f g = refl
-onward-onward (fault e) f g = refl
 
 walked-step :
     (t s : List ℕ) (base more at v f index : ℕ) (q : Bits) → 0 < more → at < length t

@@ -27,7 +27,8 @@ use Rattle.reading.proofs.Plain.{and-left, and-right}
 use Rattle.reading.proofs.Stages.{refused-or, chosen-or}
 use Rattle.reading.proofs.HeaderEnds.{is-so}
 use Rattle.reading.proofs.Places.{count-is, output-is, channel-is}
-use Rattle.reading.proofs.GoodTables.{Ready, header-ready, all-at, Stands, tables-stand}
+use Rattle.reading.proofs.GoodTables.{Ready, header-ready, Stands, tables-stand}
+use Rattle.reading.proofs.Fits.{all-at}
 use Rattle.reading.proofs.FileBytes.{AllBytes, byte-below, word-below, window-bytes}
 use Rattle.reading.proofs.Frames.{FrameOk, Framed, Shaped, frameIn}
 

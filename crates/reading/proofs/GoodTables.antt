@@ -26,7 +26,8 @@ use Rattle.reading.specs.Tests.{_and_, _or_, within, all, allFrom}
 use Rattle.reading.specs.Huffman.{Table, tableAt, sum, codesFit}
 use Rattle.reading.specs.Header.{Stage, more, done, stop, refuse-if, byte, word, moved, window, quantizer, quantizerFits, withQuantizer, huffman, countsOf, put, tableFits, withTable, frame, frameOf, frameFits, withFrame, interval, withInterval, scan, recordOf, each, eachChannel, complete, dcId, acId, hasFrame, kindOf, segment, segmentEnd, marker, stepIn, step, steps, started, opening, header}
 use Rattle.reading.proofs.Plain.{and-left, and-right, Good}
-use Rattle.reading.proofs.HeaderEnds.{is-so, or-left, or-right, not-lt, header-within}
+use Rattle.reading.proofs.Fits.{TableKnown, table-known, all-at}
+use Rattle.reading.proofs.HeaderEnds.{is-so, or-left, or-right, not-lt, window-short, header-within}
 use Rattle.reading.proofs.HeaderPrefix.{take-drop-take}
 use Rattle.reading.proofs.Stages.{refused-or, chosen-or}
 
@@ -129,9 +130,6 @@ module _ (s : List ℕ) (colour : Bool) where
   segment-kept h v Skips b a e p q = on _ (kept h v (moved h e Marker) refl refl refl (le-trans p q) (v .lum))
   segment-kept h v Others b a e p q = off Unsupported
 
-  window-short : (a e : ℕ) → length (window s a e) ≤ e - a
-  window-short a e = subst⁻¹ (λ k. k ≤ e - a) (length-take (e - a) (drop a s)) (omega arith)
-
   drop-next : (l : List ℕ) (p : ℕ) → drop 1 (drop p l) ≡ drop (p + 1) l
   drop-next l p = go l p ∙ ap (λ k. drop k l) (sym (add-one p))
     where
@@ -160,26 +158,18 @@ module _ (s : List ℕ) (colour : Bool) where
       w : List ℕ
       w = window s (h .at) e
 
-      parts : (a b c d e f : Bool) → T (a and b and c and d and e and f) → T a × T d × T f
-      parts true true true true true f t = (tt, tt, t)
-      parts true true true true false f t = absurd t
-      parts true true true false e f t = absurd t
-      parts true true false d e f t = absurd t
-      parts true false c d e f t = absurd t
-      parts false b c d e f t = absurd t
-
-      both : T (leb 17 (length w)) × T (within 1 256 (sum (countsOf w))) × T (codesFit (countsOf w) 0 0)
-      both = parts (leb 17 (length w)) (leb (byte w 0 / 16) 1) (leb (byte w 0 % 16) 3) (within 1 256 (sum (countsOf w))) (leb (17 + sum (countsOf w)) (length w)) (codesFit (countsOf w) 0 0) t
+      known : TableKnown w
+      known = table-known w t
 
       same : countsOf w ≡ take 16 (drop (h .at + 1) s)
-      same = counts-same (h .at) e (le-trans (leb→le 17 (length w) (both .0)) (window-short (h .at) e))
+      same = counts-same (h .at) e (le-trans (known .long) (window-short s (h .at) e))
 
       ok : TableOk s (h .at + (17 + sum (countsOf w))) (h .at + 1)
       ok =
           record {
-            fitting = subst (λ l. T (codesFit l 0 0)) same (both .2);
+            fitting = subst (λ l. T (codesFit l 0 0)) same (known .codes);
             by = subst (λ l. h .at + 1 + 16 + sum l ≤ h .at + (17 + sum (countsOf w))) same (omega arith);
-            some = subst (λ l. (1 ≤ sum l) × (sum l ≤ 256)) same (leb→le 1 _ (and-left (leb 1 (sum (countsOf w))) _ (both .1)), leb→le _ 256 (and-right (leb 1 (sum (countsOf w))) _ (both .1)));
+            some = subst (λ l. (1 ≤ sum l) × (sum l ≤ 256)) same (known .some);
           }
 
   quant-kept : (h : Header) → Inv h → (e : ℕ) → T (quantizerFits (window s (h .at) e)) → Inv (withQuantizer (window s (h .at) e) h)
@@ -198,7 +188,7 @@ module _ (s : List ℕ) (colour : Bool) where
       room = leb→le 65 (length w) (and-left (leb 65 (length w)) (leb (byte w 0) 3 and all (ltb 0) (take 64 (drop 1 w))) t)
 
       same : take 64 (drop 1 w) ≡ take 64 (drop (h .at + 1) s)
-      same = take-drop-take 1 64 (e - h .at) (drop (h .at) s) (omega (arith, window-short (h .at) e, room)) ∙ ap (take 64) (drop-next s (h .at))
+      same = take-drop-take 1 64 (e - h .at) (drop (h .at) s) (omega (arith, window-short s (h .at) e, room)) ∙ ap (take 64) (drop-next s (h .at))
 
       ok : QuantOk s (h .at + 65) (h .at + 1)
       ok = record { nonzero = subst (λ l. T (all (ltb 0) l)) same (and-right (leb (byte w 0) 3) (all (ltb 0) (take 64 (drop 1 w))) (and-right (leb 65 (length w)) (leb (byte w 0) 3 and all (ltb 0) (take 64 (drop 1 w))) t)); by = omega arith }
@@ -268,21 +258,6 @@ good-table s m x h t = record { fitting = subst⁻¹ (λ l. T (codesFit l 0 0)) 
       where
         fits : min k (min m (length s) - (x + 16)) ≡ k
         fits = omega (arith, room, h)
-
--- what a test of each channel says of one
-pub all-at : (p : ℕ → Bool) (n i : ℕ) → T (allFrom n i p) → (c : ℕ) → i ≤ c → c < i + n → T (p c)
-all-at p zero i t c a b = absurd (none-left a b)
-  where
-    none-left : i ≤ c → c < i + 0 → ⊥
-    none-left x y = omega arith
-all-at p (suc n) i t c a b = go (eqb i c) refl (all-at p n (suc i) (and-right (p i) (allFrom n (suc i) p) t) c)
-  where
-    go : (e : Bool) → eqb i c ≡ e → (suc i ≤ c → c < suc i + n → T (p c)) → T (p c)
-    go true q ih = subst (λ k. T (p k)) (eqb→eq i c (subst⁻¹ T q tt)) (and-left (p i) (allFrom n (suc i) p) t)
-    go false q ih = ih (omega (arith, a, apart)) (omega (arith, b))
-      where
-        apart : i ≡ c → ⊥
-        apart r = absurd (subst T (sym (eq-eqb i c r) ∙ q) tt)
 
 -- what an accepted record says of the tables of one channel of its picture
 pub record Stands (s : List ℕ) (r : Record) (c : ℕ) : Type 0 where

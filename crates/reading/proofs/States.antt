@@ -2,17 +2,20 @@
 --     step-valid       a step from a valid state leads to a valid state, a fit record or a refusal
 --     steps-valid      so does every number of steps from the file's start
 --     header-fits      the record of an accepted header is a fit one
+--     header-readable  and its scan can be read
 use Prim.Native.Nat.{ℕ, zero, suc, _+_, _*_, _≤_}
 use mathlib.Core.Path.{_≡_, refl, subst}
 use mathlib.Core.Bool.{Bool, true, false, not}
 use mathlib.Core.List.{List}
 use lib.Dec.{T, leb, eqb, leb→le}
 use lib.ListN.{length}
+use borrow.Author.Tests.{le-leb}
 use Rattle.reading.specs.declared.Refusal.{Refusal}
 use Rattle.reading.specs.declared.Refusal.the-variants.{Malformed}
 use Rattle.reading.specs.declared.Header.{Header}
 use Rattle.reading.specs.declared.Record.{Record}
-use Rattle.reading.specs.Tests.{_and_}
+use Rattle.reading.specs.Tests.{_and_, within}
+use Rattle.reading.specs.Scan.{readable}
 use Rattle.reading.specs.Header.{Stage, more, done, stop, byte, step, steps, opens, started, opening, header}
 use Rattle.reading.proofs.Plain.{and-left}
 use Rattle.reading.proofs.Stages.{refused-or}
@@ -71,3 +74,18 @@ module _ (s : List ℕ) (colour : Bool) where
     pub header-fits : (r : Record) → header s colour ≡ done r → Fit r
     unfolding header
     header-fits r e = subst Holds e (steps-valid (2 * length s + 1))
+
+-- its scan can be read
+within-yes : (a b n : ℕ) → a ≤ n → n ≤ b → within a b n ≡ true
+within-yes a b n p q = rw (le-leb a n p, le-leb n b q) refl
+
+pub header-readable : (s : List ℕ) → AllBytes s → (colour : Bool) (r : Record) → header s colour ≡ done r → readable s r ≡ true
+unfolding readable
+header-readable s y colour r e =
+    let f = header-fits s colour y r e in
+    rw (
+      le-leb (r .start) (length s) (f .within),
+      within-yes 1 4 (r .hs) (f .accepted .frame .across .0) (f .accepted .frame .across .1),
+      within-yes 1 4 (r .vs) (f .accepted .frame .down .0) (f .accepted .frame .down .1),
+      within-yes 1 3 (r .channels) (f .accepted .frame .few .0) (f .accepted .frame .few .1),
+    ) refl
