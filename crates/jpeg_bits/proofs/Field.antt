@@ -1,24 +1,18 @@
 -- A field of a file, bit after bit, in the code's terms.
-use Prim.Native.Nat.{ℕ, zero, suc, _+_, _-_, _*_, _^_, _<_, _≤_}
-use mathlib.Core.Path.{_≡_, sym, _∙_, ap}
+use Prim.Native.Nat.{ℕ, zero, suc, _+_, _-_, _*_, _<_, _≤_}
+use mathlib.Core.Path.{_≡_, _∙_}
 use mathlib.Core.List.{List}
-use native.Mathlib.Omega.{arith}
-use native.Mathlib.Nat.{not-suc-le-zero, pow-suc}
+use native.Mathlib.Nat.{not-suc-le-zero}
 use native.Mathlib.Numerals.{sub-one}
-use lib.Dec.{leb, leb→le}
-use lib.Pow.{pow-mono}
 use borrow.Author.Tests.{le-leb, lt-leb}
 use Rattle.reading.specs.declared.Bits.{Bits}
 use Rattle.reading.specs.declared.Fault.{Fault}
 use Rattle.reading.specs.declared.Fault.the-variants.{Broken}
 use Rattle.reading.specs.declared.BitRead.{BitRead}
 use Rattle.reading.specs.declared.BitRead.the-variants as bit
-use Rattle.reading.specs.declared.NumberRead.{NumberRead}
-use Rattle.reading.specs.declared.NumberRead.the-variants as number
-use Rattle.reading.specs.Reader.{got, fault, Reader, onward, rule}
+use Rattle.reading.specs.Reader.{got, fault, Reader, onward}
 use Rattle.reading.specs.Bits.{one, fieldFrom, field, shortField}
-use Rattle.reading.specs.Answers.{bitRead, numberRead}
-use Rattle.reading.proofs.FineRead.{file-bits, fieldFrom-below, two, rule-so}
+use Rattle.reading.specs.Answers.{bitRead}
 
 -- ---- the field
 

@@ -1,13 +1,12 @@
 -- The next bit of a file: one law for each way through the code.
 use Prim.Native.Nat.{ℕ, zero, suc, _+_, _-_, _/_, _%_, _^_, _<_, _≤_}
 use mathlib.Core.Path.{_≡_, refl, ap, _∙_}
-use mathlib.Core.List.{List, [], _∷_}
-use mathlib.Core.Option.{none, some}
+use mathlib.Core.List.{List}
 use native.Mathlib.Omega.{arith}
-use native.Mathlib.Nat.{le-of-suc-le-suc, not-suc-le-zero, div-eq-of-lt}
+use native.Mathlib.Nat.{div-eq-of-lt}
 use native.Mathlib.Numerals.{sub-one}
 use lib.Pow.{pow-mono}
-use lib.ListN.{length, getD, getElem?}
+use lib.ListN.{length, getD}
 use borrow.Author.Tests.{eq-eqb, ne-eqb}
 use Rattle.reading.specs.declared.Bits.{Bits}
 use Rattle.reading.specs.declared.Fault.the-variants.{RanOut, Bare}

@@ -1,7 +1,7 @@
 -- The walk over a table's counts, in the code's terms. The one idea: what is read of the code is never below the codes that were
 -- passed over, and what is left of the counts, behind the symbols that were passed over, is the whole table.
 use Prim.Native.Nat.{ℕ, zero, suc, _+_, _-_, _*_, _^_, _<_, _≤_, min}
-use mathlib.Core.Path.{_≡_, refl, sym, _∙_, ap}
+use mathlib.Core.Path.{_≡_, sym, _∙_, ap}
 use mathlib.Core.Bool.{cond}
 use mathlib.Core.List.{List, [], _∷_}
 use native.Mathlib.Omega.{arith}
@@ -17,7 +17,7 @@ use Rattle.reading.specs.declared.Fault.{Fault}
 use Rattle.reading.specs.declared.Fault.the-variants.{NoCode}
 use Rattle.reading.specs.declared.BitRead.{BitRead}
 use Rattle.reading.specs.declared.BitRead.the-variants.{Got, Stop}
-use Rattle.reading.specs.Reader.{Read, got, fault, Reader, onward, _>>=_, give}
+use Rattle.reading.specs.Reader.{got, fault, Reader, onward, _>>=_, give}
 use Rattle.reading.specs.Bits.{one}
 use Rattle.reading.specs.Huffman.{tableAt, sum, codeFrom, symbol}
 use Rattle.reading.specs.Answers.{bitRead}

@@ -2,22 +2,18 @@
 use mathlib.Core.List.{List, _++_}
 use mathlib.Core.Path.{_≡_, refl, sym, _∙_, ap}
 use mathlib.Core.Bool.{Bool, true, false}
-use Prim.Native.Nat.{ℕ, _+_, _-_, _*_, _<_, _≤_}
+use Prim.Native.Nat.{ℕ, _+_, _-_, _*_}
 use native.Mathlib.Omega.{arith}
 use lib.ListN.{length, drop}
 use lib.IntN.{ℤ}
-use borrow.Author.Tests.{lt-ltb, le-ltb}
 use Rattle.reading.specs.declared.Bits.{Bits}
 use Rattle.reading.specs.declared.Fault.{Fault}
 use Rattle.reading.specs.declared.Fault.the-variants.{Broken}
 use Rattle.reading.specs.declared.Record.{Record}
-use Rattle.reading.specs.declared.ScanRead.{ScanRead}
-use Rattle.reading.specs.declared.ScanRead.the-variants.{Done, Stop}
 use Rattle.reading.specs.Tests.{over}
-use Rattle.reading.specs.Reader.{Read, got, fault, Reader, onward, give, rule}
+use Rattle.reading.specs.Reader.{got, fault, Reader, onward, give, rule}
 use Rattle.reading.specs.Bits.{file, ended}
-use Rattle.reading.specs.Answers.{scanRead}
-use Rattle.reading.specs.Reading.{allSamples, drawn}
+use Rattle.reading.specs.Reading.{allSamples}
 use Rattle.reading.specs.Scan.{planOf, blocks, opened, levels, readable, scanOf}
 use Rattle.reading.proofs.FineRead.{got-val, no-fault}
 use Rattle.jpeg_scan.specs.Steps.{ahead, placed, inked, Left}

@@ -1,14 +1,13 @@
 -- Padding and markers: what the tests of the code say of them, the end of a scan, and the restart before an MCU.
-use mathlib.Core.List.{List, [], _∷_}
+use mathlib.Core.List.{List}
 use mathlib.Core.Path.{_≡_, refl, sym, _∙_, ap}
 use mathlib.Core.Bool.{Bool, true, false, true≢false}
-use mathlib.Core.Option.{none, some}
-use Prim.Native.Nat.{ℕ, zero, suc, _+_, _-_, _*_, _/_, _%_, _^_, _<_, _≤_}
-use native.Mathlib.Nat.{not-suc-le-zero, le-of-suc-le-suc, mod-eq-of-lt, div-eq-of-lt, div-zero, le-div-iff-mul-le}
+use Prim.Native.Nat.{ℕ, _+_, _-_, _/_, _%_, _^_, _<_, _≤_}
+use native.Mathlib.Nat.{mod-eq-of-lt, div-eq-of-lt, div-zero, le-div-iff-mul-le}
 use native.Mathlib.Omega.{arith}
 use lib.Pow.{pow-mono}
 use lib.Dec.{ltb, eqb}
-use lib.ListN.{length, getD, getElem?}
+use lib.ListN.{length, getD}
 use borrow.Author.Tests.{lt-ltb, le-ltb, eq-eqb, ne-eqb, ltb-true, ltb-false, eqb-true, eqb-false}
 use Rattle.reading.specs.declared.Bits.{Bits}
 use Rattle.reading.specs.declared.Fault.the-variants.{Broken}

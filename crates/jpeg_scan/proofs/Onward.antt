@@ -17,7 +17,7 @@ use Rattle.reading.specs.declared.Fault.{Fault}
 use Rattle.reading.specs.declared.Fault.the-variants.{Broken}
 use Rattle.reading.specs.declared.ScanCursor.{ScanCursor}
 use Rattle.reading.specs.Tests.{_and_, isAt}
-use Rattle.reading.specs.Reader.{Read, got, fault, Reader, onward, _>>_, give}
+use Rattle.reading.specs.Reader.{Read, got, fault, onward, _>>_, give}
 use Rattle.reading.specs.Bits.{one, file, mark, padded}
 use Rattle.reading.specs.Huffman.{Table, tableAt}
 use Rattle.reading.specs.Block.{block, places}

@@ -2,17 +2,15 @@
 use mathlib.Core.List.{List, [], _∷_, _++_, append-assoc, append-nil}
 use mathlib.Core.Path.{_≡_, refl, sym, _∙_, ap, ap₂}
 use mathlib.Core.Bool.{Bool, true, false, cond}
-use Prim.Native.Nat.{ℕ, suc, _+_, _-_, _*_, _/_, _%_, _≤_}
+use Prim.Native.Nat.{ℕ, _+_, _-_, _*_, _≤_}
 use native.Mathlib.Omega.{arith}
 use lib.ListN.{length, take, drop, length-append, length-take, length-drop, take-append-drop, drop-of-length-le}
 use lib.Seq.{length-take-le, take-at, drop-at, drop-drop}
 use lib.IntN.{ℤ}
 use borrow.Author.Tests.{le-ltb}
-use Rattle.whole.specs.Lists.{length-from}
 use Rattle.reading.specs.Block.{places}
 use Rattle.reading.specs.Layout.{channelOf}
-use Rattle.reading.specs.Transform.{coefficients, plane, sampleOf, samples, samplesTo, painted}
-use Rattle.reading.specs.Reading.{dequantized, blockSamples}
+use Rattle.reading.specs.Transform.{coefficients, samples, samplesTo, painted}
 use Rattle.reading.specs.Scan as scan
 use Rattle.reading.proofs.Counted.{samplesOf, samplesTo-length, samplesOf-length, samplesOf-append}
 use Rattle.reading.proofs.Reach.{samples-enough}

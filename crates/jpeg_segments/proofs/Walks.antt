@@ -1,15 +1,15 @@
 -- One turn of a walk over a list, over the counts of a table, and over the channels.
-use Prim.Native.Nat.{ℕ, zero, suc, _+_, _*_, _-_, _<_, _≤_}
-use mathlib.Core.Path.{_≡_, refl, sym, ap, _∙_}
+use Prim.Native.Nat.{ℕ, zero, suc, _+_, _-_, _<_, _≤_}
+use mathlib.Core.Path.{_≡_, refl, sym}
 use mathlib.Core.Bool.{Bool, true, false}
 use mathlib.Core.List.{List, [], _∷_}
 use native.Mathlib.Omega.{arith}
 use native.Mathlib.Numerals.{add-one}
 use lib.ListN.{length, take, drop, getD, drop-of-length-le, List·getD-eq-default}
 use lib.Seq.{drop-cons}
-use Rattle.reading.specs.Tests.{_and_, all, allFrom}
+use Rattle.reading.specs.Tests.{all, allFrom}
 use Rattle.reading.specs.Huffman.{sum}
-use Rattle.reading.specs.Header.{byte, word, countsOf, eachChannel}
+use Rattle.reading.specs.Header.{byte, word, eachChannel}
 
 -- ---- bytes behind the end
 

@@ -1,14 +1,14 @@
 -- What an accepted header says of its record: the rules of the frame hold of its numbers, its sizes follow from them and are small,
 -- and the tables of each channel stand before the first coded byte.
-use Prim.Native.Nat.{ℕ, zero, suc, _+_, _*_, _-_, _/_, _%_, _^_, _<_, _≤_, zero-le}
-use mathlib.Core.Path.{_≡_, refl, sym, ap, _∙_, subst, subst⁻¹}
+use Prim.Native.Nat.{ℕ, zero, suc, _+_, _*_, _-_, _%_, _^_, _<_, _≤_, zero-le}
+use mathlib.Core.Path.{_≡_, refl, ap, _∙_, subst, subst⁻¹}
 use mathlib.Core.Bool.{Bool, true, false, not, cond}
 use mathlib.Core.Logic.{_⊎_, _≢_, inl, inr, ⊎-elim}
-use mathlib.Core.List.{List, [], _∷_}
+use mathlib.Core.List.{List}
 use native.Mathlib.Omega.{arith}
 use native.Mathlib.Nat.{not-suc-le-zero, mul-le-mul, div-lt-iff-lt-mul, mod-eq-of-lt}
 use lib.Dec.{T, leb, ltb, eqb, lit<, lit≤, leb→le, ltb→lt, eqb→eq}
-use lib.ListN.{length, take, drop, getD}
+use lib.ListN.{length, getD}
 use borrow.Author.Tests.{ltb-true, lt-ltb, le-ltb, eq-eqb, ne-eqb}
 use Rattle.reading.specs.declared.Refusal.{Refusal}
 use Rattle.reading.specs.declared.Refusal.the-variants.{CutShort, Malformed, Unsupported}
@@ -22,15 +22,15 @@ use Rattle.reading.specs.declared.Record.{Record}
 use Rattle.reading.specs.Tests.{_and_, _or_, within}
 use Rattle.reading.specs.Layout.{Shape, ceiling, blockCount, outputLength, workOf, channelOf}
 use Rattle.reading.specs.Tables.{shapeIn}
-use Rattle.reading.specs.Header.{Stage, more, done, stop, byte, word, moved, window, each, withQuantizer, withTable, frameKnown, acrossOf, downOf, quantsFit, threeFit, frameOf, frameFits, hasFrame, withFrame, withInterval, shapeOf, dcId, acId, recordOf, selected, kindOf, segment, segmentEnd, stepIn, step, steps, opens, started, opening, header}
+use Rattle.reading.specs.Header.{Stage, more, done, stop, byte, word, moved, window, each, withQuantizer, withTable, frameKnown, acrossOf, downOf, quantsFit, threeFit, frameOf, frameFits, hasFrame, withFrame, withInterval, shapeOf, dcId, acId, recordOf, selected, kindOf, segment, segmentEnd, stepIn, step, opens, started, opening, header}
 use Rattle.reading.proofs.Plain.{and-left, and-right}
-use Rattle.reading.proofs.Stages.{refused-or, chosen-or}
+use Rattle.reading.proofs.Stages.{refused-or, chosen-or, steps-hold}
 use Rattle.reading.proofs.HeaderEnds.{is-so}
 use Rattle.reading.proofs.Places.{count-is, output-is, channel-is}
-use Rattle.reading.proofs.GoodTables.{Ready, header-ready, Stands, tables-stand}
-use Rattle.reading.proofs.Fits.{all-at}
+use Rattle.reading.proofs.GoodTables.{header-ready, Stands, tables-stand}
+use Rattle.reading.proofs.Fits.{within-known, all-at}
 use Rattle.reading.proofs.FileBytes.{AllBytes, byte-below, word-below, window-bytes}
-use Rattle.reading.proofs.Frames.{FrameOk, Framed, Shaped, frameIn}
+use Rattle.reading.proofs.Frames.{FrameOk, Shaped, frameIn}
 
 -- ---- a number for each channel
 
@@ -86,7 +86,7 @@ module _ (b : List ℕ) (y : AllBytes b) (known : T (frameKnown b)) (fits : T (f
 
   factor-fits : (t : Bool) (n : ℕ) → T (within 1 4 n) → (0 < cond t 1 n) × (cond t 1 n ≤ 4)
   factor-fits true n h = (lit< tt, lit≤ tt)
-  factor-fits false n h = (leb→le 1 n (and-left (leb 1 n) _ h), leb→le n 4 (and-right (leb 1 n) _ h))
+  factor-fits false n h = within-known 1 4 n h
 
   product-fits : (t : Bool) → T (t or threeFit b (frameOf b)) → cond t 1 (acrossOf b) * cond t 1 (downOf b) ≤ 4
   product-fits true h = lit≤ tt
@@ -237,22 +237,15 @@ module _ (colour : Bool) where
     pub opening-shaped : Shaped opening
     opening-shaped = ((λ k. absurd (not-suc-le-zero k)), lit< tt)
 
-    abbrev ends-sound : Stage → Type 0
-    ends-sound (more h) = Unit {0}
-    ends-sound (done r) = Accepted colour r
-    ends-sound (stop x) = Unit {0}
+    goes-on : (h : Header) → Sound (more h) → Sound (step s colour h)
+    goes-on h (on _ f) = step-sound h f
 
-    steps-sound : (k : ℕ) (st : Stage) → Sound st → ends-sound (steps s colour k st)
-    steps-sound zero st (on h f) = tt
-    steps-sound zero st (met r q) = q
-    steps-sound zero st (off x) = tt
-    steps-sound (suc k) st (on h f) = steps-sound k (step s colour h) (step-sound h f)
-    steps-sound (suc k) st (met r q) = q
-    steps-sound (suc k) st (off x) = tt
+    met-so : (r : Record) → Sound (done r) → Accepted colour r
+    met-so r (met _ q) = q
 
     pub header-accepted : (r : Record) → header s colour ≡ done r → Accepted colour r
     unfolding header
-    header-accepted r e = subst ends-sound e (steps-sound (2 * length s + 1) (started s) (refused-or Sound off (not (opens s)) Malformed (more opening) (λ t. on opening opening-shaped)))
+    header-accepted r e = met-so r (subst Sound e (steps-hold s colour Sound goes-on (2 * length s + 1) (started s) (refused-or Sound off (not (opens s)) Malformed (more opening) (λ t. on opening opening-shaped))))
 
 -- ---- the tables of a channel
 

@@ -15,6 +15,9 @@ use Rattle.reading.proofs.Plain.{and-left, and-right}
 pub so : {b : Bool} → b ≡ true → T b
 so e = subst⁻¹ T e tt
 
+pub within-known : (lo hi n : ℕ) → T (within lo hi n) → (lo ≤ n) × (n ≤ hi)
+within-known lo hi n t = (leb→le lo n (and-left (leb lo n) (leb n hi) t), leb→le n hi (and-right (leb lo n) (leb n hi) t))
+
 module _ (b : List ℕ) where
   pub quantizer-known : T (quantizerFits b) → (65 ≤ length b) × (byte b 0 ≤ 3)
   quantizer-known t = (leb→le 65 _ (and-left (leb 65 (length b)) _ t), leb→le _ 3 (and-left (leb (byte b 0) 3) _ (and-right (leb 65 (length b)) _ t)))
@@ -32,13 +35,12 @@ module _ (b : List ℕ) where
       let u = and-right (leb 17 (length b)) _ t in
       let v = and-right (leb (byte b 0 / 16) 1) _ u in
       let w = and-right (leb (byte b 0 % 16) 3) _ v in
-      let n = and-left (within 1 256 (sum (countsOf b))) _ w in
       let x = and-right (within 1 256 (sum (countsOf b))) _ w in
       record {
         long = leb→le 17 _ (and-left (leb 17 (length b)) _ t);
         class = leb→le _ 1 (and-left (leb (byte b 0 / 16) 1) _ u);
         id = leb→le _ 3 (and-left (leb (byte b 0 % 16) 3) _ v);
-        some = (leb→le 1 _ (and-left (leb 1 (sum (countsOf b))) _ n), leb→le _ 256 (and-right (leb 1 (sum (countsOf b))) _ n));
+        some = within-known 1 256 (sum (countsOf b)) (and-left (within 1 256 (sum (countsOf b))) _ w);
         whole = leb→le _ _ (and-left (leb (17 + sum (countsOf b)) (length b)) _ x);
         codes = and-right (leb (17 + sum (countsOf b)) (length b)) _ x;
       }

@@ -1,17 +1,17 @@
 -- The tables of an accepted record stand before the first coded byte, and their codes fit.
-use Prim.Native.Nat.{ℕ, zero, suc, _+_, _*_, _-_, _/_, _%_, _^_, _<_, _≤_, zero-le, min}
+use Prim.Native.Nat.{ℕ, zero, suc, _+_, _*_, _-_, _/_, _%_, _<_, _≤_, zero-le, min}
 use mathlib.Core.Path.{_≡_, refl, sym, ap, _∙_, subst, subst⁻¹}
 use mathlib.Core.Bool.{Bool, true, false, not, cond}
-use mathlib.Core.List.{List, [], _∷_, _++_}
+use mathlib.Core.List.{List, [], _∷_}
 use native.Mathlib.Omega.{arith}
-use native.Mathlib.Nat.{not-suc-le-zero, le-trans, le-of-suc-le-suc, mul-pos}
+use native.Mathlib.Nat.{not-suc-le-zero, le-trans, mul-pos}
 use native.Mathlib.Numerals.{add-one}
-use Rattle.reading.specs.Layout.{Shape, blockCount, channelOf}
+use Rattle.reading.specs.Layout.{blockCount, channelOf}
 use Rattle.reading.proofs.Places.{channel-in}
 use Rattle.reading.specs.Scan.{planOf}
 use Rattle.reading.specs.Tables.{shapeIn, quantAt, dcAt, acAt}
 use Rattle.reading.proofs.ScanWritten.{GoodPlan}
-use borrow.Author.Tests.{eq-eqb}
+use borrow.Author.Tests.{ltb-false}
 use lib.Dec.{T, eqb, ltb, leb, eqb→eq, leb→le, ltb→lt, lit<}
 use lib.ListN.{length, take, drop, getD, set, replicate, length-take, length-drop}
 use Rattle.reading.specs.declared.Refusal.{Refusal}
@@ -22,14 +22,14 @@ use Rattle.reading.specs.declared.Kind.{Kind}
 use Rattle.reading.specs.declared.Kind.the-variants.{Quants, Tables, Frames, Scans, Intervals, Skips, Others}
 use Rattle.reading.specs.declared.Header.{Header}
 use Rattle.reading.specs.declared.Record.{Record}
-use Rattle.reading.specs.Tests.{_and_, _or_, within, all, allFrom}
-use Rattle.reading.specs.Huffman.{Table, tableAt, sum, codesFit}
-use Rattle.reading.specs.Header.{Stage, more, done, stop, refuse-if, byte, word, moved, window, quantizer, quantizerFits, withQuantizer, huffman, countsOf, put, tableFits, withTable, frame, frameOf, frameFits, withFrame, interval, withInterval, scan, recordOf, each, eachChannel, complete, dcId, acId, hasFrame, kindOf, segment, segmentEnd, marker, stepIn, step, steps, started, opening, header}
+use Rattle.reading.specs.Tests.{_and_, _or_, within, all}
+use Rattle.reading.specs.Huffman.{tableAt, sum, codesFit}
+use Rattle.reading.specs.Header.{Stage, more, done, stop, byte, word, moved, window, quantizerFits, withQuantizer, countsOf, put, tableFits, withTable, frame, frameOf, frameFits, withFrame, withInterval, recordOf, complete, hasFrame, kindOf, segment, segmentEnd, marker, stepIn, step, opens, started, opening, header}
 use Rattle.reading.proofs.Plain.{and-left, and-right, Good}
-use Rattle.reading.proofs.Fits.{TableKnown, table-known, all-at}
-use Rattle.reading.proofs.HeaderEnds.{is-so, or-left, or-right, not-lt, window-short, header-within}
+use Rattle.reading.proofs.Fits.{within-known, TableKnown, table-known, all-at}
+use Rattle.reading.proofs.HeaderEnds.{is-so, or-left, or-right, window-short, header-within}
 use Rattle.reading.proofs.HeaderPrefix.{take-drop-take}
-use Rattle.reading.proofs.Stages.{refused-or, chosen-or}
+use Rattle.reading.proofs.Stages.{refused-or, chosen-or, steps-hold}
 
 -- the place of a table that ends by `at`
 pub record TableOk (s : List ℕ) (at x : ℕ) : Type 0 where
@@ -105,12 +105,9 @@ module _ (s : List ℕ) (colour : Bool) where
       nibbles : T (within 1 4 (byte b 7 / 16)) × T (within 1 4 (byte b 7 % 16))
       nibbles = third (ltb 0 (frameOf b .width)) (ltb 0 (frameOf b .height)) (within 1 4 (byte b 7 / 16)) (within 1 4 (byte b 7 % 16)) _ t
 
-      low : (n : ℕ) → T (within 1 4 n) → 0 < n
-      low n q = leb→le 1 n (and-left (leb 1 n) (leb n 4) q)
-
       go : (c : Bool) → 0 < cond c 1 (byte b 7 / 16) * cond c 1 (byte b 7 % 16)
       go true = lit< tt
-      go false = mul-pos (low (byte b 7 / 16) (nibbles .0)) (low (byte b 7 % 16) (nibbles .1))
+      go false = mul-pos (within-known 1 4 (byte b 7 / 16) (nibbles .0) .0) (within-known 1 4 (byte b 7 % 16) (nibbles .1) .0)
 
   segment-kept : (h : Header) → Inv h → (k : Kind) (b : List ℕ) (a e : ℕ) → h .at ≤ a → a ≤ e → Kept (segment colour h k b a e)
   segment-kept h v Quants b a e p q = refused-or Kept off (eqb a e) Malformed _ (λ t. on _ (kept h v (moved h a (Quantizers e)) refl refl refl p (v .lum)))
@@ -198,7 +195,7 @@ module _ (s : List ℕ) (colour : Bool) where
       refused-or Kept off (ltb (length s) (h .at + 2) or not (eqb (byte s (h .at)) 255)) Malformed _ (λ t1. chosen-or Kept (eqb (byte s (h .at + 1)) 255) _ _ (λ t2. on _ (kept h v (moved h (h .at + 1) Marker) refl refl refl (omega arith) (v .lum)))
       (λ t2. refused-or Kept off (eqb (byte s (h .at + 1)) 217) Malformed _ (λ t3. refused-or Kept off (ltb (length s) (h .at + 4) or ltb (word s (h .at + 2)) 2 or ltb (length s) (segmentEnd s (h .at))) CutShort _
       (λ t4. segment-kept h v (kindOf (byte s (h .at + 1))) (window s (h .at + 4) (segmentEnd s (h .at))) (h .at + 4) (segmentEnd s (h .at)) (omega arith)
-      (long (h .at) (word s (h .at + 2)) (not-lt (word s (h .at + 2)) 2 (or-left (ltb (word s (h .at + 2)) 2) (ltb (length s) (segmentEnd s (h .at))) (or-right (ltb (length s) (h .at + 4)) (ltb (word s (h .at + 2)) 2 or ltb (length s) (segmentEnd s (h .at))) t4))))))))
+      (long (h .at) (word s (h .at + 2)) (ltb-false (word s (h .at + 2)) 2 (or-left (ltb (word s (h .at + 2)) 2) (ltb (length s) (segmentEnd s (h .at))) (or-right (ltb (length s) (h .at + 4)) (ltb (word s (h .at + 2)) 2 or ltb (length s) (segmentEnd s (h .at))) t4))))))))
     where
       long : (p w : ℕ) → 2 ≤ w → p + 4 ≤ p + 2 + w
       long p w q = omega arith
@@ -221,22 +218,15 @@ module _ (s : List ℕ) (colour : Bool) where
       zero-places : Places (TableOk s 2) (replicate 4 0)
       zero-places = ((λ k. absurd (not-suc-le-zero k)), ((λ k. absurd (not-suc-le-zero k)), ((λ k. absurd (not-suc-le-zero k)), ((λ k. absurd (not-suc-le-zero k)), tt))))
 
-  abbrev ends-ready : Stage → Type 0
-  ends-ready (more h) = Unit {0}
-  ends-ready (done r) = Ready r
-  ends-ready (stop x) = Unit {0}
+  goes-on : (h : Header) → Kept (more h) → Kept (step s colour h)
+  goes-on h (on _ v) = step-kept h v
 
-  steps-kept : (k : ℕ) (st : Stage) → Kept st → ends-ready (steps s colour k st)
-  steps-kept zero st (on h v) = tt
-  steps-kept zero st (ready r q) = q
-  steps-kept zero st (off x) = tt
-  steps-kept (suc k) st (on h v) = steps-kept k (step s colour h) (step-kept h v)
-  steps-kept (suc k) st (ready r q) = q
-  steps-kept (suc k) st (off x) = tt
+  ready-so : (r : Record) → Kept (done r) → Ready r
+  ready-so r (ready _ q) = q
 
   pub header-ready : (r : Record) → header s colour ≡ done r → Ready r
   unfolding header
-  header-ready r e = subst ends-ready e (steps-kept (2 * length s + 1) (started s) (refused-or Kept off (not (leb 2 (length s) and eqb (byte s 0) 255 and eqb (byte s 1) 216)) Malformed (more opening) (λ t. on opening opening-kept)))
+  header-ready r e = ready-so r (subst Kept e (steps-hold s colour Kept goes-on (2 * length s + 1) (started s) (refused-or Kept off (not (opens s)) Malformed (more opening) (λ t. on opening opening-kept))))
 
 -- ---- the plan of an accepted record
 

@@ -1,19 +1,18 @@
 -- A reading keeps its cursor inside the bytes: a place that is at most the file's length, with at most 8 unread bits.
-use Prim.Native.Nat.{ℕ, zero, suc, _+_, _*_, _-_, _/_, _%_, _^_, _<_, _≤_}
-use mathlib.Core.Path.{_≡_, refl, sym, ap, _∙_, subst, subst⁻¹}
+use Prim.Native.Nat.{ℕ, zero, suc, _+_, _*_, _-_, _≤_}
+use mathlib.Core.Path.{_≡_, refl}
 use mathlib.Core.Bool.{Bool, true, false, cond}
 use mathlib.Core.List.{List, [], _∷_, _++_}
 use mathlib.Core.Option.{Option, none, some}
 use native.Mathlib.Omega.{arith}
-use native.Mathlib.Nat.{not-suc-le-zero, le-of-suc-le-suc}
-use lib.Dec.{T, leb, ltb, eqb}
+use lib.Dec.{leb, ltb, eqb}
 use lib.IntN.{ℤ, pos, _+ℤ_}
 use lib.ListN.{length, getD, set, getElem?}
 use Rattle.reading.specs.declared.Bits.{Bits}
 use Rattle.reading.specs.declared.Fault.{Fault}
 use Rattle.reading.specs.declared.Fault.the-variants.{Bare, Broken}
 use Rattle.reading.specs.Reader.{Read, got, fault, Reader, onward, _>>=_, _>>_, give, fail, rule}
-use Rattle.reading.specs.Bits.{opened, afterFull, freshFrom, fresh, oneAt, one, file, mark, padded, fieldFrom, field, meaning, amplitude}
+use Rattle.reading.specs.Bits.{opened, afterFull, freshFrom, oneAt, one, file, mark, padded, fieldFrom, meaning, amplitude}
 use Rattle.reading.specs.Huffman.{Table, codeFrom, symbol}
 use Rattle.reading.proofs.FileBytes.{element-there}
 use Rattle.reading.specs.Tests.{_and_, isSome, isAt}

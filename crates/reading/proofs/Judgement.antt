@@ -1,29 +1,29 @@
 -- What the tests of inspect say once they are passed, and what they take.
 --     inspect-accepted   an accepted file: its record is the header's and fits, it is within the limits, its scan was read, its price was paid
 --     inspect-most       no outcome takes more than 2n + 1 and 50 x the output limit, nor more than there is
-use Prim.Native.Nat.{ℕ, _+_, _*_, _-_, _^_, _<_, _≤_}
-use mathlib.Core.Path.{_≡_, refl, sym, ap, _∙_, subst}
-use mathlib.Core.Bool.{Bool, true, false, cond}
+use Prim.Native.Nat.{ℕ, _+_, _*_, _-_, _^_, _≤_}
+use mathlib.Core.Path.{_≡_, refl, ap, subst}
+use mathlib.Core.Bool.{Bool, false}
 use mathlib.Core.List.{List}
 use native.Mathlib.Omega.{arith}
 use lib.Dec.{leb, ltb}
 use lib.IntN.{ℤ}
 use lib.ListN.{length}
+use borrow.Author.Tests.{ltb-false}
 use Rattle.reading.specs.declared.Bits.{Bits}
 use Rattle.reading.specs.declared.Budget.{Budget}
 use Rattle.reading.specs.declared.Inspection.{Inspection}
 use Rattle.reading.specs.declared.Limits.{Limits}
 use Rattle.reading.specs.declared.Record.{Record}
-use Rattle.reading.specs.declared.Refusal.{Refusal}
 use Rattle.reading.specs.declared.Verdict.{Verdict}
 use Rattle.reading.specs.declared.Verdict.the-variants.{Accepted, Refused}
 use Rattle.reading.specs.Tests.{_or_}
 use Rattle.reading.specs.Reader.{Read, got, fault}
 use Rattle.reading.specs.Header.{Stage, more, done, stop, header}
 use Rattle.reading.specs.Scan.{levels}
-use Rattle.reading.specs.Calls.{headerPrice, Outcome, takes, gives, Judged, judge, tooLarge, judgedScan, judgedRecord, judgedHeader, judged, remaining, inspection, inspect}
+use Rattle.reading.specs.Calls.{headerPrice, Outcome, takes, gives, Judged, tooLarge, judgedScan, judgedHeader, judged, remaining, inspection, inspect}
 use Rattle.reading.proofs.Stages.{chosen-or}
-use Rattle.reading.proofs.HeaderEnds.{or-left, or-right, not-lt}
+use Rattle.reading.proofs.HeaderEnds.{or-left, or-right}
 use Rattle.reading.proofs.FileBytes.{AllBytes}
 use Rattle.reading.proofs.Accepted as accepted
 
@@ -39,10 +39,10 @@ not-large l r e =
     let e1 = or-right (ltb (l .side) (r .width)) _ e in
     let e2 = or-right (ltb (l .side) (r .height)) _ e1 in
     record {
-      width = not-lt (l .side) (r .width) (or-left (ltb (l .side) (r .width)) _ e);
-      height = not-lt (l .side) (r .height) (or-left (ltb (l .side) (r .height)) _ e1);
-      scratch = not-lt (l .output) (r .scratch) (or-left (ltb (l .output) (r .scratch)) _ e2);
-      output = not-lt (l .output) (r .output) (or-right (ltb (l .output) (r .scratch)) _ e2);
+      width = ltb-false (l .side) (r .width) (or-left (ltb (l .side) (r .width)) _ e);
+      height = ltb-false (l .side) (r .height) (or-left (ltb (l .side) (r .height)) _ e1);
+      scratch = ltb-false (l .output) (r .scratch) (or-left (ltb (l .output) (r .scratch)) _ e2);
+      output = ltb-false (l .output) (r .output) (or-right (ltb (l .output) (r .scratch)) _ e2);
     }
 
 -- the work of a record within the limits: 3136 for each 64 bytes of scratch, and the output
@@ -77,12 +77,12 @@ module _ (s : List ℕ) (colour : Bool) (l : Limits) where
     header-says i (stop x) e = tt
     header-says i (done r) e =
         chosen-or said (tooLarge l r) _ _ (λ _. tt)
-        (λ t. chosen-or said (ltb budget (headerPrice s + r .work)) _ _ (λ _. tt) (λ u. scan-says r i e (not-large l r t) (not-lt budget (headerPrice s + r .work) u) (levels s r) refl))
+        (λ t. chosen-or said (ltb budget (headerPrice s + r .work)) _ _ (λ _. tt) (λ u. scan-says r i e (not-large l r t) (ltb-false budget (headerPrice s + r .work) u) (levels s r) refl))
 
     pub judged-says : said (judged s colour l budget)
     judged-says =
         chosen-or said (ltb (l .input) (length s) or leb (2 ^ 64) (headerPrice s)) _ _ (λ _. tt)
-        (λ t. chosen-or said (ltb budget (headerPrice s)) _ _ (λ _. tt) (λ u. header-says (not-lt (l .input) (length s) (or-left (ltb (l .input) (length s)) _ t)) (header s colour) refl))
+        (λ t. chosen-or said (ltb budget (headerPrice s)) _ _ (λ _. tt) (λ u. header-says (ltb-false (l .input) (length s) (or-left (ltb (l .input) (length s)) _ t)) (header s colour) refl))
 
   -- ---- what is taken
 
@@ -100,12 +100,12 @@ module _ (s : List ℕ) (colour : Bool) (l : Limits) where
     header-paid p (done r) e =
         chosen-or paid (tooLarge l r) _ _ (λ _. (p, omega arith))
         (λ t. chosen-or paid (ltb budget (headerPrice s + r .work)) _ _ (λ _. (p, omega arith))
-        (λ u. scan-paid r (headerPrice s + r .work) (not-lt budget (headerPrice s + r .work) u) (omega (arith, work-most colour l r (accepted.header-accepted colour s y r e) (not-large l r t))) (levels s r)))
+        (λ u. scan-paid r (headerPrice s + r .work) (ltb-false budget (headerPrice s + r .work) u) (omega (arith, work-most colour l r (accepted.header-accepted colour s y r e) (not-large l r t))) (levels s r)))
 
     pub judged-paid : paid (judged s colour l budget)
     judged-paid =
         chosen-or paid (ltb (l .input) (length s) or leb (2 ^ 64) (headerPrice s)) _ _ (λ _. (omega arith, omega arith))
-        (λ t. chosen-or paid (ltb budget (headerPrice s)) _ _ (λ _. (omega arith, omega arith)) (λ u. header-paid (not-lt budget (headerPrice s) u) (header s colour) refl))
+        (λ t. chosen-or paid (ltb budget (headerPrice s)) _ _ (λ _. (omega arith, omega arith)) (λ u. header-paid (ltb-false budget (headerPrice s) u) (header s colour) refl))
 
   -- ---- inspect
 

@@ -1,13 +1,11 @@
 -- Coefficients determine levels, where no quantizer is zero.
-use Prim.Native.Nat.{ℕ, zero, suc, _+_, _*_, _-_, _<_, _≤_, min}
-use mathlib.Core.Path.{_≡_, refl, sym, ap, _∙_, subst, subst⁻¹}
-use mathlib.Core.Bool.{Bool, true, false}
-use mathlib.Core.List.{List, [], _∷_, _++_}
+use Prim.Native.Nat.{ℕ, zero, suc, _*_, _-_, _<_}
+use mathlib.Core.Path.{_≡_, refl, sym, ap, _∙_, subst}
+use mathlib.Core.List.{List}
 use native.Mathlib.Omega.{arith}
-use native.Mathlib.Nat.{not-suc-le-zero, le-of-suc-le-suc, eq-of-mul-eq-mul-right, mul-pos}
-use lib.Dec.{T, eqb, ltb, eqb→eq, ltb→lt}
+use native.Mathlib.Nat.{not-suc-le-zero, eq-of-mul-eq-mul-right, mul-pos}
 use lib.IntN.{ℤ, pos, negsuc, negℤ, natAbs, _*ℤ_, pos-ne-negsuc}
-use lib.ListN.{length, getD, take, drop}
+use lib.ListN.{length, getD}
 use lib.Seq.{ext-getD}
 use Rattle.reading.specs.Transform.{zigzag, coefficients}
 use Rattle.reading.proofs.Zigzag.{level-at}

@@ -33,3 +33,5 @@ pub mod Zigzag
 pub mod Levels
 pub mod OnePicture
 pub mod WantOfCode
+pub mod Decodings
+pub mod Upstream

@@ -3,14 +3,13 @@
 --     steps-valid      so does every number of steps from the file's start
 --     header-fits      the record of an accepted header is a fit one
 --     header-readable  and its scan can be read
-use Prim.Native.Nat.{ℕ, zero, suc, _+_, _*_, _≤_}
+use Prim.Native.Nat.{ℕ, _+_, _*_, _≤_}
 use mathlib.Core.Path.{_≡_, refl, subst}
 use mathlib.Core.Bool.{Bool, true, false, not}
 use mathlib.Core.List.{List}
-use lib.Dec.{T, leb, eqb, leb→le}
+use lib.Dec.{leb, eqb, leb→le}
 use lib.ListN.{length}
 use borrow.Author.Tests.{le-leb}
-use Rattle.reading.specs.declared.Refusal.{Refusal}
 use Rattle.reading.specs.declared.Refusal.the-variants.{Malformed}
 use Rattle.reading.specs.declared.Header.{Header}
 use Rattle.reading.specs.declared.Record.{Record}
@@ -18,7 +17,7 @@ use Rattle.reading.specs.Tests.{_and_, within}
 use Rattle.reading.specs.Scan.{readable}
 use Rattle.reading.specs.Header.{Stage, more, done, stop, byte, step, steps, opens, started, opening, header}
 use Rattle.reading.proofs.Plain.{and-left}
-use Rattle.reading.proofs.Stages.{refused-or}
+use Rattle.reading.proofs.Stages.{refused-or, steps-hold}
 use Rattle.reading.proofs.HeaderEnds.{Ok, Down, left, is-so, step-down}
 use Rattle.reading.proofs.HeaderEnds as ends
 use Rattle.reading.proofs.FileBytes.{AllBytes}
@@ -56,12 +55,6 @@ module _ (s : List ℕ) (colour : Bool) where
     pub step-valid : (h : Header) → Valid h → Holds (step s colour h)
     step-valid h v = joined (left (length s) h) (step s colour h) (step-down s colour h (v .place)) (step-sound colour s y h (v .shape)) (step-kept s colour h (v .tables))
 
-    more-valid : (k : ℕ) (st : Stage) → Holds st → Holds (steps s colour k st)
-    more-valid zero st h = h
-    more-valid (suc k) (more h) v = more-valid k (step s colour h) (step-valid h v)
-    more-valid (suc k) (done r) v = v
-    more-valid (suc k) (stop x) v = tt
-
     start-valid : Holds (started s)
     start-valid = refused-or Holds (λ x. tt) (not (opens s)) Malformed (more opening) (λ t. record { place = (long t, tt); shape = opening-shaped colour s y; tables = opening-kept s colour })
       where
@@ -69,7 +62,7 @@ module _ (s : List ℕ) (colour : Bool) where
         long t = leb→le 2 (length s) (and-left (leb 2 (length s)) (eqb (byte s 0) 255 and eqb (byte s 1) 216) (is-so (opens s) t))
 
     pub steps-valid : (k : ℕ) → Holds (steps s colour k (started s))
-    steps-valid k = more-valid k (started s) start-valid
+    steps-valid k = steps-hold s colour Holds step-valid k (started s) start-valid
 
     pub header-fits : (r : Record) → header s colour ≡ done r → Fit r
     unfolding header
