@@ -25,14 +25,14 @@ use Rattle.reading.specs.Answers.{scanRead}
 use Rattle.reading.specs.Reading.{allSamples, picture, drawn}
 use Rattle.reading.specs.Calls.{same, undecoded, decodedWith}
 use Rattle.reading.proofs.Equal.{records-equal}
-use Rattle.reading.proofs.WantOfCode.{AllBytes}
-use Rattle.jpeg_header.proofs.Accepted as H
-use Rattle.jpeg_scan.proofs.Counted.{scan-levels, samples-counted}
-use Rattle.jpeg_scan.proofs.Ends as E
+use Rattle.reading.proofs.FileBytes.{AllBytes}
+use Rattle.reading.proofs.Accepted as H
+use Rattle.reading.proofs.Counted.{scan-is, scan-levels, samples-counted}
+use Rattle.reading.proofs.ScanAnswers as E
 use Rattle.jpeg.specs.Meets.{Meets}
 use Rattle.jpeg.specs.Rows.{Sized, Drawable}
 use Rattle.jpeg.specs.Steps.{drawnAs, left}
-use Rattle.jpeg.proofs.Facts.{header-readable, scan-is}
+use Rattle.reading.proofs.States.{header-readable}
 use Rattle.jpeg.proofs.Decodes.{drawn-other, drawn-fault, drawn-done}
 
 pub sized : (s : List ℕ) → AllBytes s → (colour : Bool) (r : Record) → header s colour ≡ done r → Sized r

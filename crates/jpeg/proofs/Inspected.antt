@@ -28,9 +28,9 @@ use Rattle.reading.specs.Calls.{headerPrice, Outcome, takes, gives, Judged, jud
 use Rattle.reading.specs.declared.ScanRead.{ScanRead}
 use Rattle.reading.specs.declared.ScanRead.the-variants.{Done, Stop}
 use Rattle.reading.specs.Answers.{scanRead}
-use Rattle.jpeg_scan.proofs.Ends as E
+use Rattle.reading.proofs.ScanAnswers as E
 use Rattle.jpeg.specs.Steps.{told, weighed}
-use Rattle.jpeg.proofs.Facts.{scan-is}
+use Rattle.reading.proofs.Counted.{scan-is}
 
 -- ---- what the header's answer says of its stage
 

@@ -1,11 +1,9 @@
 -- Laws of the calls and of rendering.
 pub mod Chain
-pub mod Facts
 pub mod Inspected
 pub mod Decodes
 pub mod Draws
 pub mod Drawing
-pub mod Places
 pub mod RowPlaces
 pub mod Spreading
 pub mod Shades

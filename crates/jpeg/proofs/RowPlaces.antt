@@ -17,7 +17,7 @@ use Rattle.reading.specs.Tables.{shapeIn}
 use Rattle.reading.specs.Reading.{pixel}
 use Rattle.jpeg.specs.Rows.{Sized, Drawable, perOf, blocksAbove, lumaOfRow, chromaOfRow, three, shown, lumaAt, inMcu}
 use Rattle.jpeg.proofs.Shades.{and-false, shown-one, shown-cong}
-use Rattle.jpeg.proofs.Places.{first-channel-place, chroma-place, mcu-below, mod-eight, block-below, chroma-below}
+use Rattle.reading.proofs.SamplePlaces.{first-channel-place, chroma-place, mcu-below, mod-eight, block-below, chroma-below}
 
 -- ---- the numbers are small
 

@@ -1,41 +1,18 @@
 -- A field of a file, bit after bit, in the code's terms.
-use Prim.Native.Nat.{ℕ, zero, suc, _+_, _-_, _*_, _^_, _<_, _≤_}
-use mathlib.Core.Path.{_≡_, sym, _∙_, ap}
+use Prim.Native.Nat.{ℕ, zero, suc, _+_, _-_, _*_, _<_, _≤_}
+use mathlib.Core.Path.{_≡_, _∙_}
 use mathlib.Core.List.{List}
-use native.Mathlib.Omega.{arith}
-use native.Mathlib.Nat.{not-suc-le-zero, pow-suc}
+use native.Mathlib.Nat.{not-suc-le-zero}
 use native.Mathlib.Numerals.{sub-one}
-use lib.Dec.{leb, leb→le}
-use lib.Pow.{pow-mono}
 use borrow.Author.Tests.{le-leb, lt-leb}
 use Rattle.reading.specs.declared.Bits.{Bits}
 use Rattle.reading.specs.declared.Fault.{Fault}
 use Rattle.reading.specs.declared.Fault.the-variants.{Broken}
 use Rattle.reading.specs.declared.BitRead.{BitRead}
 use Rattle.reading.specs.declared.BitRead.the-variants as bit
-use Rattle.reading.specs.declared.NumberRead.{NumberRead}
-use Rattle.reading.specs.declared.NumberRead.the-variants as number
-use Rattle.reading.specs.Reader.{got, fault, Reader, onward, rule}
+use Rattle.reading.specs.Reader.{got, fault, Reader, onward}
 use Rattle.reading.specs.Bits.{one, fieldFrom, field, shortField}
-use Rattle.reading.specs.Answers.{bitRead, numberRead}
-use Rattle.reading.proofs.FineRead.{file-bits, fieldFrom-below, two, rule-so}
-
--- ---- a number that takes one bit more
-
--- of n bits `more` are to come; one of those is read
-pub grown : (n more : ℕ) {v c : ℕ} → 0 < more → more ≤ n → v < 2 ^ (n - more) → c < 2 → 2 * v + c < 2 ^ (n - (more - 1))
-grown n more p le h l =
-    let e : n - (more - 1) ≡ suc (n - more) = omega arith in
-    rw e (omega (arith, pow-suc 2 (n - more)))
-
--- at most 16 bits make a number below 65536
-pub small : (n more : ℕ) {v : ℕ} → n ≤ 16 → v < 2 ^ (n - more) → v < 65536
-small n more le h =
-    let m : 2 ^ (n - more) ≤ 2 ^ 16 = pow-mono {j = 16} (omega arith) in
-    omega arith
-
-pub bit-below : (s : List ℕ) (b : Bits) {r : BitRead} → bitRead r ≡ one s b → {c : ℕ} {p : Bits} → r ≡ bit.Got c p → c < 2
-bit-below s b e {c} {p} g = file-bits s b p c (sym e ∙ ap bitRead g)
+use Rattle.reading.specs.Answers.{bitRead}
 
 -- ---- the field
 
@@ -67,20 +44,3 @@ module _ (s : List ℕ) (b : Bits) (v n : ℕ) (h : 0 < n) {r : BitRead} (e : bi
 
   pub field-cut : {f : Fault} → r ≡ bit.Stop f → further s n v b ≡ fault f
   field-cut g = step s b v n h ∙ rw (← e, g)
-
--- what is known of a field that was read
-pub record Sized (v n : ℕ) : Type 0 where
-  pub few : n ≤ 16
-  pub below : v < 2 ^ n
-
-pub field-sized : (s : List ℕ) (b : Bits) (n : ℕ) {v : ℕ} {q : Bits} → shortField (one s) n b ≡ got v q → Sized v n
-unfolding shortField field
-field-sized s b n {v} {q} e =
-    let w = two (rule (leb n 16) b) (λ _. field (one s) n) v q e in
-    record {
-      few = leb→le n 16 (rule-so (leb n 16) b (w .at) (w .val) (w .fst));
-      below = omega (arith, fieldFrom-below (one s) (file-bits s) n 0 (w .at) q v (w .snd));
-    }
-
-pub read-sized : (s : List ℕ) (b : Bits) (n : ℕ) {r : NumberRead} → numberRead r ≡ shortField (one s) n b → {v : ℕ} {q : Bits} → r ≡ number.Got v q → Sized v n
-read-sized s b n e g = field-sized s b n (sym e ∙ ap numberRead g)

@@ -1,30 +1,18 @@
 -- The next bit of a file: one law for each way through the code.
 use Prim.Native.Nat.{ℕ, zero, suc, _+_, _-_, _/_, _%_, _^_, _<_, _≤_}
 use mathlib.Core.Path.{_≡_, refl, ap, _∙_}
-use mathlib.Core.List.{List, [], _∷_}
-use mathlib.Core.Option.{none, some}
+use mathlib.Core.List.{List}
 use native.Mathlib.Omega.{arith}
-use native.Mathlib.Nat.{le-of-suc-le-suc, not-suc-le-zero, div-eq-of-lt}
+use native.Mathlib.Nat.{div-eq-of-lt}
 use native.Mathlib.Numerals.{sub-one}
 use lib.Pow.{pow-mono}
-use lib.ListN.{length, getD, getElem?}
+use lib.ListN.{length, getD}
 use borrow.Author.Tests.{eq-eqb, ne-eqb}
 use Rattle.reading.specs.declared.Bits.{Bits}
 use Rattle.reading.specs.declared.Fault.the-variants.{RanOut, Bare}
 use Rattle.reading.specs.Reader.{got, fault}
 use Rattle.reading.specs.Bits.{one, oneAt, fresh, opened}
-
--- ---- what stands at a place of a list
-
-element-in : (s : List ℕ) (i : ℕ) → i < length s → getElem? s i ≡ some (getD s i 0)
-element-in [] i h = absurd (not-suc-le-zero h)
-element-in (x ∷ s) zero h = refl
-element-in (x ∷ s) (suc i) h = element-in s i (le-of-suc-le-suc h)
-
-element-out : (s : List ℕ) (i : ℕ) → length s ≤ i → getElem? s i ≡ none
-element-out [] i h = refl
-element-out (x ∷ s) zero h = absurd (not-suc-le-zero h)
-element-out (x ∷ s) (suc i) h = element-out s i (le-of-suc-le-suc h)
+use Rattle.reading.proofs.FileBytes.{element-in, element-out}
 
 -- ---- the first bit of the next data byte
 

@@ -1,24 +1,14 @@
 -- Signed numbers as the code holds them: a difference of two small numbers, a sum in 64 bits, a level in 16.
-use Prim.Native.Nat.{ℕ, _*_, _%_, _^_, _<_, _≤_}
+use Prim.Native.Nat.{ℕ, _<_, _≤_}
 use mathlib.Core.Path.{_≡_, _∙_}
 use mathlib.Core.List.{[], _∷_}
 use native.Mathlib.Omega.{arith}
-use lib.Dec.{T, leb, leb→le}
-use lib.Pow.{pow-mono}
 use lib.IntN.{ℤ, pos, negsuc, natAbs, _+ℤ_, _-ℤ_}
 use lib.Signed.{mag}
 use mir.Syntax.{w16, w32, w64}
 use mir.Val.{SFits, toZ, ofZ}
 use mir.Facts.{toZ-ofZ, sfits-widen}
 use Rattle.whole.specs.Expressions.{Within, within-nil, within-cons, at, add, sub, var, fine, exact}
-use Rattle.reading.specs.Block.{predictable}
-use Rattle.reading.proofs.Plain.{and-left}
-
--- 1 << n
-pub power-is : (n : ℕ) → n ≤ 16 → (1 * 2 ^ n) % 18446744073709551616 ≡ 2 ^ n
-power-is n h =
-    let m : 2 ^ n ≤ 2 ^ 16 = pow-mono {j = 16} h in
-    omega arith
 
 -- ---- a difference in 32 bits
 
@@ -49,10 +39,6 @@ module _ (x y : ℤ) (h : SFits w32 x) (i : SFits w32 y) where
   sum-is = rw (toZ-ofZ h, toZ-ofZ i) (exact w64 (at (x ∷ y ∷ [])) (λ _. 2147483648) (each-within .each) (add (var 0) (var 1)) tt)
 
 -- ---- a level
-
-pub predictable-small : (z : ℤ) → T (predictable z) → mag z < 2048
-predictable-small (pos n) t = omega (arith, leb→le n 2047 t)
-predictable-small (negsuc n) t = omega (arith, leb→le n 2047 (and-left (leb n 2047) _ t))
 
 pub level-fits : (z : ℤ) → mag z < 2048 → SFits w16 z
 level-fits z h = record { sfits = omega arith }

@@ -22,7 +22,7 @@ use Rattle.jpeg_block.specs.declared.StepRead.{StepRead}
 use Rattle.jpeg_block.specs.declared.StepRead.the-variants.{End, Skip, Put, Stop}
 use Rattle.jpeg_block.specs.Step.{askAt, Step, ends, skips, puts, stepRead, levelAt, valueAt, stepFor, stepped}
 use Rattle.jpeg_block.proofs.Steps.{Possible, asked-possible, Puts, leads}
-use Rattle.jpeg_block.proofs.Reach.{reach-all, reach-take, reach-put, Reached, reached-put}
+use Rattle.reading.proofs.Reach.{reach-all, reach-take, reach-put, Reached, reached-put}
 
 -- two readings one after the other, the answers put together
 give-twice : {A B : Type 0} (o : Read Bits A) (f g : A → B) (h : B → B) → ((a : A) → h (f a) ≡ g a) → onward (onward o (λ a. give (f a))) (λ b. give (h b)) ≡ onward o (λ a. give (g a))

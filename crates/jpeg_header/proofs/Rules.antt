@@ -17,7 +17,7 @@ use Rattle.reading.specs.Huffman.{sum}
 use Rattle.reading.specs.Layout.{blockCount, outputLength}
 use Rattle.reading.specs.Header.{Stage, more, done, stop, refuse-if, byte, word, moved, window, each, quantizerFits, withQuantizer, quantizer, countsOf, tableFits, withTable, huffman, frameKnown, frameOf, frameFits, withFrame, hasFrame, frame, withInterval, interval, shapeOf, dcId, acId, recordOf, complete, scanKnown, inOrder, selected, scan, kindOf, segment, segmentEnd, marker}
 use Rattle.reading.proofs.Stages.{refuse-yes, refuse-go}
-use Rattle.jpeg_header.proofs.Accepted.{work-is}
+use Rattle.reading.proofs.Accepted.{work-is}
 
 pub cond-yes : {A : Type 0} (t : Bool) (x y : A) → t ≡ true → x ≡ cond t x y
 cond-yes t x y e = rw e

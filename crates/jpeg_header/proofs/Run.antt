@@ -1,12 +1,12 @@
 -- The loop of the header: what holds between two steps, and what each way out of a step says of the whole header.
 use Prim.Native.Nat.{ℕ, zero, suc, _+_, _*_, _-_, _<_, _≤_}
-use mathlib.Core.Path.{_≡_, refl, sym, ap, _∙_, subst⁻¹}
+use mathlib.Core.Path.{_≡_, sym, ap, _∙_, subst⁻¹}
 use mathlib.Core.Bool.{Bool, true, false, not}
 use mathlib.Core.List.{List}
 use native.Mathlib.Omega.{arith}
 use native.Mathlib.Nat.{not-suc-le-zero}
-use lib.Dec.{leb, eqb}
-use lib.ListN.{length, take, drop, length-take}
+use lib.Dec.{lit<}
+use lib.ListN.{length, drop, length-take}
 use borrow.Author.Tests.{le-leb, lt-leb, eq-eqb, ne-eqb}
 use Rattle.reading.specs.declared.Refusal.{Refusal}
 use Rattle.reading.specs.declared.Refusal.the-variants.{Malformed}
@@ -16,37 +16,30 @@ use Rattle.reading.specs.declared.Header.{Header}
 use Rattle.reading.specs.declared.Record.{Record}
 use Rattle.reading.specs.Header.{more, done, stop, byte, window, step, steps, opens, opening, header}
 use Rattle.reading.proofs.Stages.{refuse-go, refuse-yes}
+use Rattle.reading.proofs.HeaderPrefix.{steps-done, steps-stop}
 use Rattle.reading.proofs.HeaderEnds.{Down, on, Ok, inside, left, step-down}
-use Rattle.reading.proofs.WantOfCode.{AllBytes}
-use Rattle.jpeg_header.specs.Frames.{Framed}
+use Rattle.reading.proofs.FileBytes.{AllBytes}
+use Rattle.reading.proofs.Frames.{Shaped}
 use Rattle.jpeg_header.specs.Steps.{stageBy, stageOf, Inside, InsideCase}
 use Rattle.jpeg_header.specs.declared.Progress.the-variants.{More, Done, Stop}
 use Rattle.jpeg_header.specs.declared.Stepped.{Stepped}
-use Rattle.jpeg_header.proofs.Accepted.{Sound, step-sound, opening-framed}
-use Rattle.jpeg_header.proofs.Accepted as accepted
+use Rattle.reading.proofs.Accepted.{Sound, step-sound}
+use Rattle.reading.proofs.Accepted as accepted
 
 module _ (s : List ℕ) (colour : Bool) where
   -- what holds between two steps: the steps that are left give the whole header
   pub record Running (h : Header) : Type 0 where
     pub fuel : ℕ
     pub ok : Ok (length s) h
-    pub framed : Framed h
+    pub shaped : Shaped h
     pub enough : left (length s) h < fuel
     pub same : header s colour ≡ steps s colour fuel (more h)
 
-  sound-more : (h : Header) → Sound colour (more h) → Framed h
+  sound-more : (h : Header) → Sound colour (more h) → Shaped h
   sound-more h (accepted.on _ f) = f
 
   down-more : (n m : ℕ) (h : Header) → Down n m (more h) → Ok n h × (left n h < m)
   down-more n m h (on _ o d) = (o, d)
-
-  steps-done : (k : ℕ) (r : Record) → steps s colour k (done r) ≡ done r
-  steps-done zero r = refl
-  steps-done (suc k) r = refl
-
-  steps-stop : (k : ℕ) (x : Refusal) → steps s colour k (stop x) ≡ stop x
-  steps-stop zero x = refl
-  steps-stop (suc k) x = refl
 
   -- one step, out of the steps that are left
   record Next (h : Header) : Type 0 where
@@ -70,16 +63,16 @@ module _ (s : List ℕ) (colour : Bool) where
       record {
         fuel = next h r .fuel;
         ok = d .0;
-        framed = sound-more i (subst⁻¹ (Sound colour) e (step-sound colour s y h (r .framed)));
+        shaped = sound-more i (subst⁻¹ (Sound colour) e (step-sound colour s y h (r .shaped)));
         enough = omega (arith, d .1, next h r .less);
         same = next h r .same ∙ ap (steps s colour (next h r .fuel)) (sym e);
       }
 
   pub run-done : (h : Header) (q : Record) → Running h → done q ≡ step s colour h → header s colour ≡ done q
-  run-done h q r e = next h r .same ∙ ap (steps s colour (next h r .fuel)) (sym e) ∙ steps-done (next h r .fuel) q
+  run-done h q r e = next h r .same ∙ ap (steps s colour (next h r .fuel)) (sym e) ∙ steps-done s colour (next h r .fuel) q
 
   pub run-stop : (h : Header) (x : Refusal) → Running h → stop x ≡ step s colour h → header s colour ≡ stop x
-  run-stop h x r e = next h r .same ∙ ap (steps s colour (next h r .fuel)) (sym e) ∙ steps-stop (next h r .fuel) x
+  run-stop h x r e = next h r .same ∙ ap (steps s colour (next h r .fuel)) (sym e) ∙ steps-stop s colour (next h r .fuel) x
 
   pub run-inside : (h : Header) → Running h → Inside (length s) h
   run-inside h r = go (h .case) (r .ok .1)
@@ -95,14 +88,14 @@ module _ (s : List ℕ) (colour : Bool) where
       record {
         fuel = 2 * length s + 1;
         ok = (l, tt);
-        framed = λ k. absurd (not-suc-le-zero k);
+        shaped = ((λ k. absurd (not-suc-le-zero k)), lit< tt);
         enough = omega arith;
         same = ap (steps s colour (2 * length s + 1)) (refuse-go (not (opens s)) Malformed (more opening) (ap not e));
       }
 
   pub run-closed : opens s ≡ false → header s colour ≡ stop Malformed
   unfolding header
-  run-closed e = ap (steps s colour (2 * length s + 1)) (refuse-yes (not (opens s)) Malformed (more opening) (ap not e)) ∙ steps-stop (2 * length s + 1) Malformed
+  run-closed e = ap (steps s colour (2 * length s + 1)) (refuse-yes (not (opens s)) Malformed (more opening) (ap not e)) ∙ steps-stop s colour (2 * length s + 1) Malformed
 
 -- ---- the file's first two bytes
 

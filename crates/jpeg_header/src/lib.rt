@@ -8,7 +8,7 @@ ghost use lib.ListN.{length, set};
 ghost use Rattle.reading.specs.declared.Refusal.the-variants.{Malformed};
 ghost use Rattle.reading.specs.Layout.{ceiling, blockCount, outputLength};
 ghost use Rattle.reading.specs.Header.{more, done, stop, refuse-if, moved, window, quantizer, huffman, frame, interval, shapeOf, recordOf, scan, kindOf, segment, marker, step, header, headed};
-ghost use Rattle.jpeg_header.specs.Frames.{FrameOk, Framed};
+ghost use Rattle.reading.proofs.Frames.{FrameOk, Framed};
 ghost use Rattle.jpeg_header.specs.Steps.{stageOf, Inside};
 use reading::Budget;
 use reading::Case;

@@ -1,7 +1,7 @@
 -- The walk over a table's counts, in the code's terms. The one idea: what is read of the code is never below the codes that were
 -- passed over, and what is left of the counts, behind the symbols that were passed over, is the whole table.
 use Prim.Native.Nat.{ℕ, zero, suc, _+_, _-_, _*_, _^_, _<_, _≤_, min}
-use mathlib.Core.Path.{_≡_, refl, sym, _∙_, ap}
+use mathlib.Core.Path.{_≡_, sym, _∙_, ap}
 use mathlib.Core.Bool.{cond}
 use mathlib.Core.List.{List, [], _∷_}
 use native.Mathlib.Omega.{arith}
@@ -17,11 +17,13 @@ use Rattle.reading.specs.declared.Fault.{Fault}
 use Rattle.reading.specs.declared.Fault.the-variants.{NoCode}
 use Rattle.reading.specs.declared.BitRead.{BitRead}
 use Rattle.reading.specs.declared.BitRead.the-variants.{Got, Stop}
-use Rattle.reading.specs.Reader.{Read, got, fault, Reader, onward, _>>=_, give}
+use Rattle.reading.specs.Reader.{got, fault, Reader, onward, _>>=_, give}
 use Rattle.reading.specs.Bits.{one}
 use Rattle.reading.specs.Huffman.{tableAt, sum, codeFrom, symbol}
 use Rattle.reading.specs.Answers.{bitRead}
-use Rattle.jpeg_bits.proofs.Field.{grown, small, bit-below}
+use Rattle.reading.proofs.FineRead.{onward-onward}
+use Rattle.reading.proofs.BitAnswers.{bit-below}
+use Rattle.whole.specs.Powers.{grown, small}
 
 -- ---- counts
 
@@ -68,10 +70,6 @@ symbol-none t s base b h = rw (drop-of-length-le t h)
 abbrev tried : (t s : List ℕ) (more at f index w : ℕ) → Reader Bits ℕ
 tried t s more at f index w =
     cond (ltb w (2 * f + getD t at 0)) (give (index + (w - 2 * f))) (codeFrom (one s) (countsAt t (at + 1) (more - 1)) w (2 * f + getD t at 0) (index + getD t at 0))
-
-onward-onward : {A B C : Type 0} (o : Read Bits A) (f : A → Reader Bits B) (g : B → Reader Bits C) → onward (onward o f) g ≡ onward o (λ a. f a >>= g)
-onward-onward (got a q) f g = refl
-onward-onward (fault e) f g = refl
 
 walked-step :
     (t s : List ℕ) (base more at v f index : ℕ) (q : Bits) → 0 < more → at < length t

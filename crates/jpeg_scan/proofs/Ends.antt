@@ -2,22 +2,18 @@
 use mathlib.Core.List.{List, _++_}
 use mathlib.Core.Path.{_≡_, refl, sym, _∙_, ap}
 use mathlib.Core.Bool.{Bool, true, false}
-use Prim.Native.Nat.{ℕ, _+_, _-_, _*_, _<_, _≤_}
+use Prim.Native.Nat.{ℕ, _+_, _-_, _*_}
 use native.Mathlib.Omega.{arith}
 use lib.ListN.{length, drop}
 use lib.IntN.{ℤ}
-use borrow.Author.Tests.{lt-ltb, le-ltb}
 use Rattle.reading.specs.declared.Bits.{Bits}
 use Rattle.reading.specs.declared.Fault.{Fault}
 use Rattle.reading.specs.declared.Fault.the-variants.{Broken}
 use Rattle.reading.specs.declared.Record.{Record}
-use Rattle.reading.specs.declared.ScanRead.{ScanRead}
-use Rattle.reading.specs.declared.ScanRead.the-variants.{Done, Stop}
 use Rattle.reading.specs.Tests.{over}
-use Rattle.reading.specs.Reader.{Read, got, fault, Reader, onward, give, rule}
+use Rattle.reading.specs.Reader.{got, fault, Reader, onward, give, rule}
 use Rattle.reading.specs.Bits.{file, ended}
-use Rattle.reading.specs.Answers.{scanRead}
-use Rattle.reading.specs.Reading.{allSamples, drawn}
+use Rattle.reading.specs.Reading.{allSamples}
 use Rattle.reading.specs.Scan.{planOf, blocks, opened, levels, readable, scanOf}
 use Rattle.reading.proofs.FineRead.{got-val, no-fault}
 use Rattle.jpeg_scan.specs.Steps.{ahead, placed, inked, Left}
@@ -44,16 +40,6 @@ module _ (s : List ℕ) (r : Record) (e : readable s r ≡ true) where
     pub scan-open : ended s b ≡ false → scanOf s r ≡ fault Broken
     scan-open h = scan-is ∙ rw g (rw h)
 
--- ---- the answer
-
-pub answer-done : {o : Read Bits (List (List ℤ))} {ls : List (List ℤ)} {b : Bits} → o ≡ got ls b → Done ≡ scanRead o
-unfolding scanRead
-answer-done e = rw e
-
-pub answer-stop : {o : Read Bits (List (List ℤ))} {f : Fault} → o ≡ fault f → Stop f ≡ scanRead o
-unfolding scanRead
-answer-stop e = rw e
-
 -- ---- the scratch
 
 inked-all : (s : List ℕ) (r : Record) (ls : List (List ℤ)) (old : List ℕ) → inked true (planOf s r) 0 ls old ≡ over (allSamples s r ls) old
@@ -70,35 +56,3 @@ module _ (s : List ℕ) (r : Record) where
   pub left-stop : (write : Bool) (old new : List ℕ) {f : Fault} → scanOf s r ≡ fault f → (write ≡ false → new ≡ old) → Left write s r old new
   left-stop false old new e h = h refl
   left-stop true old new {f} e h = λ ms c g. absurd (no-fault f ms c (sym e ∙ g))
-
--- ---- an answer, back to what was read
-
-pub record Accepted (o : Read Bits (List (List ℤ))) : Type 0 where
-  pub blocks-read : List (List ℤ)
-  pub behind : Bits
-  pub is : o ≡ got blocks-read behind
-
-pub accepted : (o : Read Bits (List (List ℤ))) {x : ScanRead} → x ≡ scanRead o → x ≡ Done → Accepted o
-unfolding scanRead
-accepted (got ls b) e h = record { blocks-read = ls; behind = b; is = refl }
-accepted (fault f) e h = let z : _≡_ {A = ℕ} 0 1 = cc in absurd (omega arith)
-
-pub refused : (o : Read Bits (List (List ℤ))) {x : ScanRead} {f : Fault} → x ≡ scanRead o → x ≡ Stop f → o ≡ fault f
-unfolding scanRead
-refused (got ls b) e h = let z : _≡_ {A = ℕ} 0 1 = cc in absurd (omega arith)
-refused (fault g) e h = cc
-
--- ---- what a scan is said to leave in the scratch
-
-module _ (s : List ℕ) (r : Record) (old : List ℕ) {o : Read Bits (List (List ℤ))} where
-  pub drawn-stop : {f : Fault} → o ≡ fault f → old ≡ drawn s r o old
-  unfolding drawn
-  drawn-stop e = rw e
-
-  pub drawn-short : Accepted o → length old < 64 * r .blocks → old ≡ drawn s r o old
-  unfolding drawn
-  drawn-short a h = rw (a .is, lt-ltb (length old) (64 * r .blocks) h)
-
-  pub drawn-all : (a : Accepted o) → 64 * r .blocks ≤ length old → over (allSamples s r (a .blocks-read)) old ≡ drawn s r o old
-  unfolding drawn
-  drawn-all a h = rw (a .is, le-ltb (length old) (64 * r .blocks) h)

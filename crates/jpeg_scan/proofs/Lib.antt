@@ -3,6 +3,5 @@ pub mod Standing
 pub mod Onward
 pub mod Samples
 pub mod Ends
-pub mod Counted
 pub mod OneMcu
 pub mod AllMcus

@@ -1,14 +1,13 @@
 -- Padding and markers: what the tests of the code say of them, the end of a scan, and the restart before an MCU.
-use mathlib.Core.List.{List, [], _∷_}
+use mathlib.Core.List.{List}
 use mathlib.Core.Path.{_≡_, refl, sym, _∙_, ap}
 use mathlib.Core.Bool.{Bool, true, false, true≢false}
-use mathlib.Core.Option.{none, some}
-use Prim.Native.Nat.{ℕ, zero, suc, _+_, _-_, _*_, _/_, _%_, _^_, _<_, _≤_}
-use native.Mathlib.Nat.{not-suc-le-zero, le-of-suc-le-suc, mod-eq-of-lt, div-eq-of-lt, div-zero, le-div-iff-mul-le}
+use Prim.Native.Nat.{ℕ, _+_, _-_, _/_, _%_, _^_, _<_, _≤_}
+use native.Mathlib.Nat.{mod-eq-of-lt, div-eq-of-lt, div-zero, le-div-iff-mul-le}
 use native.Mathlib.Omega.{arith}
 use lib.Pow.{pow-mono}
 use lib.Dec.{ltb, eqb}
-use lib.ListN.{length, getD, getElem?}
+use lib.ListN.{length, getD}
 use borrow.Author.Tests.{lt-ltb, le-ltb, eq-eqb, ne-eqb, ltb-true, ltb-false, eqb-true, eqb-false}
 use Rattle.reading.specs.declared.Bits.{Bits}
 use Rattle.reading.specs.declared.Fault.the-variants.{Broken}
@@ -16,6 +15,7 @@ use Rattle.reading.specs.declared.ScanCursor.{ScanCursor}
 use Rattle.reading.specs.Tests.{_and_, isAt}
 use Rattle.reading.specs.Bits.{padded, ended}
 use Rattle.reading.specs.Layout.{dueBefore, restartBefore}
+use Rattle.reading.proofs.FileBytes.{element-in, element-out}
 use Rattle.jpeg_scan.specs.declared.Halt.the-variants.{Yes}
 use Rattle.jpeg_scan.specs.Steps.{marked, onTo, behindMarker, restarted}
 
@@ -36,31 +36,16 @@ padded-over byte left h i =
     let z : byte % 2 ^ left ≡ byte = mod-eq-of-lt (omega arith) in
     sym (ne-eqb _ _ (λ (e : byte % 2 ^ left ≡ 2 ^ left - 1). let y : ⊥ = omega arith in y))
 
-pub shifted : (left : ℕ) → left ≤ 8 → (1 * 2 ^ left) % 18446744073709551616 ≡ 2 ^ left
-shifted left h =
-    let m : 2 ^ left ≤ 2 ^ 8 = pow-mono {j = 8} h in
-    omega arith
-
 pub padded-is : (byte left p : ℕ) → p ≡ 2 ^ left → eqb (byte % p) (p - 1) ≡ padded (record { at = 0; byte = byte; left = left })
 padded-is byte left p e = rw e
 
 -- ---- a marker
 
-at-in : (s : List ℕ) (i : ℕ) → i < length s → getElem? s i ≡ some (getD s i 0)
-at-in [] i h = absurd (not-suc-le-zero h)
-at-in (x ∷ s) zero h = refl
-at-in (x ∷ s) (suc i) h = at-in s i (le-of-suc-le-suc h)
-
-at-out : (s : List ℕ) (i : ℕ) → length s ≤ i → getElem? s i ≡ none
-at-out [] i h = refl
-at-out (x ∷ s) zero h = absurd (not-suc-le-zero h)
-at-out (x ∷ s) (suc i) h = at-out s i (le-of-suc-le-suc h)
-
 is-at : (s : List ℕ) (i x : ℕ) → i < length s → isAt s i x ≡ eqb (getD s i 0) x
-is-at s i x h = rw (at-in s i h)
+is-at s i x h = rw (element-in s i h)
 
 is-out : (s : List ℕ) (i x : ℕ) → length s ≤ i → isAt s i x ≡ false
-is-out s i x h = rw (at-out s i h)
+is-out s i x h = rw (element-out s i h)
 
 module _ (s : List ℕ) (b : Bits) (code : ℕ) where
   pub marked-bare : padded b ≡ false → false ≡ marked s b code

@@ -17,14 +17,15 @@ use Rattle.reading.specs.declared.Fault.{Fault}
 use Rattle.reading.specs.declared.Fault.the-variants.{Broken}
 use Rattle.reading.specs.declared.ScanCursor.{ScanCursor}
 use Rattle.reading.specs.Tests.{_and_, isAt}
-use Rattle.reading.specs.Reader.{Read, got, fault, Reader, onward, _>>_, give}
+use Rattle.reading.specs.Reader.{Read, got, fault, onward, _>>_, give}
 use Rattle.reading.specs.Bits.{one, file, mark, padded}
 use Rattle.reading.specs.Huffman.{Table, tableAt}
 use Rattle.reading.specs.Block.{block, places}
 use Rattle.reading.specs.Layout.{channelIn, channelOf, perMcu, mcuOf, dueBefore, restartDue, restartBefore, restartCode}
 use Rattle.reading.specs.Answers.{said, levelsOf}
 use Rattle.reading.specs.Scan as scan
-use Rattle.jpeg_block.proofs.Answered.{Taken, told}
+use Rattle.reading.proofs.FineRead.{onward-same}
+use Rattle.reading.proofs.BlockAnswers.{Taken, told}
 use Rattle.jpeg_scan.specs.declared.Plan.{Plan}
 use Rattle.jpeg_scan.specs.declared.Halt.{Halt}
 use Rattle.jpeg_scan.specs.declared.Halt.the-variants.{No, Yes}
@@ -96,10 +97,6 @@ blockAt t n s c q = blockBy t n s c (getD (q .predictors) c (pos 0)) (q .bits)
 -- the cursor behind a block of channel c: its first level predicts the channel's next one
 abbrev pub past : ScanCursor → ℕ → ℤ → Bits → ScanCursor
 past q c z b = record { bits = b; predictors = set (q .predictors) c z; done = q .done + 1 }
-
-onward-same : {A B : Type 0} (o : Read Bits A) (f g : A → Reader Bits B) → ((a : A) (q : Bits) → f a q ≡ g a q) → onward o f ≡ onward o g
-onward-same (got a q) f g h = h a q
-onward-same (fault e) f g h = refl
 
 pub resumed-block : (s : List ℕ) (p : scan.Plan) (N : ℕ) (q : ScanCursor) → q .done < N → (c : ℕ) → channelOf (p .shape) (q .done) ≡ c
     → resumed s p N q ≡ onward (block (one s) (p .channels c .dc) (p .channels c .ac) (getD (q .predictors) c (pos 0)) (q .bits)) (λ l b. before (l ∷ []) (ahead s p N (past q c (getD l 0 (pos 0)) b)))

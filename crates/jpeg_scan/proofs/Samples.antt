@@ -2,49 +2,19 @@
 use mathlib.Core.List.{List, [], _∷_, _++_, append-assoc, append-nil}
 use mathlib.Core.Path.{_≡_, refl, sym, _∙_, ap, ap₂}
 use mathlib.Core.Bool.{Bool, true, false, cond}
-use Prim.Native.Nat.{ℕ, suc, _+_, _-_, _*_, _/_, _%_, _≤_}
+use Prim.Native.Nat.{ℕ, _+_, _-_, _*_, _≤_}
 use native.Mathlib.Omega.{arith}
 use lib.ListN.{length, take, drop, length-append, length-take, length-drop, take-append-drop, drop-of-length-le}
 use lib.Seq.{length-take-le, take-at, drop-at, drop-drop}
 use lib.IntN.{ℤ}
 use borrow.Author.Tests.{le-ltb}
-use Rattle.whole.specs.Lists.{length-from}
 use Rattle.reading.specs.Block.{places}
 use Rattle.reading.specs.Layout.{channelOf}
-use Rattle.reading.specs.Transform.{coefficients, plane, sampleOf, samples, samplesTo, painted}
-use Rattle.reading.specs.Reading.{dequantized, blockSamples}
+use Rattle.reading.specs.Transform.{coefficients, samples, samplesTo, painted}
 use Rattle.reading.specs.Scan as scan
-use Rattle.jpeg_block.proofs.Reach.{samples-enough}
+use Rattle.reading.proofs.Counted.{samplesOf, samplesTo-length, samplesOf-length, samplesOf-append}
+use Rattle.reading.proofs.Reach.{samples-enough}
 use Rattle.jpeg_scan.specs.Steps.{placed, inked}
-
--- ---- the samples of blocks one after another
-
-pub samples-length : (c : List ℤ) → length (samples c) ≡ 64
-unfolding samples
-samples-length c = length-from (λ (k : ℕ). sampleOf (plane c (k / 8) (k % 8))) 0 64
-
-abbrev pub samplesOf : scan.Plan → ℕ → List (List ℤ) → List ℕ
-samplesOf p k ls = blockSamples (dequantized p k ls)
-
-pub samplesTo-length : (q : List ℕ) (l : List ℤ) (n : ℕ) → length (samplesTo q l n) ≡ 64
-unfolding samplesTo
-samplesTo-length q l n = samples-length (coefficients q (take n l))
-
-pub samplesOf-length : (p : scan.Plan) (k : ℕ) (ls : List (List ℤ)) → length (samplesOf p k ls) ≡ 64 * length ls
-samplesOf-length p k [] = refl
-samplesOf-length p k (l ∷ ls) =
-    let c : List ℤ = coefficients (p .channels (channelOf (p .shape) k) .quant) l in
-    length-append (samples c) (samplesOf p (suc k) ls) ∙ ap₂ (λ (a b : ℕ). a + b) (samples-length c) (samplesOf-length p (suc k) ls) ∙ omega arith
-
-pub samplesOf-append : (p : scan.Plan) (k : ℕ) (ls ms : List (List ℤ)) → samplesOf p k (ls ++ ms) ≡ samplesOf p k ls ++ samplesOf p (k + length ls) ms
-samplesOf-append p k [] ms = let z : k ≡ k + 0 = omega arith in ap (λ (i : ℕ). samplesOf p i ms) z
-samplesOf-append p k (l ∷ ls) ms =
-    let c : List ℤ = coefficients (p .channels (channelOf (p .shape) k) .quant) l in
-    let z : suc k + length ls ≡ k + suc (length ls) = omega arith in
-    ap (λ (r : List ℕ). samples c ++ r) (samplesOf-append p (suc k) ls ms ∙ ap (λ (i : ℕ). samplesOf p (suc k) ls ++ samplesOf p i ms) z)
-    ∙ sym (append-assoc (samples c) (samplesOf p (suc k) ls) (samplesOf p (k + suc (length ls)) ms))
-
--- ---- in the scratch
 
 -- a part of 64 bytes holds the samples and nothing else
 painted-is : (q : List ℕ) (l : List ℤ) (n : ℕ) (out : List ℕ) → length out ≡ 64 → painted q l n out ≡ samplesTo q l n

@@ -16,6 +16,7 @@ use Rattle.reading.specs.Huffman.{tableAt}
 use Rattle.reading.specs.Tables.{quantAt, dcAt, acAt}
 use Rattle.reading.specs.Scan.{planOf, readable, scanOf}
 use Rattle.reading.proofs.Plain.{and-left, and-right}
+use Rattle.reading.proofs.Fits.{within-known}
 use Rattle.reading.proofs.Places.{per-is, channel-at}
 use Rattle.jpeg_scan.specs.declared.Plan.{Plan}
 use Rattle.jpeg_scan.specs.Plans.{three, noPlan, planIn, planFor, chan, Stands}
@@ -31,12 +32,6 @@ pub record Readable (s : List ℕ) (r : Record) : Type 0 where
   pub channels-some : 1 ≤ r .channels
   pub channels-few : r .channels ≤ 3
 
-within-low : (lo hi n : ℕ) → T (within lo hi n) → lo ≤ n
-within-low lo hi n t = leb→le lo n (and-left (leb lo n) (leb n hi) t)
-
-within-high : (lo hi n : ℕ) → T (within lo hi n) → n ≤ hi
-within-high lo hi n t = leb→le n hi (and-right (leb lo n) (leb n hi) t)
-
 pub readable-says : (s : List ℕ) (r : Record) → readable s r ≡ true → Readable s r
 unfolding readable
 readable-says s r e =
@@ -48,12 +43,12 @@ readable-says s r e =
     let ch = and-right (within 1 4 (r .vs)) (within 1 3 (r .channels)) two in
     record {
       inside = leb→le (r .start) (length s) (and-left (leb (r .start) (length s)) (within 1 4 (r .hs) and within 1 4 (r .vs) and within 1 3 (r .channels)) all);
-      hs-some = within-low 1 4 (r .hs) hs;
-      hs-few = within-high 1 4 (r .hs) hs;
-      vs-some = within-low 1 4 (r .vs) vs;
-      vs-few = within-high 1 4 (r .vs) vs;
-      channels-some = within-low 1 3 (r .channels) ch;
-      channels-few = within-high 1 3 (r .channels) ch;
+      hs-some = within-known 1 4 (r .hs) hs .0;
+      hs-few = within-known 1 4 (r .hs) hs .1;
+      vs-some = within-known 1 4 (r .vs) vs .0;
+      vs-few = within-known 1 4 (r .vs) vs .1;
+      channels-some = within-known 1 3 (r .channels) ch .0;
+      channels-few = within-known 1 3 (r .channels) ch .1;
     }
 
 module _ {s : List ℕ} {r : Record} (a : Readable s r) where

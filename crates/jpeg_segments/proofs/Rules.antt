@@ -1,22 +1,18 @@
 -- Each test on a body by its ways out, as the code finds them: one law for each way.
 use Prim.Native.Nat.{ℕ, _+_, _*_, _/_, _%_, _<_, _≤_}
-use mathlib.Core.Path.{_≡_, refl, sym, subst}
-use mathlib.Core.Bool.{Bool, true, false, not, cond}
+use mathlib.Core.Path.{_≡_, sym}
+use mathlib.Core.Bool.{Bool, true, false, cond}
 use mathlib.Core.List.{List, [], _∷_}
 use native.Mathlib.Omega.{arith}
-use lib.Dec.{T, leb, ltb, eqb}
+use lib.Dec.{leb, ltb, eqb}
 use lib.ListN.{length, take, drop, getD, length-take}
-use borrow.Author.Tests.{le-leb, lt-leb, lt-ltb, le-ltb, eq-eqb, ne-eqb, leb-true, eqb-true}
+use borrow.Author.Tests.{le-leb, lt-leb, lt-ltb, le-ltb, eq-eqb, ne-eqb}
 use Rattle.reading.specs.declared.Frame.{Frame}
 use Rattle.reading.specs.declared.Record.{Record}
 use Rattle.reading.specs.Tests.{_and_, _or_, all, within}
 use Rattle.reading.specs.Huffman.{sum, countsFit}
 use Rattle.reading.specs.Tables.{quantAt, dcAt, acAt}
 use Rattle.reading.specs.Header.{byte, word, each, quantizerFits, countsOf, tableFits, frameKnown, acrossOf, downOf, quantsFit, threeFit, frameOf, frameFits, dcId, acId, sequential, scanKnown}
-
-pub and-both : (a b : Bool) → (a and b) ≡ true → (a ≡ true) × (b ≡ true)
-and-both true b e = (refl, e)
-and-both false b e = absurd (subst (λ k. T (not k)) e tt)
 
 -- a chain of tests, by one that fails, and behind one that passes
 pub and-no : (a b : Bool) → a ≡ false → (a and b) ≡ false
@@ -36,12 +32,6 @@ module _ (b : List ℕ) where
 
   pub quantizer-rest : 65 ≤ length b → byte b 0 ≤ 3 → all (ltb 0) (take 64 (drop 1 b)) ≡ quantizerFits b
   quantizer-rest h i = rw (le-leb 65 (length b) h, le-leb (byte b 0) 3 i)
-
-  pub quantizer-known : quantizerFits b ≡ true → (65 ≤ length b) × (byte b 0 ≤ 3)
-  quantizer-known e =
-      let p = and-both (leb 65 (length b)) _ e in
-      let q = and-both (leb (byte b 0) 3) _ (p .1) in
-      (leb-true _ _ (p .0), leb-true _ _ (q .0))
 
 -- ---- a Huffman table
 
@@ -73,21 +63,6 @@ module _ (b : List ℕ) where
             table-codes h =
                 let short : length (countsOf b) ≤ 16 = rw (length-take 16 (drop 1 b)) (omega arith) in
                 rw (le-leb 17 (length b) long, le-leb (byte b 0 / 16) 1 class, le-leb (byte b 0 % 16) 3 id, le-leb 1 (sum (countsOf b)) some, le-leb (sum (countsOf b)) 256 few, le-leb (17 + sum (countsOf b)) (length b) h, le-leb (length (countsOf b)) 16 short)
-
-  pub record TableKnown : Type 0 where
-    pub long : 17 ≤ length b
-    pub class : byte b 0 / 16 ≤ 1
-    pub id : byte b 0 % 16 ≤ 3
-    pub whole : 17 + sum (countsOf b) ≤ length b
-
-  pub table-known : tableFits b ≡ true → TableKnown
-  table-known e =
-      let p = and-both (leb 17 (length b)) _ e in
-      let q = and-both (leb (byte b 0 / 16) 1) _ (p .1) in
-      let r = and-both (leb (byte b 0 % 16) 3) _ (q .1) in
-      let s = and-both (within 1 256 (sum (countsOf b))) _ (r .1) in
-      let t = and-both (leb (17 + sum (countsOf b)) (length b)) _ (s .1) in
-      record { long = leb-true _ _ (p .0); class = leb-true _ _ (q .0); id = leb-true _ _ (r .0); whole = leb-true _ _ (t .0) }
 
 -- ---- the frame's tests
 
@@ -184,10 +159,6 @@ frame-made b c s w h hs vs ids qids ec es ew eh ehs evs ei eq = rw (ew, eh, ehs,
 pub three-made : {i j k x y z : ℕ} → i ≡ x → j ≡ y → k ≡ z → _≡_ {A = List ℕ} (i ∷ j ∷ k ∷ []) (x ∷ y ∷ z ∷ [])
 three-made p q r = rw (p, q, r)
 
--- three bytes of a body, one for each channel
-pub each-made : (n i j k : ℕ) (f : ℕ → ℕ) → i ≡ f 0 → j ≡ f 1 → k ≡ f 2 → each n (λ c. getD (i ∷ j ∷ k ∷ []) c 0) ≡ each n f
-each-made n i j k f p q r = rw (p, q, r)
-
 -- ---- the scan's tests
 
 module _ (b : List ℕ) (ch : ℕ) where
@@ -211,9 +182,6 @@ module _ (b : List ℕ) (ch : ℕ) where
 
         pub scan-last : byte b (2 + 2 * ch) ≡ 63 → eqb (byte b (3 + 2 * ch)) 0 ≡ scanKnown b ch
         scan-last h = last-three (eqb (byte b (3 + 2 * ch)) 0) (rw (eq-eqb (byte b (1 + 2 * ch)) 0 start, eq-eqb (byte b (2 + 2 * ch)) 63 h))
-
-  pub scan-few : scanKnown b ch ≡ true → byte b 0 ≡ ch
-  scan-few e = eqb-true (byte b 0) ch (and-both (eqb (byte b 0) ch) _ e .0)
 
 -- what is asked of one channel
 abbrev pub orderedAt : List ℕ → List ℕ → ℕ → Bool

@@ -1,26 +1,23 @@
 -- One turn of a walk over a list, over the counts of a table, and over the channels.
-use Prim.Native.Nat.{ℕ, zero, suc, _+_, _*_, _-_, _<_, _≤_}
-use mathlib.Core.Path.{_≡_, refl, sym, ap, _∙_}
+use Prim.Native.Nat.{ℕ, zero, suc, _+_, _-_, _<_, _≤_}
+use mathlib.Core.Path.{_≡_, refl, sym}
 use mathlib.Core.Bool.{Bool, true, false}
 use mathlib.Core.List.{List, [], _∷_}
 use native.Mathlib.Omega.{arith}
 use native.Mathlib.Numerals.{add-one}
 use lib.ListN.{length, take, drop, getD, drop-of-length-le, List·getD-eq-default}
 use lib.Seq.{drop-cons}
-use Rattle.reading.specs.Tests.{_and_, all, allFrom}
+use Rattle.reading.specs.Tests.{all, allFrom}
 use Rattle.reading.specs.Huffman.{sum}
-use Rattle.reading.specs.Header.{byte, word, countsOf, eachChannel}
+use Rattle.reading.specs.Header.{byte, word, eachChannel}
 
--- ---- bytes behind the end, and the bound of a word
+-- ---- bytes behind the end
 
 pub byte-out : (b : List ℕ) (i : ℕ) → length b ≤ i → 0 ≡ byte b i
 byte-out b i h = sym (List·getD-eq-default b 0 h)
 
 pub word-out : (b : List ℕ) (i : ℕ) → length b ≤ i → 0 ≡ word b i
 word-out b i h = let k : length b ≤ i + 1 = omega arith in rw (List·getD-eq-default b 0 h, List·getD-eq-default b 0 k)
-
-pub word-small : (b : List ℕ) (i : ℕ) → byte b i < 256 → byte b (i + 1) < 256 → word b i < 65536
-word-small b i p q = omega (arith, p, q)
 
 -- ---- a walk over a list
 

@@ -7,52 +7,19 @@ use Prim.Native.Nat.{ℕ, zero, suc, _+_, _*_, _/_, _%_, _≤_, _<_, zero-le}
 use native.Mathlib.Decide.{ℕ-discrete}
 use native.Mathlib.Omega.{arith}
 use borrow.Author.Tests.{ltb-true, ltb-false, lt-ltb, le-ltb}
-use lib.Dec.{T, eqb, ltb, ltb→lt, eqb→eq}
+use lib.Dec.{ltb}
 use lib.ListN.{getD, length, set, take, replicate, length-set, length-replicate, getD-replicate, List·getD-map, List·getD-eq-default}
 use lib.Seq.{getD-set-same, getD-set-other, ext-getD, getD-take}
 use lib.IntN.{ℤ, pos, natAbs, _+ℤ_, _*ℤ_, +ℤ-idr, zero-*ℤ}
 use Rattle.whole.specs.Ring.{*ℤ-assoc}
-use Rattle.whole.specs.Expressions.{at, Within, abs-mul}
+use Rattle.whole.specs.Expressions.{at, Within}
 use Rattle.whole.specs.Lists.{from, listOf, length-from, getD-from, is-list-of, listOf-cong}
-use Rattle.reading.specs.Tests.{allFrom, over}
+use Rattle.reading.specs.Tests.{over}
 use Rattle.reading.specs.Transform.{zigzag, zigzagPlace, dequantizedAt, coefficients, basis, plane, sampleOf, samples, samplesTo, painted}
-use Rattle.reading.proofs.Plain.{and-left, and-right}
+use Rattle.reading.proofs.Zigzag.{zigzag-place, place-zigzag, place-below}
+pub use Rattle.reading.proofs.Zigzag.{zigzag-below}
+use Rattle.reading.proofs.Zigzag as zig
 use Rattle.reading.proofs.DoubleSum.{sumOf, sum-zero, basisAt, doubleSum, double-sum}
-
--- ---- the zigzag and its inverse
-
--- what is computed of n numbers from c on holds of each of them
-each-from : (n c : ℕ) (p : ℕ → Bool) → T (allFrom n c p) → (k : ℕ) → k < n → T (p (c + k))
-each-from zero c p t k h = absurd (none h)
-  where
-    none : k < 0 → ⊥
-    none h = omega arith
-each-from (suc n) c p t zero h = subst (λ m. T (p m)) (same c) (and-left (p c) (allFrom n (suc c) p) t)
-  where
-    same : (c : ℕ) → c ≡ c + 0
-    same c = omega arith
-each-from (suc n) c p t (suc k) h = subst (λ m. T (p m)) (next c k) (each-from n (suc c) p (and-right (p c) (allFrom n (suc c) p) t) k (omega arith))
-  where
-    next : (c k : ℕ) → suc c + k ≡ c + suc k
-    next c k = omega arith
-
-each-place : (p : ℕ → Bool) → T (allFrom 64 0 p) → (k : ℕ) → k < 64 → T (p k)
-each-place p t k h = subst (λ m. T (p m)) (same k) (each-from 64 0 p t k h)
-  where
-    same : (k : ℕ) → 0 + k ≡ k
-    same k = omega arith
-
-pub zigzag-below : (k : ℕ) → k < 64 → getD zigzag k 0 < 64
-zigzag-below k h = ltb→lt (getD zigzag k 0) 64 (each-place (λ k. ltb (getD zigzag k 0) 64) tt k h)
-
-zigzag-place : (k : ℕ) → k < 64 → zigzagPlace (getD zigzag k 0) ≡ k
-zigzag-place k h = eqb→eq (zigzagPlace (getD zigzag k 0)) k (each-place (λ k. eqb (zigzagPlace (getD zigzag k 0)) k) tt k h)
-
-place-zigzag : (j : ℕ) → j < 64 → getD zigzag (zigzagPlace j) 0 ≡ j
-place-zigzag j h = eqb→eq (getD zigzag (zigzagPlace j) 0) j (each-place (λ j. eqb (getD zigzag (zigzagPlace j) 0) j) tt j h)
-
-place-below : (j : ℕ) → j < 64 → zigzagPlace j < 64
-place-below j h = ltb→lt (zigzagPlace j) 64 (each-place (λ j. ltb (zigzagPlace j) 64) tt j h)
 
 -- ---- one level more
 
@@ -78,15 +45,10 @@ take-apart n l i d ne = go (ltb i n) refl
 
 module _ (q : List ℕ) (l : List ℤ) where
   pub coefficient-at : (n j : ℕ) → j < 64 → at (coefficients q (take n l)) j ≡ dequantizedAt q (take n l) (zigzagPlace j)
-  unfolding coefficients
-  coefficient-at n j h = getD-from (λ i. dequantizedAt q (take n l) (zigzagPlace i)) 0 64 j (pos 0) h ∙ ap (λ i. dequantizedAt q (take n l) (zigzagPlace i)) (same j)
-    where
-      same : (j : ℕ) → 0 + j ≡ j
-      same j = omega arith
+  coefficient-at n j h = zig.coefficient-at q (take n l) j h
 
   pub length-coefficients : (n : ℕ) → length (coefficients q (take n l)) ≡ 64
-  unfolding coefficients
-  length-coefficients n = length-from (λ i. dequantizedAt q (take n l) (zigzagPlace i)) 0 64
+  length-coefficients n = zig.length-coefficients q (take n l)
 
   pub coefficients-none : replicate 64 (pos 0) ≡ coefficients q (take 0 l)
   unfolding coefficients
@@ -133,8 +95,7 @@ module _ (q : List ℕ) (l : List ℤ) where
 
   -- every coefficient is at most the largest level by the largest quantizer
   pub coefficients-small : (A B n : ℕ) → ((k : ℕ) → natAbs (at l k) ≤ A) → ((k : ℕ) → getD q k 0 ≤ B) → Within (A * B) (coefficients q (take n l))
-  unfolding coefficients from
-  coefficients-small A B n hl hq = record { each = go 0 64 }
+  coefficients-small A B n hl hq = zig.coefficients-small q (take n l) A B taken hq
     where
       taken : (k : ℕ) → natAbs (at (take n l) k) ≤ A
       taken k = go (ltb k n) refl
@@ -142,11 +103,6 @@ module _ (q : List ℕ) (l : List ℤ) where
           go : (b : Bool) → ltb k n ≡ b → natAbs (at (take n l) k) ≤ A
           go true b = rw (getD-take n l k (pos 0) (ltb-true k n b)) (hl k)
           go false b = rw (take-past n l k (pos 0) (ltb-false k n b)) zero-le
-
-      go : (i m k : ℕ) → natAbs (at (from (λ i. dequantizedAt q (take n l) (zigzagPlace i)) i m) k) ≤ A * B
-      go i zero k = zero-le
-      go i (suc m) zero = abs-mul (at (take n l) (zigzagPlace i)) (pos (getD q (zigzagPlace i) 0)) (taken (zigzagPlace i)) (hq (zigzagPlace i))
-      go i (suc m) (suc k) = go (suc i) m k
 
 pub within-zeros : (B n : ℕ) → Within B (replicate n (pos 0))
 within-zeros B n = record { each = go n }

@@ -5,28 +5,21 @@ use mathlib.Core.Bool.{Bool, true, false}
 use mathlib.Core.List.{List, []}
 use Prim.Native.Nat.{ℕ, zero, suc, _+_, _-_, _*_, _/_, _%_, _≤_, _<_, zero-le}
 use native.Mathlib.Decide.{ℕ-discrete}
-use native.Mathlib.Nat.{le-trans, mul-le-mul-left}
 use native.Mathlib.Omega.{arith}
 use borrow.Author.Tests.{ltb-true, ltb-false}
-use lib.Dec.{leb, ltb, leb→le}
+use lib.Dec.{ltb}
 use lib.ListN.{getD, length, List·getD-map}
 use lib.IntN.{ℤ, pos, natAbs}
-use Rattle.whole.specs.Expressions.{at, Within, dot, weight, dot-small, dot-cong}
+use Rattle.whole.specs.Expressions.{at, Within, dot, dot-cong}
 use Rattle.whole.specs.Lists.{from, getD-from, is-list-of, listOf-cong}
 use Rattle.reading.specs.Tests.{over}
 use Rattle.reading.specs.Transform.{basis, weights, line, row, plane, sampleOf, samples}
 use Rattle.jpeg_transform.specs.Passes.{place, spaced, lines, puts, rowed, rowsOf, columned, columnsOf}
-use Rattle.reading.proofs.DoubleSum.{each-weights, weights-short}
+use Rattle.reading.proofs.DoubleSum.{weights-short}
+pub use Rattle.reading.proofs.DoubleSum.{line-small, row-small}
 use Rattle.jpeg_transform.proofs.Stores.{place-is, length-puts, puts-same, puts-other, over-is}
 
 -- ---- one line
-
-weights-light : (x : ℕ) → weight (weights x) ≤ 131072
-unfolding basis
-weights-light x = leb→le (weight (weights x)) 131072 (each-weights (λ r. leb (weight r) 131072) tt tt x)
-
-pub line-small : (f : ℕ → ℤ) (B : ℕ) → ((i : ℕ) → natAbs (f i) ≤ B) → (x : ℕ) → natAbs (line f x) ≤ B * 131072
-line-small f B h x = le-trans (dot-small f B h (weights x) 0) (mul-le-mul-left B (weights-light x))
 
 line-cong : (f g : ℕ → ℤ) (x : ℕ) → ((j : ℕ) → j < 8 → f j ≡ g j) → line f x ≡ line g x
 line-cong f g x h = dot-cong f g (weights x) 0 (λ j p q. h j (omega (arith, weights-short x)))
@@ -34,10 +27,6 @@ line-cong f g x h = dot-cong f g (weights x) 0 (λ j p q. h j (omega (arith, wei
 lines-at : (f : ℕ → ℤ) (x : ℕ) → at (lines f) x ≡ line f x
 unfolding lines
 lines-at f x = List·getD-map (λ ks. dot ks f 0) basis x []
-
-pub row-small : {B : ℕ} {c : List ℤ} → Within B c → (v x : ℕ) → natAbs (row c v x) ≤ B * 131072
-unfolding row
-row-small {B} {c} h v x = line-small (λ u. at c (8 * v + u)) B (λ u. h .each (8 * v + u)) x
 
 pub rows-small : {B : ℕ} {c : List ℤ} → Within B c → Within (B * 131072) (rowsOf c)
 unfolding rowsOf from

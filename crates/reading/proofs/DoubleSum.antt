@@ -1,23 +1,24 @@
 -- The samples of a block as the rules say them: sample (x, y) is the double sum over the 64-entry basis, moved up and clamped.
 --     double-sum     `plane`, which sums row by row, is one plain double sum of 64 products
 --     sample-at      the sample at row y and column x is that of the double sum
+--     line-sum, line-small     an output of a line is a sum of eight products, at most 131072 times its largest input
 --     length-samples, sample-small     there are 64 samples, each below 256
 -- Assumes nothing.
 use mathlib.Core.Path.{_≡_, refl, sym, _∙_, ap, ap₂}
 use mathlib.Core.Bool.{Bool, true, false, cond}
 use mathlib.Core.List.{List, [], _∷_}
 use Prim.Native.Nat.{ℕ, zero, suc, _+_, _*_, _/_, _%_, _≤_, _<_}
-use native.Mathlib.Nat.{zero-add}
+use native.Mathlib.Nat.{zero-add, le-trans, mul-le-mul-left}
 use native.Mathlib.Omega.{arith}
 use borrow.Author.Tests.{leb-false}
 use lib.Dec.{T, leb, leb→le}
 use lib.ListN.{length, getD}
-use lib.IntN.{ℤ, pos, negsuc, _+ℤ_, _*ℤ_, zero-*ℤ, *ℤ-zero}
+use lib.IntN.{ℤ, pos, negsuc, natAbs, _+ℤ_, _*ℤ_, zero-*ℤ, *ℤ-zero}
 use Rattle.whole.specs.Ring.{*ℤ-distrib}
-use Rattle.whole.specs.Expressions.{at, dot}
+use Rattle.whole.specs.Expressions.{at, dot, weight, dot-small, Within}
 use Rattle.whole.specs.Lists.{from, length-from, getD-from}
 use Rattle.reading.specs.Tests.{all}
-use Rattle.reading.specs.Transform.{basis, weights, row, plane, clamped, sampleOf, samples}
+use Rattle.reading.specs.Transform.{basis, weights, line, row, plane, clamped, sampleOf, samples}
 use Rattle.reading.proofs.Plain.{and-left, and-right}
 
 -- ---- sums
@@ -85,10 +86,23 @@ pub weights-short : (x : ℕ) → length (weights x) ≤ 8
 unfolding basis
 weights-short x = leb→le (length (weights x)) 8 (each-weights (λ r. leb (length r) 8) tt tt x)
 
-line-sum : (f : ℕ → ℤ) (x : ℕ) → dot (weights x) f 0 ≡ sumOf 8 (λ j. f j *ℤ basisAt x j)
+-- an output is the sum of eight products
+pub line-sum : (f : ℕ → ℤ) (x : ℕ) → dot (weights x) f 0 ≡ sumOf 8 (λ j. f j *ℤ basisAt x j)
 line-sum f x =
     dot-sum (weights x) f 0 8 (weights-short x)
     ∙ sum-cong 8 (λ j. f (0 + j) *ℤ basisAt x j) (λ j. f j *ℤ basisAt x j) (λ j. ap (λ m. f m *ℤ basisAt x j) (zero-add j))
+
+-- the weights of an output are at most 8 x 16384 together
+weights-light : (x : ℕ) → weight (weights x) ≤ 131072
+unfolding basis
+weights-light x = leb→le (weight (weights x)) 131072 (each-weights (λ r. leb (weight r) 131072) tt tt x)
+
+pub line-small : (f : ℕ → ℤ) (B : ℕ) → ((i : ℕ) → natAbs (f i) ≤ B) → (x : ℕ) → natAbs (line f x) ≤ B * 131072
+line-small f B h x = le-trans (dot-small f B h (weights x) 0) (mul-le-mul-left B (weights-light x))
+
+pub row-small : {B : ℕ} {c : List ℤ} → Within B c → (v x : ℕ) → natAbs (row c v x) ≤ B * 131072
+unfolding row
+row-small {B} {c} h v x = line-small (λ u. at c (8 * v + u)) B (λ u. h .each (8 * v + u)) x
 
 pub double-sum : (c : List ℤ) (y x : ℕ) → plane c y x ≡ doubleSum c y x
 unfolding plane row doubleSum

@@ -1,17 +1,17 @@
 -- The tables of an accepted record stand before the first coded byte, and their codes fit.
-use Prim.Native.Nat.{ℕ, zero, suc, _+_, _*_, _-_, _/_, _%_, _^_, _<_, _≤_, zero-le, min}
+use Prim.Native.Nat.{ℕ, zero, suc, _+_, _*_, _-_, _/_, _%_, _<_, _≤_, zero-le, min}
 use mathlib.Core.Path.{_≡_, refl, sym, ap, _∙_, subst, subst⁻¹}
 use mathlib.Core.Bool.{Bool, true, false, not, cond}
-use mathlib.Core.List.{List, [], _∷_, _++_}
+use mathlib.Core.List.{List, [], _∷_}
 use native.Mathlib.Omega.{arith}
-use native.Mathlib.Nat.{not-suc-le-zero, le-trans, le-of-suc-le-suc, mul-pos}
+use native.Mathlib.Nat.{not-suc-le-zero, le-trans, mul-pos}
 use native.Mathlib.Numerals.{add-one}
-use Rattle.reading.specs.Layout.{Shape, blockCount, channelOf}
+use Rattle.reading.specs.Layout.{blockCount, channelOf}
 use Rattle.reading.proofs.Places.{channel-in}
 use Rattle.reading.specs.Scan.{planOf}
 use Rattle.reading.specs.Tables.{shapeIn, quantAt, dcAt, acAt}
 use Rattle.reading.proofs.ScanWritten.{GoodPlan}
-use borrow.Author.Tests.{eq-eqb}
+use borrow.Author.Tests.{ltb-false}
 use lib.Dec.{T, eqb, ltb, leb, eqb→eq, leb→le, ltb→lt, lit<}
 use lib.ListN.{length, take, drop, getD, set, replicate, length-take, length-drop}
 use Rattle.reading.specs.declared.Refusal.{Refusal}
@@ -22,18 +22,21 @@ use Rattle.reading.specs.declared.Kind.{Kind}
 use Rattle.reading.specs.declared.Kind.the-variants.{Quants, Tables, Frames, Scans, Intervals, Skips, Others}
 use Rattle.reading.specs.declared.Header.{Header}
 use Rattle.reading.specs.declared.Record.{Record}
-use Rattle.reading.specs.Tests.{_and_, _or_, within, all, allFrom}
-use Rattle.reading.specs.Huffman.{Table, tableAt, sum, codesFit}
-use Rattle.reading.specs.Header.{Stage, more, done, stop, refuse-if, byte, word, moved, window, quantizer, quantizerFits, withQuantizer, huffman, countsOf, put, tableFits, withTable, frame, frameOf, frameFits, withFrame, interval, withInterval, scan, recordOf, each, eachChannel, complete, dcId, acId, hasFrame, kindOf, segment, segmentEnd, marker, stepIn, step, steps, started, opening, header}
+use Rattle.reading.specs.Tests.{_and_, _or_, within, all}
+use Rattle.reading.specs.Huffman.{tableAt, sum, codesFit}
+use Rattle.reading.specs.Header.{Stage, more, done, stop, byte, word, moved, window, quantizerFits, withQuantizer, countsOf, put, tableFits, withTable, frame, frameOf, frameFits, withFrame, withInterval, recordOf, complete, hasFrame, kindOf, segment, segmentEnd, marker, stepIn, step, opens, started, opening, header}
 use Rattle.reading.proofs.Plain.{and-left, and-right, Good}
-use Rattle.reading.proofs.HeaderEnds.{is-so, or-left, or-right, not-lt, header-within}
+use Rattle.reading.proofs.Fits.{within-known, TableKnown, table-known, all-at}
+use Rattle.reading.proofs.HeaderEnds.{is-so, or-left, or-right, window-short, header-within}
 use Rattle.reading.proofs.HeaderPrefix.{take-drop-take}
-use Rattle.reading.proofs.Stages.{refused-or, chosen-or}
+use Rattle.reading.proofs.Stages.{refused-or, chosen-or, steps-hold}
 
 -- the place of a table that ends by `at`
 pub record TableOk (s : List ℕ) (at x : ℕ) : Type 0 where
   pub fitting : T (codesFit (take 16 (drop x s)) 0 0)
   pub by : x + 16 + sum (take 16 (drop x s)) ≤ at
+  -- 1 to 256 symbols
+  pub some : (1 ≤ sum (take 16 (drop x s))) × (sum (take 16 (drop x s)) ≤ 256)
 
 -- the place of a quantizer that ends by `at`
 pub record QuantOk (s : List ℕ) (at x : ℕ) : Type 0 where
@@ -76,13 +79,13 @@ module _ (s : List ℕ) (colour : Bool) where
     pub lum : 0 < r .hs * r .vs
     pub count : r .blocks ≡ blockCount (shapeIn r)
 
-  data Kept : Stage → Type 0 where
+  pub data Kept : Stage → Type 0 where
     on : (h : Header) → Inv h → Kept (more h)
     ready : (r : Record) → Ready r → Kept (done r)
     off : (x : Refusal) → Kept (stop x)
 
   later : (a b : ℕ) → a ≤ b → (x : ℕ) → TableOk s a x → TableOk s b x
-  later a b h x t = record { fitting = t .fitting; by = le-trans (t .by) h }
+  later a b h x t = record { fitting = t .fitting; by = le-trans (t .by) h; some = t .some }
 
   later-q : (a b : ℕ) → a ≤ b → (x : ℕ) → QuantOk s a x → QuantOk s b x
   later-q a b h x t = record { nonzero = t .nonzero; by = le-trans (t .by) h }
@@ -102,12 +105,9 @@ module _ (s : List ℕ) (colour : Bool) where
       nibbles : T (within 1 4 (byte b 7 / 16)) × T (within 1 4 (byte b 7 % 16))
       nibbles = third (ltb 0 (frameOf b .width)) (ltb 0 (frameOf b .height)) (within 1 4 (byte b 7 / 16)) (within 1 4 (byte b 7 % 16)) _ t
 
-      low : (n : ℕ) → T (within 1 4 n) → 0 < n
-      low n q = leb→le 1 n (and-left (leb 1 n) (leb n 4) q)
-
       go : (c : Bool) → 0 < cond c 1 (byte b 7 / 16) * cond c 1 (byte b 7 % 16)
       go true = lit< tt
-      go false = mul-pos (low (byte b 7 / 16) (nibbles .0)) (low (byte b 7 % 16) (nibbles .1))
+      go false = mul-pos (within-known 1 4 (byte b 7 / 16) (nibbles .0) .0) (within-known 1 4 (byte b 7 % 16) (nibbles .1) .0)
 
   segment-kept : (h : Header) → Inv h → (k : Kind) (b : List ℕ) (a e : ℕ) → h .at ≤ a → a ≤ e → Kept (segment colour h k b a e)
   segment-kept h v Quants b a e p q = refused-or Kept off (eqb a e) Malformed _ (λ t. on _ (kept h v (moved h a (Quantizers e)) refl refl refl p (v .lum)))
@@ -126,9 +126,6 @@ module _ (s : List ℕ) (colour : Bool) where
   segment-kept h v Intervals b a e p q = refused-or Kept off _ _ _ (λ t. on _ (kept h v (withInterval h e (word b 0)) refl refl refl (le-trans p q) (v .lum)))
   segment-kept h v Skips b a e p q = on _ (kept h v (moved h e Marker) refl refl refl (le-trans p q) (v .lum))
   segment-kept h v Others b a e p q = off Unsupported
-
-  window-short : (a e : ℕ) → length (window s a e) ≤ e - a
-  window-short a e = subst⁻¹ (λ k. k ≤ e - a) (length-take (e - a) (drop a s)) (omega arith)
 
   drop-next : (l : List ℕ) (p : ℕ) → drop 1 (drop p l) ≡ drop (p + 1) l
   drop-next l p = go l p ∙ ap (λ k. drop k l) (sym (add-one p))
@@ -158,22 +155,19 @@ module _ (s : List ℕ) (colour : Bool) where
       w : List ℕ
       w = window s (h .at) e
 
-      parts : (a b c d e f : Bool) → T (a and b and c and d and e and f) → T a × T f
-      parts true true true true true f t = (tt, t)
-      parts true true true true false f t = absurd t
-      parts true true true false e f t = absurd t
-      parts true true false d e f t = absurd t
-      parts true false c d e f t = absurd t
-      parts false b c d e f t = absurd t
-
-      both : T (leb 17 (length w)) × T (codesFit (countsOf w) 0 0)
-      both = parts (leb 17 (length w)) (leb (byte w 0 / 16) 1) (leb (byte w 0 % 16) 3) (within 1 256 (sum (countsOf w))) (leb (17 + sum (countsOf w)) (length w)) (codesFit (countsOf w) 0 0) t
+      known : TableKnown w
+      known = table-known w t
 
       same : countsOf w ≡ take 16 (drop (h .at + 1) s)
-      same = counts-same (h .at) e (le-trans (leb→le 17 (length w) (both .0)) (window-short (h .at) e))
+      same = counts-same (h .at) e (le-trans (known .long) (window-short s (h .at) e))
 
       ok : TableOk s (h .at + (17 + sum (countsOf w))) (h .at + 1)
-      ok = record { fitting = subst (λ l. T (codesFit l 0 0)) same (both .1); by = subst (λ l. h .at + 1 + 16 + sum l ≤ h .at + (17 + sum (countsOf w))) same (omega arith) }
+      ok =
+          record {
+            fitting = subst (λ l. T (codesFit l 0 0)) same (known .codes);
+            by = subst (λ l. h .at + 1 + 16 + sum l ≤ h .at + (17 + sum (countsOf w))) same (omega arith);
+            some = subst (λ l. (1 ≤ sum l) × (sum l ≤ 256)) same (known .some);
+          }
 
   quant-kept : (h : Header) → Inv h → (e : ℕ) → T (quantizerFits (window s (h .at) e)) → Inv (withQuantizer (window s (h .at) e) h)
   quant-kept h v e t =
@@ -191,7 +185,7 @@ module _ (s : List ℕ) (colour : Bool) where
       room = leb→le 65 (length w) (and-left (leb 65 (length w)) (leb (byte w 0) 3 and all (ltb 0) (take 64 (drop 1 w))) t)
 
       same : take 64 (drop 1 w) ≡ take 64 (drop (h .at + 1) s)
-      same = take-drop-take 1 64 (e - h .at) (drop (h .at) s) (omega (arith, window-short (h .at) e, room)) ∙ ap (take 64) (drop-next s (h .at))
+      same = take-drop-take 1 64 (e - h .at) (drop (h .at) s) (omega (arith, window-short s (h .at) e, room)) ∙ ap (take 64) (drop-next s (h .at))
 
       ok : QuantOk s (h .at + 65) (h .at + 1)
       ok = record { nonzero = subst (λ l. T (all (ltb 0) l)) same (and-right (leb (byte w 0) 3) (all (ltb 0) (take 64 (drop 1 w))) (and-right (leb 65 (length w)) (leb (byte w 0) 3 and all (ltb 0) (take 64 (drop 1 w))) t)); by = omega arith }
@@ -201,7 +195,7 @@ module _ (s : List ℕ) (colour : Bool) where
       refused-or Kept off (ltb (length s) (h .at + 2) or not (eqb (byte s (h .at)) 255)) Malformed _ (λ t1. chosen-or Kept (eqb (byte s (h .at + 1)) 255) _ _ (λ t2. on _ (kept h v (moved h (h .at + 1) Marker) refl refl refl (omega arith) (v .lum)))
       (λ t2. refused-or Kept off (eqb (byte s (h .at + 1)) 217) Malformed _ (λ t3. refused-or Kept off (ltb (length s) (h .at + 4) or ltb (word s (h .at + 2)) 2 or ltb (length s) (segmentEnd s (h .at))) CutShort _
       (λ t4. segment-kept h v (kindOf (byte s (h .at + 1))) (window s (h .at + 4) (segmentEnd s (h .at))) (h .at + 4) (segmentEnd s (h .at)) (omega arith)
-      (long (h .at) (word s (h .at + 2)) (not-lt (word s (h .at + 2)) 2 (or-left (ltb (word s (h .at + 2)) 2) (ltb (length s) (segmentEnd s (h .at))) (or-right (ltb (length s) (h .at + 4)) (ltb (word s (h .at + 2)) 2 or ltb (length s) (segmentEnd s (h .at))) t4))))))))
+      (long (h .at) (word s (h .at + 2)) (ltb-false (word s (h .at + 2)) 2 (or-left (ltb (word s (h .at + 2)) 2) (ltb (length s) (segmentEnd s (h .at))) (or-right (ltb (length s) (h .at + 4)) (ltb (word s (h .at + 2)) 2 or ltb (length s) (segmentEnd s (h .at))) t4))))))))
     where
       long : (p w : ℕ) → 2 ≤ w → p + 4 ≤ p + 2 + w
       long p w q = omega arith
@@ -212,28 +206,27 @@ module _ (s : List ℕ) (colour : Bool) where
   stepIn-kept h v (Quantizers e) = chosen-or Kept (eqb (h .at) e) _ _ (λ t. on _ (kept h v (moved h e Marker) refl refl refl (omega (arith, eqb→eq (h .at) e (subst⁻¹ T t tt))) (v .lum))) (λ t. refused-or Kept off (not (quantizerFits (window s (h .at) e))) Malformed _ (λ u. on _ (quant-kept h v e (is-so (quantizerFits (window s (h .at) e)) u))))
   stepIn-kept h v (Huffman e) = chosen-or Kept (eqb (h .at) e) _ _ (λ t. on _ (kept h v (moved h e Marker) refl refl refl (omega (arith, eqb→eq (h .at) e (subst⁻¹ T t tt))) (v .lum))) (λ t. refused-or Kept off (not (tableFits (window s (h .at) e))) Malformed _ (λ u. on _ (table-kept h v e (is-so (tableFits (window s (h .at) e)) u))))
 
-  abbrev ends-ready : Stage → Type 0
-  ends-ready (more h) = Unit {0}
-  ends-ready (done r) = Ready r
-  ends-ready (stop x) = Unit {0}
+  pub step-kept : (h : Header) → Inv h → Kept (step s colour h)
+  step-kept h v = stepIn-kept h v (h .case)
 
-  steps-kept : (k : ℕ) (st : Stage) → Kept st → ends-ready (steps s colour k st)
-  steps-kept zero st (on h v) = tt
-  steps-kept zero st (ready r q) = q
-  steps-kept zero st (off x) = tt
-  steps-kept (suc k) st (on h v) = steps-kept k (step s colour h) (stepIn-kept h v (h .case))
-  steps-kept (suc k) st (ready r q) = q
-  steps-kept (suc k) st (off x) = tt
-
-  pub header-ready : (r : Record) → header s colour ≡ done r → Ready r
-  unfolding header
-  header-ready r e = subst ends-ready e (steps-kept (2 * length s + 1) (started s) (refused-or Kept off (not (leb 2 (length s) and eqb (byte s 0) 255 and eqb (byte s 1) 216)) Malformed (more opening) (λ t. on opening (record { dcs = zero-places; acs = zero-places; quants = zero-quants; lum = λ k. absurd (not-suc-le-zero k) }))))
+  pub opening-kept : Inv opening
+  opening-kept = record { dcs = zero-places; acs = zero-places; quants = zero-quants; lum = λ k. absurd (not-suc-le-zero k) }
     where
       zero-quants : Places (QuantOk s 2) (replicate 4 0)
       zero-quants = ((λ k. absurd (not-suc-le-zero k)), ((λ k. absurd (not-suc-le-zero k)), ((λ k. absurd (not-suc-le-zero k)), ((λ k. absurd (not-suc-le-zero k)), tt))))
 
       zero-places : Places (TableOk s 2) (replicate 4 0)
       zero-places = ((λ k. absurd (not-suc-le-zero k)), ((λ k. absurd (not-suc-le-zero k)), ((λ k. absurd (not-suc-le-zero k)), ((λ k. absurd (not-suc-le-zero k)), tt))))
+
+  goes-on : (h : Header) → Kept (more h) → Kept (step s colour h)
+  goes-on h (on _ v) = step-kept h v
+
+  ready-so : (r : Record) → Kept (done r) → Ready r
+  ready-so r (ready _ q) = q
+
+  pub header-ready : (r : Record) → header s colour ≡ done r → Ready r
+  unfolding header
+  header-ready r e = ready-so r (subst Kept e (steps-hold s colour Kept goes-on (2 * length s + 1) (started s) (refused-or Kept off (not (opens s)) Malformed (more opening) (λ t. on opening opening-kept))))
 
 -- ---- the plan of an accepted record
 
@@ -255,21 +248,6 @@ good-table s m x h t = record { fitting = subst⁻¹ (λ l. T (codesFit l 0 0)) 
       where
         fits : min k (min m (length s) - (x + 16)) ≡ k
         fits = omega (arith, room, h)
-
--- what a test of each channel says of one
-pub all-at : (p : ℕ → Bool) (n i : ℕ) → T (allFrom n i p) → (c : ℕ) → i ≤ c → c < i + n → T (p c)
-all-at p zero i t c a b = absurd (none-left a b)
-  where
-    none-left : i ≤ c → c < i + 0 → ⊥
-    none-left x y = omega arith
-all-at p (suc n) i t c a b = go (eqb i c) refl (all-at p n (suc i) (and-right (p i) (allFrom n (suc i) p) t) c)
-  where
-    go : (e : Bool) → eqb i c ≡ e → (suc i ≤ c → c < suc i + n → T (p c)) → T (p c)
-    go true q ih = subst (λ k. T (p k)) (eqb→eq i c (subst⁻¹ T q tt)) (and-left (p i) (allFrom n (suc i) p) t)
-    go false q ih = ih (omega (arith, a, apart)) (omega (arith, b))
-      where
-        apart : i ≡ c → ⊥
-        apart r = absurd (subst T (sym (eq-eqb i c r) ∙ q) tt)
 
 -- what an accepted record says of the tables of one channel of its picture
 pub record Stands (s : List ℕ) (r : Record) (c : ℕ) : Type 0 where

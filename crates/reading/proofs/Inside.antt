@@ -1,20 +1,23 @@
 -- A reading keeps its cursor inside the bytes: a place that is at most the file's length, with at most 8 unread bits.
-use Prim.Native.Nat.{ℕ, zero, suc, _+_, _*_, _-_, _/_, _%_, _^_, _<_, _≤_}
-use mathlib.Core.Path.{_≡_, refl, sym, ap, _∙_, subst, subst⁻¹}
+use Prim.Native.Nat.{ℕ, zero, suc, _+_, _*_, _-_, _≤_}
+use mathlib.Core.Path.{_≡_, refl}
 use mathlib.Core.Bool.{Bool, true, false, cond}
 use mathlib.Core.List.{List, [], _∷_, _++_}
 use mathlib.Core.Option.{Option, none, some}
 use native.Mathlib.Omega.{arith}
-use native.Mathlib.Nat.{not-suc-le-zero, le-of-suc-le-suc}
-use lib.Dec.{T, leb, ltb, eqb}
-use lib.IntN.{ℤ, _+ℤ_}
-use lib.ListN.{length, getD, getElem?}
+use lib.Dec.{leb, ltb, eqb}
+use lib.IntN.{ℤ, pos, _+ℤ_}
+use lib.ListN.{length, getD, set, getElem?}
 use Rattle.reading.specs.declared.Bits.{Bits}
 use Rattle.reading.specs.declared.Fault.{Fault}
-use Rattle.reading.specs.declared.Fault.the-variants.{Bare}
+use Rattle.reading.specs.declared.Fault.the-variants.{Bare, Broken}
 use Rattle.reading.specs.Reader.{Read, got, fault, Reader, onward, _>>=_, _>>_, give, fail, rule}
-use Rattle.reading.specs.Bits.{opened, afterFull, freshFrom, fresh, oneAt, one, fieldFrom, field, meaning, amplitude}
+use Rattle.reading.specs.Bits.{opened, afterFull, freshFrom, oneAt, one, file, mark, padded, fieldFrom, meaning, amplitude}
 use Rattle.reading.specs.Huffman.{Table, codeFrom, symbol}
+use Rattle.reading.proofs.FileBytes.{element-there}
+use Rattle.reading.specs.Tests.{_and_, isSome, isAt}
+use Rattle.reading.specs.Layout.{channelOf, restartDue, restartCode}
+use Rattle.reading.specs.Scan.{Plan, noPredictors, restart, blocks}
 use Rattle.reading.specs.Block.{Ask, end, skip, value, wrong, asked, predictable, first, zeros, answered, rest, block}
 
 -- ---- what every reading keeps
@@ -99,40 +102,81 @@ pub record Inside (s : List ℕ) (b : Bits) : Type 0 where
   pub place : b .at ≤ length s
   pub unread : b .left ≤ 8
 
--- a byte that is there
-there : (l : List ℕ) (i x : ℕ) → getElem? l i ≡ some x → i < length l
-there [] i x e = absurd (subst isSome e tt)
-  where
-    isSome : Option ℕ → Type 0
-    isSome none = Unit {0}
-    isSome (some y) = ⊥
-there (y ∷ l) zero x e = omega arith
-there (y ∷ l) (suc i) x e = omega (arith, there l i x e)
-
-pub one-inside : (s : List ℕ) → Keeps (Inside s) (one s)
+-- what the next bit does to a cursor: one unread bit less, or behind one byte or two that are there
+pub one-keeps : (s : List ℕ) (P : Bits → Type 0)
+    → ((at byte n : ℕ) → P (record { at = at; byte = byte; left = suc n }) → P (record { at = at; byte = byte; left = n }))
+    → ((at byte x k : ℕ) → P (record { at = at; byte = byte; left = 0 }) → at + k ≤ length s → P (record { at = at + k; byte = x; left = 7 }))
+    → Keeps P (one s)
 unfolding one
-one-inside s = record { kept = λ b h. by (b .at) (b .byte) (b .left) (h .place) (h .unread) }
+one-keeps s P less next = record { kept = λ b h. by (b .at) (b .byte) (b .left) h }
   where
-    full : (at : ℕ) (o : Option ℕ) → getElem? s (at + 1) ≡ o → Stands (Inside s) (afterFull at o)
-    full at none e = tt
-    full at (some y) e = go (eqb y 0)
+    full : (at byte : ℕ) (o : Option ℕ) → getElem? s (at + 1) ≡ o → P (record { at = at; byte = byte; left = 0 }) → Stands P (afterFull at o)
+    full at byte none e h = tt
+    full at byte (some y) e h = go (eqb y 0)
       where
-        go : (t : Bool) → Stands (Inside s) (cond t (opened 255 (at + 2)) (fault Bare))
-        go true = record { place = omega (arith, there s (at + 1) y e); unread = omega arith }
+        go : (t : Bool) → Stands P (cond t (opened 255 (at + 2)) (fault Bare))
+        go true = next at byte 255 2 h (omega (arith, element-there s (at + 1) y e))
         go false = tt
 
-    new : (at : ℕ) (o : Option ℕ) → getElem? s at ≡ o → Stands (Inside s) (freshFrom s at o)
-    new at none e = tt
-    new at (some x) e = go (eqb x 255)
+    new : (at byte : ℕ) (o : Option ℕ) → getElem? s at ≡ o → P (record { at = at; byte = byte; left = 0 }) → Stands P (freshFrom s at o)
+    new at byte none e h = tt
+    new at byte (some x) e h = go (eqb x 255)
       where
-        go : (t : Bool) → Stands (Inside s) (cond t (afterFull at (getElem? s (at + 1))) (opened x (at + 1)))
-        go true = full at (getElem? s (at + 1)) refl
-        go false = record { place = omega (arith, there s at x e); unread = omega arith }
+        go : (t : Bool) → Stands P (cond t (afterFull at (getElem? s (at + 1))) (opened x (at + 1)))
+        go true = full at byte (getElem? s (at + 1)) refl h
+        go false = next at byte x 1 h (omega (arith, element-there s at x e))
 
-    by : (at byte n : ℕ) → at ≤ length s → n ≤ 8 → Stands (Inside s) (oneAt s at byte n)
-    by at byte zero h k = new at (getElem? s at) refl
-    by at byte (suc n) h k = record { place = h; unread = omega arith }
+    by : (at byte n : ℕ) → P (record { at = at; byte = byte; left = n }) → Stands P (oneAt s at byte n)
+    by at byte zero h = new at byte (getElem? s at) refl h
+    by at byte (suc n) h = less at byte n h
+
+pub one-inside : (s : List ℕ) → Keeps (Inside s) (one s)
+one-inside s =
+    one-keeps s (Inside s) (λ at byte n h. record { place = h .place; unread = omega (arith, h .unread) })
+    (λ at byte x k h r. record { place = r; unread = omega arith })
+
+-- it never goes back
+pub record From (a : ℕ) (b : Bits) : Type 0 where
+  pub place : a ≤ b .at
+
+pub one-onward : (s : List ℕ) (a : ℕ) → Keeps (From a) (one s)
+one-onward s a = one-keeps s (From a) (λ at byte n h. record { place = h .place }) (λ at byte x k h r. record { place = omega (arith, h .place) })
 
 -- a block that is read leaves the cursor inside the bytes
 pub block-inside : (s : List ℕ) (dc ac : Table) (p : ℤ) → Keeps (Inside s) (block (one s) dc ac p)
 block-inside s dc ac p = keeps-block (Inside s) (one s) (one-inside s) dc ac p
+
+-- ---- markers, and the blocks of a scan
+
+abbrev nothing : Unit {0}
+nothing = tt
+
+-- a marker that was read stands inside the bytes
+pub mark-inside : (s : List ℕ) (code : ℕ) → Keeps (Inside s) (mark s code)
+mark-inside s code = record { kept = λ b h. go b (padded b) (isAt s (b .at) 255) (getElem? s (b .at + 1)) refl }
+  where
+    go : (b : Bits) (x y : Bool) (o : Option ℕ) → getElem? s (b .at + 1) ≡ o → Stands (Inside s) (cond (x and y and isSome o code) (got nothing (record { at = b .at + 2; byte = 0; left = 0 })) (fault Broken))
+    go b false y o e = tt
+    go b true false o e = tt
+    go b true true none e = tt
+    go b true true (some z) e = found (eqb z code)
+      where
+        found : (t : Bool) → Stands (Inside s) (cond t (got nothing (record { at = b .at + 2; byte = 0; left = 0 })) (fault Broken))
+        found true = record { place = omega (arith, element-there s (b .at + 1) z e); unread = omega arith }
+        found false = tt
+
+-- blocks that are read, restarts before them too, leave the cursor inside the bytes
+pub blocks-inside : (s : List ℕ) (p : Plan) (n k : ℕ) (ps : List ℤ) → Keeps (Inside s) (blocks (file s) p n k ps)
+unfolding file
+blocks-inside s p zero k ps = keeps-give (Inside s) []
+blocks-inside s p (suc n) k ps =
+    keeps-then (Inside s) (restart (file s) p k ps) _ restarts
+    (λ qs. keeps-then (Inside s) (block (one s) (p .channels (channelOf (p .shape) k) .dc) (p .channels (channelOf (p .shape) k) .ac) (getD qs (channelOf (p .shape) k) (pos 0))) _
+    (block-inside s (p .channels (channelOf (p .shape) k) .dc) (p .channels (channelOf (p .shape) k) .ac) (getD qs (channelOf (p .shape) k) (pos 0)))
+    (λ l. keeps-then (Inside s) (blocks (file s) p n (suc k) (set qs (channelOf (p .shape) k) (getD l 0 (pos 0)))) _ (blocks-inside s p n (suc k) (set qs (channelOf (p .shape) k) (getD l 0 (pos 0)))) (λ ls. keeps-give (Inside s) (l ∷ ls))))
+  where
+    restarts : Keeps (Inside s) (restart (file s) p k ps)
+    restarts =
+        keeps-cond (Inside s) (restartDue (p .shape) (p .interval) k) _ _
+        (keeps-then (Inside s) (mark s (restartCode (p .shape) (p .interval) k)) (λ _. give noPredictors) (mark-inside s (restartCode (p .shape) (p .interval) k)) (λ _. keeps-give (Inside s) noPredictors))
+        (keeps-give (Inside s) ps)

@@ -1,26 +1,26 @@
 -- What the calls' definitions are shown to have, as a reader meets it.
-use Prim.Native.Nat.{ℕ, zero, suc, _+_, _*_, _-_, _<_, _≤_}
-use mathlib.Core.Path.{_≡_, refl, sym, _∙_}
-use mathlib.Core.Bool.{Bool, true, false}
-use mathlib.Core.List.{List, [], _∷_, _++_}
+use Prim.Native.Nat.{ℕ, _-_}
+use mathlib.Core.Path.{_≡_, sym, _∙_}
+use mathlib.Core.Bool.{Bool, false}
+use mathlib.Core.List.{List}
 use mathlib.Core.Logic.{_↔_}
-use mathlib.Core.Option.{Option, none, some}
+use mathlib.Core.Option.{none}
 use lib.Dec.{T}
-use lib.ListN.{length, take}
+use lib.ListN.{take}
 use lib.IntN.{ℤ}
 use Rattle.reading.specs.declared.Record.{Record}
 use Rattle.reading.specs.declared.Limits.{Limits}
 use Rattle.reading.specs.declared.Budget.{Budget}
 use Rattle.reading.specs.declared.Inspection.{Inspection}
-use Rattle.reading.specs.Header.{Stage, more, done, stop, header}
+use Rattle.reading.specs.Header.{header}
 use Rattle.reading.proofs.HeaderEnds.{finished, header-ends}
 use Rattle.reading.proofs.OnePicture as O
 use Rattle.reading.proofs.WantOfCode as W
-use Rattle.reading.proofs.WantOfCode.{AllBytes}
+use Rattle.reading.proofs.FileBytes.{AllBytes}
 use Rattle.reading.proofs.Demand3 as D
 use Rattle.reading.proofs.Demand3.{Settles}
 use Rattle.reading.specs.Scan.{planOf}
-use Rattle.reading.specs.Reading.{Reading, accepted, refused, reading, dequantized}
+use Rattle.reading.specs.Reading.{accepted, reading, dequantized}
 use Rattle.reading.specs.Settled.{settledFile, someLacksEnd}
 use Rattle.reading.specs.Calls.{inspect, Decoded, decode, Rewritten, settle}
 

@@ -3,3 +3,4 @@ pub mod Ring
 pub mod Lists
 pub mod Signs
 pub mod Expressions
+pub mod Powers

@@ -1,7 +1,7 @@
 use mathlib.Core.Path.{_≡_, refl}
 use native.Mathlib.Omega.{arith}
 use borrow.Author.Tests.{not-true, not-false}
-use Rattle.jpeg_header.proofs.Accepted.{all-bytes}
+use Rattle.reading.proofs.FileBytes.{all-bytes}
 use Rattle.jpeg.proofs.Draws.{draws-other, draws-stop, draws-part, draws-drawable, draws-done}
 use borrow.Author.Needs.{needs}
 use Rattle.jpeg.proofs.draw.Statement.{statement}

@@ -9,10 +9,9 @@ use Rattle.reading.specs.Tests.{_or_}
 use Rattle.reading.specs.Header.{header}
 use Rattle.reading.specs.Calls.{gives, inspection, remaining}
 use Rattle.reading.proofs.HeaderEnds.{or-right}
-use Rattle.reading.proofs.WantOfCode.{AllBytes}
-use Rattle.jpeg_header.proofs.Accepted.{all-bytes}
+use Rattle.reading.proofs.FileBytes.{AllBytes, all-bytes}
 use Rattle.jpeg.specs.Steps.{weighed}
-use Rattle.jpeg.proofs.Facts.{header-readable}
+use Rattle.reading.proofs.States.{header-readable}
 use Rattle.jpeg.proofs.Inspected.{poor, rich, done-found, stop-verdict, inspect-long, inspect-poor, inspect-head, inspect-weighed}
 use Rattle.jpeg.proofs.inspect.Statement.{statement}
 use Rattle.jpeg.proofs.inspect.Tie as tie

@@ -4,7 +4,9 @@ use mathlib.Core.Path.{_≡_, refl, _∙_, sym}
 use native.Mathlib.Omega.{arith}
 use lib.Pow.{pow-pos}
 use borrow.Author.Needs.{needs}
-use Rattle.jpeg_bits.proofs.Field.{grown, small, bit-below, further, field-wide, field-is, field-done, field-more, field-cut}
+use Rattle.whole.specs.Powers.{grown, small}
+use Rattle.reading.proofs.BitAnswers.{bit-below}
+use Rattle.jpeg_bits.proofs.Field.{further, field-wide, field-is, field-done, field-more, field-cut}
 use Rattle.jpeg_bits.proofs.read.Statement.{statement}
 use Rattle.jpeg_bits.proofs.read.Tie as tie
 

@@ -4,7 +4,7 @@ use lib.IntN.{ℤ}
 use mir.Facts.{toZ-ofZ}
 use borrow.Author.Needs.{sfits-of, needs}
 use Rattle.reading.specs.Reader.{got}
-use Rattle.jpeg_bits.proofs.Field.{read-sized}
+use Rattle.reading.proofs.BitAnswers.{read-sized}
 use Rattle.jpeg_block.proofs.Meanings.{amplitude-is, amplitude-cut}
 use Rattle.jpeg_block.proofs.amplitude.Statement.{statement}
 use Rattle.jpeg_block.proofs.amplitude.Tie as tie

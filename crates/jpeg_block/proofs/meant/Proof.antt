@@ -7,7 +7,8 @@ use lib.IntN.{pos, _-ℤ_}
 use mir.Syntax.{w32}
 use mir.Facts.{toZ-pos}
 use borrow.Author.Needs.{needs}
-use Rattle.jpeg_block.proofs.Numbers.{power-is, difference-fits, difference-is}
+use Rattle.whole.specs.Powers.{power-is}
+use Rattle.jpeg_block.proofs.Numbers.{difference-fits, difference-is}
 use Rattle.jpeg_block.proofs.Meanings.{meaning-low, meaning-high}
 use Rattle.jpeg_block.proofs.meant.Statement.{statement}
 use Rattle.jpeg_block.proofs.meant.Tie as tie
@@ -20,7 +21,7 @@ module _ (c : tie.Start) where
   shifted = (1 * 2 ^ c .args .n) % 18446744073709551616
 
   span : shifted ≡ 2 ^ c .args .n
-  span = power-is (c .args .n) (c .pre .0)
+  span = power-is (c .args .n) (omega (arith, c .pre .0))
 
   small : 2 ^ c .args .n ≤ 65536
   small = pow-mono {j = 16} (c .pre .0)

@@ -12,7 +12,8 @@ use Rattle.whole.specs.Expressions.{fits-abs}
 use Rattle.reading.specs.Reader.{got}
 use Rattle.reading.specs.Block.{predictable}
 use Rattle.jpeg_block.specs.Step.{puts}
-use Rattle.jpeg_block.proofs.Numbers.{sum-fits, sum-is, predictable-small, level-fits}
+use Rattle.reading.proofs.BlockLevels.{predictable-small}
+use Rattle.jpeg_block.proofs.Numbers.{sum-fits, sum-is, level-fits}
 use Rattle.jpeg_block.proofs.Steps.{value-cut, value-small, value-later, value-first, value-far}
 use Rattle.jpeg_block.proofs.value.Statement.{statement}
 use Rattle.jpeg_block.proofs.value.Tie as tie

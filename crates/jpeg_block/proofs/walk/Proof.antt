@@ -17,7 +17,7 @@ use Rattle.reading.specs.Reader.{Read}
 use Rattle.jpeg_block.proofs.Numbers.{widened-fits, widened-is}
 use Rattle.jpeg_block.proofs.Steps.{Puts}
 use Rattle.jpeg_block.proofs.Remaining.{Walk, begun, at-64, stopped, ended, skipped, put-room, put}
-use Rattle.jpeg_block.proofs.Answered.{said-got, said-fault, levels-got, levels-fault}
+use Rattle.reading.proofs.BlockAnswers.{said-got, said-fault, levels-got, levels-fault}
 use Rattle.jpeg_block.proofs.walk.Statement.{statement}
 use Rattle.jpeg_block.proofs.walk.Tie as tie
 

@@ -2,7 +2,7 @@ use Prim.Native.Nat.{ℕ, _*_, _+_, _-_}
 use mathlib.Core.Path.{_≡_, sym, ap, ap₂, _∙_}
 use native.Mathlib.Omega.{arith}
 use Rattle.reading.specs.Layout.{ceiling}
-use Rattle.jpeg_header.proofs.Accepted.{mcus-small, count-small, blocks-are}
+use Rattle.reading.proofs.Accepted.{mcus-small, count-small, blocks-are}
 use Rattle.jpeg_header.proofs.block_count.Statement.{statement}
 use Rattle.jpeg_header.proofs.block_count.Tie as tie
 

@@ -3,8 +3,7 @@ use native.Mathlib.Omega.{arith}
 use lib.ListN.{length}
 use Rattle.reading.specs.Header.{headed}
 use Rattle.reading.proofs.HeaderEnds.{left}
-use Rattle.reading.proofs.WantOfCode.{AllBytes}
-use Rattle.jpeg_header.proofs.Accepted.{all-bytes}
+use Rattle.reading.proofs.FileBytes.{AllBytes, all-bytes}
 use Rattle.jpeg_header.proofs.Run.{Running, run-start, run-closed, run-more, run-down, run-done, run-stop, run-inside, opens-short, opens-first, opens-second, opens-so, stage-more, stage-done, stage-stop}
 use borrow.Author.Needs.{needs}
 use Rattle.jpeg_header.proofs.header.Statement.{statement}
@@ -50,7 +49,7 @@ loop-holds : tie.Need-loop-holds Inv-loop μ-loop
 loop-holds c = subst⁻¹ (Running (c .before .before .before .before .before .before .before .args .s .now) (c .before .before .before .before .before .before .before .args .colour)) (c .fresh .ensures) (run-start (c .before .before .before .before .before .before .before .args .s .now) (c .before .before .before .before .before .before .before .args .colour) (c .before .before .before .before .before .if1 .left) (opens-so (c .before .before .before .before .before .before .before .args .s .now) (c .before .before .before .before .before .if1 .left) (c .before .before .before .if2 .left) (c .before .if3 .left)))
 
 step-requires : tie.Need-step-requires Inv-loop μ-loop
-step-requires c κs = (run-inside (c .before .before .before .before .before .before .before .before .args .s .now) (c .before .before .before .before .before .before .before .before .args .colour) (c .loop .state) (c .loop .inv), c .loop .inv .framed)
+step-requires c κs = (run-inside (c .before .before .before .before .before .before .before .before .args .s .now) (c .before .before .before .before .before .before .before .before .args .colour) (c .loop .state) (c .loop .inv), c .loop .inv .shaped .0)
 
 enum-told : tie.Need-enum-told Inv-loop μ-loop
 enum-told c = search needs

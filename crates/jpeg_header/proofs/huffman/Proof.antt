@@ -4,13 +4,13 @@ use mathlib.Core.Path.{sym, ap, _∙_}
 use native.Mathlib.Omega.{arith}
 use lib.ListN.{set}
 use Rattle.reading.specs.Header.{more}
-use Rattle.jpeg_segments.proofs.Rules.{TableKnown, table-known}
+use Rattle.reading.proofs.Fits.{so, TableKnown, table-known}
 use Rattle.jpeg_header.proofs.Rules.{huffman-end, huffman-bad, huffman-in, with-dc, with-ac}
 use Rattle.jpeg_header.proofs.huffman.Statement.{statement}
 use Rattle.jpeg_header.proofs.huffman.Tie as tie
 
 known : (c : tie.Else2) → TableKnown (c .before .before .before .before .args .body .now)
-known c = table-known (c .before .before .before .before .args .body .now) (sym (c .before .table-fits .ensures) ∙ not-false _ (c .if2 .left))
+known c = table-known (c .before .before .before .before .args .body .now) (so (sym (c .before .table-fits .ensures) ∙ not-false _ (c .if2 .left)))
 
 moved-requires : tie.Need-moved-requires
 moved-requires c κs = tt

@@ -2,7 +2,7 @@ use Prim.Native.Nat.{ℕ, _+_, _<_}
 use mathlib.Core.Path.{refl, ap, _∙_}
 use native.Mathlib.Omega.{arith}
 use Rattle.reading.specs.Header.{more, word}
-use Rattle.jpeg_segments.proofs.Walks.{word-small}
+use Rattle.reading.proofs.FileBytes.{word-small}
 use Rattle.jpeg_header.proofs.Rules.{marker-short, marker-first, marker-fill, marker-end, marker-four, marker-size, marker-past, marker-segment, segment-is}
 use Rattle.jpeg_header.proofs.marker.Statement.{statement}
 use Rattle.jpeg_header.proofs.marker.Tie as tie

@@ -1,6 +1,6 @@
 use mathlib.Core.Path.{sym}
 use native.Mathlib.Omega.{arith}
-use Rattle.jpeg_header.proofs.Accepted.{pixels-small, output-small, bytes-are}
+use Rattle.reading.proofs.Accepted.{pixels-small, output-small, bytes-are}
 use Rattle.jpeg_header.proofs.output_length.Statement.{statement}
 use Rattle.jpeg_header.proofs.output_length.Tie as tie
 

@@ -4,13 +4,13 @@ use mathlib.Core.Path.{sym, ap, _∙_}
 use native.Mathlib.Omega.{arith}
 use lib.ListN.{length, set}
 use Rattle.reading.specs.Header.{more, byte}
-use Rattle.jpeg_segments.proofs.Rules.{quantizer-known}
+use Rattle.reading.proofs.Fits.{so, quantizer-known}
 use Rattle.jpeg_header.proofs.Rules.{quantizer-end, quantizer-bad, quantizer-in, with-quantizer}
 use Rattle.jpeg_header.proofs.quantizer.Statement.{statement}
 use Rattle.jpeg_header.proofs.quantizer.Tie as tie
 
 known : (c : tie.Else2) → (65 ≤ length (c .before .before .before .before .args .body .now)) × (byte (c .before .before .before .before .args .body .now) 0 ≤ 3)
-known c = quantizer-known (c .before .before .before .before .args .body .now) (sym (c .before .quantizer-fits .ensures) ∙ not-false _ (c .if2 .left))
+known c = quantizer-known (c .before .before .before .before .args .body .now) (so (sym (c .before .quantizer-fits .ensures) ∙ not-false _ (c .if2 .left)))
 
 moved-requires : tie.Need-moved-requires
 moved-requires c κs = tt

@@ -2,8 +2,8 @@ use Prim.Native.Nat.{_/_, _%_}
 use mathlib.Core.Path.{ap, _∙_}
 use native.Mathlib.Omega.{arith}
 use Rattle.reading.specs.Header.{dcId, acId}
-use Rattle.jpeg_segments.proofs.Rules.{each-made}
-use Rattle.jpeg_header.proofs.Accepted.{blocks-are, count-small, bytes-are, output-small}
+use Rattle.reading.proofs.Fits.{each-made}
+use Rattle.reading.proofs.Accepted.{blocks-are, count-small, bytes-are, output-small}
 use Rattle.jpeg_header.proofs.Rules.{record-made}
 use Rattle.jpeg_header.proofs.record_of.Statement.{statement}
 use Rattle.jpeg_header.proofs.record_of.Tie as tie

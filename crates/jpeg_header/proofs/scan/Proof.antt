@@ -4,8 +4,8 @@ use mathlib.Core.Bool.{true}
 use native.Mathlib.Omega.{arith}
 use lib.ListN.{getD}
 use Rattle.reading.specs.Header.{done, complete, scanKnown, inOrder, selected}
-use Rattle.jpeg_header.specs.Frames.{FrameOk}
-use Rattle.jpeg_segments.proofs.Rules.{scan-few}
+use Rattle.reading.proofs.Frames.{FrameOk}
+use Rattle.reading.proofs.Fits.{so, scan-few}
 use Rattle.jpeg_header.proofs.Rules.{scan-frameless, scan-unknown, scan-order, scan-selected, scan-incomplete, scan-in}
 use borrow.Author.Needs.{needs}
 use Rattle.jpeg_header.proofs.scan.Statement.{statement}
@@ -16,7 +16,7 @@ known c = sym (c .before .scan-known .ensures) ∙ not-false _ (c .if2 .left)
 
 -- the scan counts the frame's channels
 count : (c : tie.Else2) → getD (c .before .before .before .before .before .before .args .body .now) 0 0 ≡ c .before .before .before .before .before .before .args .state .frame .channels
-count c = scan-few (c .before .before .before .before .before .before .args .body .now) (c .before .before .before .before .before .before .args .state .frame .channels) (known c)
+count c = scan-few (c .before .before .before .before .before .before .args .body .now) (c .before .before .before .before .before .before .args .state .frame .channels) (so (known c))
 
 order : (c : tie.After-in-order) → c .in-order .result ≡ inOrder (c .before .before .before .before .before .before .before .before .args .body .now) (c .before .before .before .before .before .before .before .before .args .state .frame .ids) (c .before .before .before .before .before .before .before .before .args .state .frame .channels)
 order c = c .in-order .ensures ∙ ap (inOrder (c .before .before .before .before .before .before .before .before .args .body .now) (c .before .before .before .before .before .before .before .before .args .state .frame .ids)) (count (c .before .before))

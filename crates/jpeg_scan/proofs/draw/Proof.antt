@@ -5,7 +5,7 @@ use lib.ListN.{length}
 use Rattle.reading.specs.Scan.{scanOf}
 use Rattle.reading.specs.Tests.{over}
 use Rattle.reading.specs.Reading.{allSamples}
-use Rattle.jpeg_scan.proofs.Ends.{Accepted, accepted, refused, drawn-stop, drawn-short, drawn-all}
+use Rattle.reading.proofs.ScanAnswers.{Accepted, accepted, refused, drawn-stop, drawn-short, drawn-all}
 use borrow.Author.Needs.{needs}
 use Rattle.jpeg_scan.proofs.draw.Statement.{statement}
 use Rattle.jpeg_scan.proofs.draw.Tie as tie

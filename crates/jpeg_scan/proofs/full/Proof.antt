@@ -1,7 +1,10 @@
 use mathlib.Core.Path.{sym, subst}
 use Prim.Native.Nat.{ℕ, _<_, _^_, _*_, _%_}
+use native.Mathlib.Nat.{le-trans}
+use lib.Dec.{lit≤}
 use lib.Pow.{pow-pos}
-use Rattle.jpeg_scan.proofs.Marks.{padded-over, shifted, padded-is}
+use Rattle.whole.specs.Powers.{power-is}
+use Rattle.jpeg_scan.proofs.Marks.{padded-over, padded-is}
 use borrow.Author.Needs.{needs}
 use Rattle.jpeg_scan.proofs.full.Statement.{statement}
 use Rattle.jpeg_scan.proofs.full.Tie as tie
@@ -17,7 +20,7 @@ shl-p : tie.Need-shl-p
 shl-p c = search needs
 
 positive : (c : tie.Else1) → 0 < (1 * 2 ^ c .before .args .left) % 18446744073709551616
-positive c = subst (λ (k : ℕ). 0 < k) (sym (shifted _ (c .if1 .left))) (pow-pos _)
+positive c = subst (λ (k : ℕ). 0 < k) (sym (power-is _ (le-trans (c .if1 .left) (lit≤ tt)))) (pow-pos _)
 
 -- src/lib.rt:163:5
 rem-result : tie.Need-rem-result
@@ -29,7 +32,7 @@ sub-result c = positive c
 
 -- src/lib.rt:156:1
 returns-2 : tie.Need-returns-2
-returns-2 c = padded-is _ _ _ (shifted _ (c .if1 .left))
+returns-2 c = padded-is _ _ _ (power-is _ (le-trans (c .if1 .left) (lit≤ tt)))
 
 pub full-spec : {M : Type 1} → statement M
 full-spec = tie.close (tie.spec returns shl-p rem-result sub-result returns-2)

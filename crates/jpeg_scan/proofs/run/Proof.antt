@@ -15,7 +15,8 @@ use Rattle.jpeg_scan.specs.declared.Plan.{Plan}
 use Rattle.jpeg_scan.specs.Steps.{ahead}
 use Rattle.jpeg_scan.proofs.Standing.{Ready, ready, unready}
 use Rattle.jpeg_scan.proofs.AllMcus.{Walk, begin, all-read, unchanged, at-mcu, stopped, broken, gained, further}
-use Rattle.jpeg_scan.proofs.Ends.{scan-stop, scan-done, scan-open, answer-done, answer-stop, left-done, left-stop}
+use Rattle.reading.proofs.ScanAnswers.{answer-done, answer-stop}
+use Rattle.jpeg_scan.proofs.Ends.{scan-stop, scan-done, scan-open, left-done, left-stop}
 use Rattle.jpeg_scan.proofs.run.Statement.{statement}
 use Rattle.jpeg_scan.proofs.run.Tie as tie
 use Rattle.jpeg_scan.proofs.run.Reads as reads

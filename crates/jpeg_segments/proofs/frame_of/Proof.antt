@@ -3,7 +3,8 @@ use mathlib.Core.Path.{_∙_}
 use mathlib.Core.Bool.{cond}
 use Prim.Native.Nat.{_+_, _*_, _/_, _%_}
 use Rattle.reading.specs.Header.{byte}
-use Rattle.jpeg_segments.proofs.Rules.{frame-made, each-made}
+use Rattle.reading.proofs.Fits.{each-made}
+use Rattle.jpeg_segments.proofs.Rules.{frame-made}
 use Rattle.jpeg_segments.proofs.frame_of.Statement.{statement}
 use Rattle.jpeg_segments.proofs.frame_of.Tie as tie
 

@@ -2,7 +2,8 @@ use Prim.Native.Nat.{ℕ, _<_, _*_, _+_}
 use mathlib.Core.Path.{ap₂}
 use native.Mathlib.Omega.{arith}
 use Rattle.reading.specs.Header.{byte}
-use Rattle.jpeg_segments.proofs.Walks.{word-small, word-out}
+use Rattle.reading.proofs.FileBytes.{word-small}
+use Rattle.jpeg_segments.proofs.Walks.{word-out}
 use Rattle.jpeg_segments.proofs.word_at.Statement.{statement}
 use Rattle.jpeg_segments.proofs.word_at.Tie as tie
 

@@ -1,62 +1,36 @@
 -- What an accepted header says of its record: the rules of the frame hold of its numbers, its sizes follow from them and are small,
 -- and the tables of each channel stand before the first coded byte.
-use Prim.Native.Nat.{ℕ, zero, suc, _+_, _*_, _-_, _/_, _%_, _^_, _<_, _≤_, zero-le}
-use mathlib.Core.Path.{_≡_, refl, sym, ap, _∙_, subst, subst⁻¹}
+use Prim.Native.Nat.{ℕ, zero, suc, _+_, _*_, _-_, _%_, _^_, _<_, _≤_, zero-le}
+use mathlib.Core.Path.{_≡_, refl, ap, _∙_, subst, subst⁻¹}
 use mathlib.Core.Bool.{Bool, true, false, not, cond}
-use mathlib.Core.Logic.{_⊎_, inl, inr, ⊎-elim}
-use mathlib.Core.List.{List, [], _∷_}
+use mathlib.Core.Logic.{_⊎_, _≢_, inl, inr, ⊎-elim}
+use mathlib.Core.List.{List}
 use native.Mathlib.Omega.{arith}
 use native.Mathlib.Nat.{not-suc-le-zero, mul-le-mul, div-lt-iff-lt-mul, mod-eq-of-lt}
 use lib.Dec.{T, leb, ltb, eqb, lit<, lit≤, leb→le, ltb→lt, eqb→eq}
-use lib.ListN.{length, take, drop, getD}
-use borrow.Author.Tests.{ltb-true, lt-ltb, le-ltb, eq-eqb}
+use lib.ListN.{length, getD}
+use borrow.Author.Tests.{ltb-true, lt-ltb, le-ltb, eq-eqb, ne-eqb}
 use Rattle.reading.specs.declared.Refusal.{Refusal}
 use Rattle.reading.specs.declared.Refusal.the-variants.{CutShort, Malformed, Unsupported}
 use Rattle.reading.specs.declared.Case.{Case}
 use Rattle.reading.specs.declared.Case.the-variants.{Marker, Quantizers, Huffman}
 use Rattle.reading.specs.declared.Kind.{Kind}
 use Rattle.reading.specs.declared.Kind.the-variants.{Quants, Tables, Frames, Scans, Intervals, Skips, Others}
 use Rattle.reading.specs.declared.Frame.{Frame}
 use Rattle.reading.specs.declared.Header.{Header}
 use Rattle.reading.specs.declared.Record.{Record}
 use Rattle.reading.specs.Tests.{_and_, _or_, within}
 use Rattle.reading.specs.Layout.{Shape, ceiling, blockCount, outputLength, workOf, channelOf}
 use Rattle.reading.specs.Tables.{shapeIn}
-use Rattle.reading.specs.Header.{Stage, more, done, stop, byte, word, moved, window, each, withQuantizer, withTable, frameKnown, acrossOf, downOf, quantsFit, threeFit, frameOf, frameFits, hasFrame, withFrame, withInterval, shapeOf, dcId, acId, recordOf, selected, kindOf, segment, segmentEnd, stepIn, step, steps, opens, started, opening, header}
+use Rattle.reading.specs.Header.{Stage, more, done, stop, byte, word, moved, window, each, withQuantizer, withTable, frameKnown, acrossOf, downOf, quantsFit, threeFit, frameOf, frameFits, hasFrame, withFrame, withInterval, shapeOf, dcId, acId, recordOf, selected, kindOf, segment, segmentEnd, stepIn, step, opens, started, opening, header}
 use Rattle.reading.proofs.Plain.{and-left, and-right}
-use Rattle.reading.proofs.Stages.{refused-or, chosen-or}
+use Rattle.reading.proofs.Stages.{refused-or, chosen-or, steps-hold}
 use Rattle.reading.proofs.HeaderEnds.{is-so}
 use Rattle.reading.proofs.Places.{count-is, output-is, channel-is}
-use Rattle.reading.proofs.GoodTables.{Ready, header-ready, all-at, Stands, tables-stand}
-use Rattle.reading.proofs.WantOfCode.{AllBytes}
-use Rattle.jpeg_header.specs.Frames.{FrameOk, Framed, frameIn}
-
--- ---- a list of bytes
-
-pub byte-below : (l : List ℕ) → AllBytes l → (i : ℕ) → byte l i < 256
-byte-below [] h i = lit< tt
-byte-below (x ∷ l) h zero = h .0
-byte-below (x ∷ l) h (suc i) = byte-below l (h .1) i
-
-pub word-below : (l : List ℕ) → AllBytes l → (i : ℕ) → word l i < 65536
-word-below l h i = omega (arith, byte-below l h i, byte-below l h (i + 1))
-
-pub all-bytes : (l : List ℕ) → ((i : ℕ) → byte l i < 256) → AllBytes l
-all-bytes [] h = tt
-all-bytes (x ∷ l) h = (h 0, all-bytes l (λ i. h (suc i)))
-
-bytes-take : (n : ℕ) (l : List ℕ) → AllBytes l → AllBytes (take n l)
-bytes-take zero l h = tt
-bytes-take (suc n) [] h = tt
-bytes-take (suc n) (x ∷ l) h = (h .0, bytes-take n l (h .1))
-
-bytes-drop : (n : ℕ) (l : List ℕ) → AllBytes l → AllBytes (drop n l)
-bytes-drop zero l h = h
-bytes-drop (suc n) [] h = tt
-bytes-drop (suc n) (x ∷ l) h = bytes-drop n l (h .1)
-
-window-bytes : (s : List ℕ) (a e : ℕ) → AllBytes s → AllBytes (window s a e)
-window-bytes s a e h = bytes-take (e - a) (drop a s) (bytes-drop a s h)
+use Rattle.reading.proofs.GoodTables.{header-ready, Stands, tables-stand}
+use Rattle.reading.proofs.Fits.{within-known, all-at}
+use Rattle.reading.proofs.FileBytes.{AllBytes, byte-below, word-below, window-bytes}
+use Rattle.reading.proofs.Frames.{FrameOk, Shaped, frameIn}
 
 -- ---- a number for each channel
 
@@ -112,11 +86,27 @@ module _ (b : List ℕ) (y : AllBytes b) (known : T (frameKnown b)) (fits : T (f
 
   factor-fits : (t : Bool) (n : ℕ) → T (within 1 4 n) → (0 < cond t 1 n) × (cond t 1 n ≤ 4)
   factor-fits true n h = (lit< tt, lit≤ tt)
-  factor-fits false n h = (leb→le 1 n (and-left (leb 1 n) _ h), leb→le n 4 (and-right (leb 1 n) _ h))
+  factor-fits false n h = within-known 1 4 n h
 
   product-fits : (t : Bool) → T (t or threeFit b (frameOf b)) → cond t 1 (acrossOf b) * cond t 1 (downOf b) ≤ 4
   product-fits true h = lit≤ tt
   product-fits false h = leb→le (acrossOf b * downOf b) 4 (and-left (leb (acrossOf b * downOf b) 4) _ h)
+
+  -- the ids of three channels
+  ids-apart : byte b 5 ≡ 3 → (getD (frameOf b .ids) 0 0 ≢ getD (frameOf b .ids) 1 0) × (getD (frameOf b .ids) 0 0 ≢ getD (frameOf b .ids) 2 0) × (getD (frameOf b .ids) 1 0 ≢ getD (frameOf b .ids) 2 0)
+  ids-apart e = tests (getD (frameOf b .ids) 0 0) (getD (frameOf b .ids) 1 0) (getD (frameOf b .ids) 2 0) (eqb (byte b 10) 17 and eqb (byte b 13) 17) (and-right (leb (acrossOf b * downOf b) 4) _ three)
+    where
+      three : T (threeFit b (frameOf b))
+      three = subst (λ t. T (t or threeFit b (frameOf b))) (ne-eqb (byte b 5) 1 (λ k. omega (arith, e, k))) (and-right (quantsFit (frameOf b)) _ tables)
+
+      differ : (x y : ℕ) → T (not (eqb x y)) → x ≢ y
+      differ x y t k = subst (λ b. T (not b)) (eq-eqb x y k) t
+
+      tests : (x y z : ℕ) (r : Bool) → T (not (eqb x y) and not (eqb x z) and not (eqb y z) and r) → (x ≢ y) × (x ≢ z) × (y ≢ z)
+      tests x y z r t =
+          let u = and-right (not (eqb x y)) _ t in
+          let v = and-right (not (eqb x z)) _ u in
+          (differ x y (and-left (not (eqb x y)) _ t), differ x z (and-left (not (eqb x z)) _ u), differ y z (and-left (not (eqb y z)) _ v))
 
   pub frame-ok : FrameOk (frameOf b)
   frame-ok =
@@ -131,6 +121,7 @@ module _ (b : List ℕ) (y : AllBytes b) (known : T (frameKnown b)) (fits : T (f
         single = λ e. (ap (λ t. cond t 1 (acrossOf b)) (eq-eqb (byte b 5) 1 e), ap (λ t. cond t 1 (downOf b)) (eq-eqb (byte b 5) 1 e));
         ids = λ c. omega (arith, each-most (byte b 5) 255 (λ k. byte b (6 + 3 * k)) (λ k h. omega (arith, byte-below b y (6 + 3 * k))) c);
         qids = quant-ids;
+        apart = ids-apart;
       }
 
 -- ---- sizes
@@ -175,6 +166,7 @@ pub record Accepted (colour : Bool) (r : Record) : Type 0 where
   pub output : r .output ≡ r .width * r .height * r .channels
   pub work : r .work ≡ 3136 * r .blocks + r .output
   pub choice : r .colour ≡ colour
+  pub interval : r .interval < 65536
 
 module _ (colour : Bool) (r : Record) (a : Accepted colour r) where
   pub blocks-below : r .blocks < 2 ^ 29
@@ -190,8 +182,8 @@ module _ (colour : Bool) (r : Record) (a : Accepted colour r) where
   work-below = omega (arith, a .work, blocks-below, output-below)
 
 module _ (colour : Bool) where
-  found-ok : (b : List ℕ) (h : Header) (e : ℕ) → FrameOk (h .frame) → T (selected b (h .frame .channels)) → Accepted colour (recordOf b colour h e)
-  found-ok b h e ok t =
+  found-ok : (b : List ℕ) (h : Header) (e : ℕ) → FrameOk (h .frame) → h .interval < 65536 → T (selected b (h .frame .channels)) → Accepted colour (recordOf b colour h e)
+  found-ok b h e ok n t =
       record {
         frame = ok;
         dcids = each-most (h .frame .channels) 3 (dcId b) (λ c p. leb→le (dcId b c) 3 (and-left (leb (dcId b c) 3) _ (both c p)));
@@ -201,6 +193,7 @@ module _ (colour : Bool) where
         output = bytes-are (h .frame) ok;
         work = work-is (shapeOf (h .frame));
         choice = refl;
+        interval = n;
       }
     where
       none : (n : ℕ) → n ≡ 0 + n
@@ -209,27 +202,27 @@ module _ (colour : Bool) where
       both : (c : ℕ) → c < h .frame .channels → T (leb (dcId b c) 3 and leb (acId b c) 3)
       both c p = all-at (λ c. leb (dcId b c) 3 and leb (acId b c) 3) (h .frame .channels) 0 t c zero-le (subst (λ n. c < n) (none (h .frame .channels)) p)
 
-  -- what each stage has: a frame that was read is one of the rules, and so is a record
+  -- what each stage has: a frame that was read is one of the rules, an interval has two bytes, and so of a record
   pub data Sound : Stage → Type 0 where
-    on : (h : Header) → Framed h → Sound (more h)
+    on : (h : Header) → Shaped h → Sound (more h)
     met : (r : Record) → Accepted colour r → Sound (done r)
     off : (x : Refusal) → Sound (stop x)
 
-  segment-sound : (h : Header) → Framed h → (k : Kind) (b : List ℕ) → AllBytes b → (a e : ℕ) → Sound (segment colour h k b a e)
+  segment-sound : (h : Header) → Shaped h → (k : Kind) (b : List ℕ) → AllBytes b → (a e : ℕ) → Sound (segment colour h k b a e)
   segment-sound h f Quants b y a e = refused-or Sound off _ _ _ (λ t. on (moved h a (Quantizers e)) f)
   segment-sound h f Tables b y a e = refused-or Sound off _ _ _ (λ t. on (moved h a (Huffman e)) f)
   segment-sound h f Frames b y a e =
       refused-or Sound off _ _ _ (λ t1. refused-or Sound off _ _ _ (λ t2. refused-or Sound off _ _ _ (λ t3. refused-or Sound off _ _ _
-      (λ t4. on (withFrame h e (frameOf b)) (λ _. frame-ok b y (is-so (frameKnown b) t2) (is-so (frameFits b (frameOf b)) t4))))))
+      (λ t4. on (withFrame h e (frameOf b)) ((λ _. frame-ok b y (is-so (frameKnown b) t2) (is-so (frameFits b (frameOf b)) t4)), f .1)))))
   segment-sound h f Scans b y a e =
       refused-or Sound off _ _ _ (λ t1. refused-or Sound off _ _ _ (λ t2. refused-or Sound off _ _ _ (λ t3. refused-or Sound off _ _ _ (λ t4. refused-or Sound off _ _ _
-      (λ t5. met (recordOf b colour h e) (found-ok b h e (f (ltb→lt 0 (h .frame .channels) (is-so (hasFrame h) t1))) (is-so (selected b (h .frame .channels)) t4)))))))
-  segment-sound h f Intervals b y a e = refused-or Sound off _ _ _ (λ t. on (withInterval h e (word b 0)) f)
+      (λ t5. met (recordOf b colour h e) (found-ok b h e (f .0 (ltb→lt 0 (h .frame .channels) (is-so (hasFrame h) t1))) (f .1) (is-so (selected b (h .frame .channels)) t4)))))))
+  segment-sound h f Intervals b y a e = refused-or Sound off _ _ _ (λ t. on (withInterval h e (word b 0)) (f .0, word-below b y 0))
   segment-sound h f Skips b y a e = on (moved h e Marker) f
   segment-sound h f Others b y a e = off Unsupported
 
   module _ (s : List ℕ) (y : AllBytes s) where
-    stepIn-sound : (h : Header) → Framed h → (c : Case) → Sound (stepIn s colour h c)
+    stepIn-sound : (h : Header) → Shaped h → (c : Case) → Sound (stepIn s colour h c)
     stepIn-sound h f Marker =
         refused-or Sound off (ltb (length s) (h .at + 2) or not (eqb (byte s (h .at)) 255)) Malformed _ (λ t1. chosen-or Sound (eqb (byte s (h .at + 1)) 255) _ _ (λ t2. on (moved h (h .at + 1) Marker) f)
         (λ t2. refused-or Sound off (eqb (byte s (h .at + 1)) 217) Malformed _ (λ t3. refused-or Sound off (ltb (length s) (h .at + 4) or ltb (word s (h .at + 2)) 2 or ltb (length s) (segmentEnd s (h .at))) CutShort _
@@ -237,29 +230,22 @@ module _ (colour : Bool) where
     stepIn-sound h f (Quantizers e) = chosen-or Sound (eqb (h .at) e) _ _ (λ t. on (moved h e Marker) f) (λ t. refused-or Sound off _ Malformed _ (λ u. on (withQuantizer (window s (h .at) e) h) f))
     stepIn-sound h f (Huffman e) = chosen-or Sound (eqb (h .at) e) _ _ (λ t. on (moved h e Marker) f) (λ t. refused-or Sound off _ Malformed _ (λ u. on (withTable (window s (h .at) e) h) f))
 
-    pub step-sound : (h : Header) → Framed h → Sound (step s colour h)
+    pub step-sound : (h : Header) → Shaped h → Sound (step s colour h)
     step-sound h f = stepIn-sound h f (h .case)
 
     -- before the first step
-    pub opening-framed : Framed opening
-    opening-framed k = absurd (not-suc-le-zero k)
+    pub opening-shaped : Shaped opening
+    opening-shaped = ((λ k. absurd (not-suc-le-zero k)), lit< tt)
 
-    abbrev ends-sound : Stage → Type 0
-    ends-sound (more h) = Unit {0}
-    ends-sound (done r) = Accepted colour r
-    ends-sound (stop x) = Unit {0}
+    goes-on : (h : Header) → Sound (more h) → Sound (step s colour h)
+    goes-on h (on _ f) = step-sound h f
 
-    steps-sound : (k : ℕ) (st : Stage) → Sound st → ends-sound (steps s colour k st)
-    steps-sound zero st (on h f) = tt
-    steps-sound zero st (met r q) = q
-    steps-sound zero st (off x) = tt
-    steps-sound (suc k) st (on h f) = steps-sound k (step s colour h) (step-sound h f)
-    steps-sound (suc k) st (met r q) = q
-    steps-sound (suc k) st (off x) = tt
+    met-so : (r : Record) → Sound (done r) → Accepted colour r
+    met-so r (met _ q) = q
 
     pub header-accepted : (r : Record) → header s colour ≡ done r → Accepted colour r
     unfolding header
-    header-accepted r e = subst ends-sound e (steps-sound (2 * length s + 1) (started s) (refused-or Sound off (not (opens s)) Malformed (more opening) (λ t. on opening opening-framed)))
+    header-accepted r e = met-so r (subst Sound e (steps-hold s colour Sound goes-on (2 * length s + 1) (started s) (refused-or Sound off (not (opens s)) Malformed (more opening) (λ t. on opening opening-shaped))))
 
 -- ---- the tables of a channel
 

@@ -1,11 +1,11 @@
--- What the rules say of the numbers of a frame that was read.
+-- What the rules say of the numbers of a frame that was read, and of a header's state.
 use Prim.Native.Nat.{ℕ, _*_, _<_, _≤_}
 use mathlib.Core.Path.{_≡_}
-use mathlib.Core.Logic.{_⊎_}
+use mathlib.Core.Logic.{_⊎_, _≢_}
 use lib.ListN.{getD}
 use Rattle.reading.specs.declared.Frame.{Frame}
 use Rattle.reading.specs.declared.Header.{Header}
 use Rattle.reading.specs.declared.Record.{Record}
 
 pub record FrameOk (f : Frame) : Type 0 where
   pub wide : (0 < f .width) × (f .width < 65536)
@@ -19,10 +19,16 @@ pub record FrameOk (f : Frame) : Type 0 where
   pub single : f .channels ≡ 1 → (f .hs ≡ 1) × (f .vs ≡ 1)
   pub ids : (c : ℕ) → getD (f .ids) c 0 < 256
   pub qids : (c : ℕ) → getD (f .qids) c 0 ≤ 3
+  -- in three channels the component ids are apart
+  pub apart : f .channels ≡ 3 → (getD (f .ids) 0 0 ≢ getD (f .ids) 1 0) × (getD (f .ids) 0 0 ≢ getD (f .ids) 2 0) × (getD (f .ids) 1 0 ≢ getD (f .ids) 2 0)
 
 -- where a frame was read, it is such a one
 abbrev pub Framed : Header → Type 0
 Framed h = 0 < h .frame .channels → FrameOk (h .frame)
+
+-- a state of the header: its frame, and a restart interval of two bytes
+abbrev pub Shaped : Header → Type 0
+Shaped h = Framed h × (h .interval < 65536)
 
 -- the frame of a record
 abbrev pub frameIn : Record → Frame

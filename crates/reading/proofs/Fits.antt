@@ -1,0 +1,68 @@
+-- What a test on a segment's body says once it is passed.
+use Prim.Native.Nat.{ℕ, zero, suc, _+_, _/_, _%_, _<_, _≤_}
+use mathlib.Core.Path.{_≡_, refl, sym, _∙_, subst, subst⁻¹}
+use mathlib.Core.Bool.{Bool, true, false}
+use mathlib.Core.List.{List, [], _∷_}
+use lib.Dec.{T, leb, eqb, leb→le, eqb→eq}
+use lib.ListN.{length, getD}
+use native.Mathlib.Omega.{arith}
+use borrow.Author.Tests.{eq-eqb}
+use Rattle.reading.specs.Tests.{_and_, within, allFrom}
+use Rattle.reading.specs.Huffman.{sum, codesFit}
+use Rattle.reading.specs.Header.{byte, each, quantizerFits, countsOf, tableFits, scanKnown}
+use Rattle.reading.proofs.Plain.{and-left, and-right}
+
+pub so : {b : Bool} → b ≡ true → T b
+so e = subst⁻¹ T e tt
+
+pub within-known : (lo hi n : ℕ) → T (within lo hi n) → (lo ≤ n) × (n ≤ hi)
+within-known lo hi n t = (leb→le lo n (and-left (leb lo n) (leb n hi) t), leb→le n hi (and-right (leb lo n) (leb n hi) t))
+
+module _ (b : List ℕ) where
+  pub quantizer-known : T (quantizerFits b) → (65 ≤ length b) × (byte b 0 ≤ 3)
+  quantizer-known t = (leb→le 65 _ (and-left (leb 65 (length b)) _ t), leb→le _ 3 (and-left (leb (byte b 0) 3) _ (and-right (leb 65 (length b)) _ t)))
+
+  pub record TableKnown : Type 0 where
+    pub long : 17 ≤ length b
+    pub class : byte b 0 / 16 ≤ 1
+    pub id : byte b 0 % 16 ≤ 3
+    pub some : (1 ≤ sum (countsOf b)) × (sum (countsOf b) ≤ 256)
+    pub whole : 17 + sum (countsOf b) ≤ length b
+    pub codes : T (codesFit (countsOf b) 0 0)
+
+  pub table-known : T (tableFits b) → TableKnown
+  table-known t =
+      let u = and-right (leb 17 (length b)) _ t in
+      let v = and-right (leb (byte b 0 / 16) 1) _ u in
+      let w = and-right (leb (byte b 0 % 16) 3) _ v in
+      let x = and-right (within 1 256 (sum (countsOf b))) _ w in
+      record {
+        long = leb→le 17 _ (and-left (leb 17 (length b)) _ t);
+        class = leb→le _ 1 (and-left (leb (byte b 0 / 16) 1) _ u);
+        id = leb→le _ 3 (and-left (leb (byte b 0 % 16) 3) _ v);
+        some = within-known 1 256 (sum (countsOf b)) (and-left (within 1 256 (sum (countsOf b))) _ w);
+        whole = leb→le _ _ (and-left (leb (17 + sum (countsOf b)) (length b)) _ x);
+        codes = and-right (leb (17 + sum (countsOf b)) (length b)) _ x;
+      }
+
+  pub scan-few : (ch : ℕ) → T (scanKnown b ch) → byte b 0 ≡ ch
+  scan-few ch t = eqb→eq (byte b 0) ch (and-left (eqb (byte b 0) ch) _ t)
+
+-- three bytes of a body, one for each channel
+pub each-made : (n i j k : ℕ) (f : ℕ → ℕ) → i ≡ f 0 → j ≡ f 1 → k ≡ f 2 → each n (λ c. getD (i ∷ j ∷ k ∷ []) c 0) ≡ each n f
+each-made n i j k f p q r = rw (p, q, r)
+
+-- what a test of n numbers from i on says of one of them
+pub all-at : (p : ℕ → Bool) (n i : ℕ) → T (allFrom n i p) → (c : ℕ) → i ≤ c → c < i + n → T (p c)
+all-at p zero i t c a b = absurd (none-left a b)
+  where
+    none-left : i ≤ c → c < i + 0 → ⊥
+    none-left x y = omega arith
+all-at p (suc n) i t c a b = go (eqb i c) refl (all-at p n (suc i) (and-right (p i) (allFrom n (suc i) p) t) c)
+  where
+    go : (e : Bool) → eqb i c ≡ e → (suc i ≤ c → c < suc i + n → T (p c)) → T (p c)
+    go true q ih = subst (λ k. T (p k)) (eqb→eq i c (subst⁻¹ T q tt)) (and-left (p i) (allFrom n (suc i) p) t)
+    go false q ih = ih (omega (arith, a, apart)) (omega (arith, b))
+      where
+        apart : i ≡ c → ⊥
+        apart r = absurd (subst T (sym (eq-eqb i c r) ∙ q) tt)

@@ -1,0 +1,59 @@
+-- What is answered of a scan, by what was read, and back; and what a scan leaves in the scratch.
+use mathlib.Core.List.{List}
+use mathlib.Core.Path.{_≡_, refl}
+use Prim.Native.Nat.{ℕ, _*_, _<_, _≤_}
+use native.Mathlib.Omega.{arith}
+use lib.ListN.{length}
+use lib.IntN.{ℤ}
+use borrow.Author.Tests.{lt-ltb, le-ltb}
+use Rattle.reading.specs.declared.Bits.{Bits}
+use Rattle.reading.specs.declared.Fault.{Fault}
+use Rattle.reading.specs.declared.Record.{Record}
+use Rattle.reading.specs.declared.ScanRead.{ScanRead}
+use Rattle.reading.specs.declared.ScanRead.the-variants.{Done, Stop}
+use Rattle.reading.specs.Tests.{over}
+use Rattle.reading.specs.Reader.{Read, got, fault}
+use Rattle.reading.specs.Answers.{scanRead}
+use Rattle.reading.specs.Reading.{allSamples, drawn}
+
+-- ---- the answer
+
+pub answer-done : {o : Read Bits (List (List ℤ))} {ls : List (List ℤ)} {b : Bits} → o ≡ got ls b → Done ≡ scanRead o
+unfolding scanRead
+answer-done e = rw e
+
+pub answer-stop : {o : Read Bits (List (List ℤ))} {f : Fault} → o ≡ fault f → Stop f ≡ scanRead o
+unfolding scanRead
+answer-stop e = rw e
+
+-- ---- an answer, back to what was read
+
+pub record Accepted (o : Read Bits (List (List ℤ))) : Type 0 where
+  pub blocks-read : List (List ℤ)
+  pub behind : Bits
+  pub is : o ≡ got blocks-read behind
+
+pub accepted : (o : Read Bits (List (List ℤ))) {x : ScanRead} → x ≡ scanRead o → x ≡ Done → Accepted o
+unfolding scanRead
+accepted (got ls b) e h = record { blocks-read = ls; behind = b; is = refl }
+accepted (fault f) e h = let z : _≡_ {A = ℕ} 0 1 = cc in absurd (omega arith)
+
+pub refused : (o : Read Bits (List (List ℤ))) {x : ScanRead} {f : Fault} → x ≡ scanRead o → x ≡ Stop f → o ≡ fault f
+unfolding scanRead
+refused (got ls b) e h = let z : _≡_ {A = ℕ} 0 1 = cc in absurd (omega arith)
+refused (fault g) e h = cc
+
+-- ---- what a scan is said to leave in the scratch
+
+module _ (s : List ℕ) (r : Record) (old : List ℕ) {o : Read Bits (List (List ℤ))} where
+  pub drawn-stop : {f : Fault} → o ≡ fault f → old ≡ drawn s r o old
+  unfolding drawn
+  drawn-stop e = rw e
+
+  pub drawn-short : Accepted o → length old < 64 * r .blocks → old ≡ drawn s r o old
+  unfolding drawn
+  drawn-short a h = rw (a .is, lt-ltb (length old) (64 * r .blocks) h)
+
+  pub drawn-all : (a : Accepted o) → 64 * r .blocks ≤ length old → over (allSamples s r (a .blocks-read)) old ≡ drawn s r o old
+  unfolding drawn
+  drawn-all a h = rw (a .is, le-ltb (length old) (64 * r .blocks) h)

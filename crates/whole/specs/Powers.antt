@@ -1,0 +1,24 @@
+-- Powers of two as the code meets them: `1 << n` in 64 bits, and a number that takes one bit more. Assumes nothing.
+use Prim.Native.Nat.{ℕ, suc, _+_, _-_, _*_, _%_, _^_, _<_, _≤_}
+use mathlib.Core.Path.{_≡_}
+use native.Mathlib.Omega.{arith}
+use native.Mathlib.Nat.{pow-suc}
+use lib.Pow.{pow-mono}
+
+-- 1 << n
+pub power-is : (n : ℕ) → n ≤ 63 → (1 * 2 ^ n) % 18446744073709551616 ≡ 2 ^ n
+power-is n h =
+    let m : 2 ^ n ≤ 2 ^ 63 = pow-mono {j = 63} h in
+    omega arith
+
+-- of n bits `more` are to come; one of those is read
+pub grown : (n more : ℕ) {v c : ℕ} → 0 < more → more ≤ n → v < 2 ^ (n - more) → c < 2 → 2 * v + c < 2 ^ (n - (more - 1))
+grown n more p le h l =
+    let e : n - (more - 1) ≡ suc (n - more) = omega arith in
+    rw e (omega (arith, pow-suc 2 (n - more)))
+
+-- at most 16 bits make a number below 65536
+pub small : (n more : ℕ) {v : ℕ} → n ≤ 16 → v < 2 ^ (n - more) → v < 65536
+small n more le h =
+    let m : 2 ^ (n - more) ≤ 2 ^ 16 = pow-mono {j = 16} (omega arith) in
+    omega arith
