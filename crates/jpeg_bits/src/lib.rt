@@ -48,14 +48,21 @@ pub fn bit(s: &[u8], b: Bits) -> BitRead
     ensures { λ r. ⌜ bitRead r ≡ one (now (s .entry)) b ⌝ }
 {
     let left = b.left;
+    // One test for nearly every bit.
+    if 0 < left && left <= 8 {
+        let n = left - 1;
+        return BitRead::Got((b.byte >> n) % 2, Bits { left: n, ..b });
+    }
     if left == 0 {
         return fresh(s, b.at);
     }
-    let n = left - 1;
-    if 7 < n {
-        return BitRead::Got(0, Bits { left: n, ..b });
-    }
-    BitRead::Got((b.byte >> n) % 2, Bits { left: n, ..b })
+    BitRead::Got(
+        0,
+        Bits {
+            left: left - 1,
+            ..b
+        },
+    )
 }
 
 // A field of `n` bits, at most 16, one bit after another.

@@ -1,51 +1,83 @@
 // The colour of one pixel: Y, Cb and Cr to red, green and blue, with floor division and clamping to 0..255 (the rules' 'Samples,
 // places, colour'). A chroma sample's difference from 128 is a signed number, and `>> 16` divides by 65536 and rounds down, below 0
-// too. No sum of such bytes leaves ±2^25, so `i32` holds each of them.
+// too. Whole multiples of 65536 pass by the division: so luma is added behind it, and the factors before it fit 16 bits, which makes
+// loops over pixels quick.
 ghost use mathlib.Core.Path.{_≡_};
-ghost use Prim.Native.Nat.{_^_, _≤_};
-ghost use lib.IntN.{pos, natAbs, _+ℤ_, _*ℤ_};
-ghost use lib.Signed.{shrZ};
-ghost use Rattle.reading.specs.Colour.{toByte, chroma, red, green, blue};
+ghost use mathlib.Core.Bool.{cond};
+ghost use Prim.Native.Nat.{_≤_};
+ghost use lib.IntN.{pos, natAbs};
+ghost use lib.Signed.{ltZ};
+ghost use Rattle.reading.specs.Colour.{toByte, red, green, blue};
+ghost use Rattle.jpeg_color.specs.Parts.{redPart, greenPart, bluePart};
 
-// A whole number, clamped to 0..255.
-fn to_byte(v: i32) -> u8
-    ensures { λ r. ⌜ r ≡ toByte v ⌝ }
+// The larger of a number and 0. `to_byte` is this and the next one after the other, and not one choice of three: so loops that clamp are
+// compiled to vector code.
+fn at_least(v: i32) -> i32
+    ensures { λ r. ⌜ r ≡ cond (ltZ v (pos 0)) (pos 0) v ⌝ }
 {
     if v < 0 {
-        0
-    } else if v > 255 {
-        255
-    } else {
-        v as u8
+        return 0;
     }
+    v
 }
 
-// What red and blue share: luma and one chroma sample, by that sample's factor.
-fn with_chroma(y: u8, c: u8, factor: i32) -> u8
-    requires { ⌜ natAbs factor ≤ 2 ^ 17 ⌝ }
-    ensures { λ r. ⌜ r ≡ toByte (shrZ (pos 65536 *ℤ pos y +ℤ factor *ℤ chroma c +ℤ pos 32768) 65536) ⌝ }
+// The smaller of a number and 255.
+fn at_most(v: i32) -> i32
+    ensures { λ r. ⌜ r ≡ cond (ltZ (pos 255) v) (pos 255) v ⌝ }
 {
-    let d = c as i32 - 128;
-    to_byte((65536 * (y as i32) + factor * d + 32768) >> 16)
+    if v > 255 {
+        return 255;
+    }
+    v
+}
+
+// A whole number, clamped to 0..255.
+pub fn to_byte(v: i32) -> u8
+    ensures { λ r. ⌜ r ≡ toByte v ⌝ }
+{
+    at_most(at_least(v)) as u8
+}
+
+// What a chroma sample adds to luma in red: 91881 is 65536 + 26345.
+fn red_part(cr: u8) -> i32
+    ensures { λ r. ⌜ (r ≡ redPart cr) × (natAbs r ≤ 1024) ⌝ }
+{
+    let d = cr as i32 - 128;
+    d + ((26345 * d + 32768) >> 16)
+}
+
+// What both add in green: -46802 is 18734 - 65536. The two products are summed before the one division: rounded apart they would give
+// another green.
+fn green_part(cb: u8, cr: u8) -> i32
+    ensures { λ r. ⌜ (r ≡ greenPart cb cr) × (natAbs r ≤ 1024) ⌝ }
+{
+    let b = cb as i32 - 128;
+    let d = cr as i32 - 128;
+    -d + ((18734 * d - 22554 * b + 32768) >> 16)
+}
+
+// What a chroma sample adds in blue: 116130 is 2 x 65536 - 14942.
+fn blue_part(cb: u8) -> i32
+    ensures { λ r. ⌜ (r ≡ bluePart cb) × (natAbs r ≤ 1024) ⌝ }
+{
+    let d = cb as i32 - 128;
+    2 * d + ((32768 - 14942 * d) >> 16)
 }
 
 pub fn red(y: u8, cr: u8) -> u8
     ensures { λ r. ⌜ r ≡ red y cr ⌝ }
 {
-    with_chroma(y, cr, 91881)
+    to_byte(y as i32 + red_part(cr))
 }
 
-// The two products are summed before the one division: rounded apart they would give another green.
 pub fn green(y: u8, cb: u8, cr: u8) -> u8
     ensures { λ r. ⌜ r ≡ green y cb cr ⌝ }
 {
-    let b = cb as i32 - 128;
-    let d = cr as i32 - 128;
-    to_byte((65536 * (y as i32) - 22554 * b - 46802 * d + 32768) >> 16)
+    to_byte(y as i32 + green_part(cb, cr))
 }
 
 pub fn blue(y: u8, cb: u8) -> u8
     ensures { λ r. ⌜ r ≡ blue y cb ⌝ }
 {
-    with_chroma(y, cb, 116130)
+    to_byte(y as i32 + blue_part(cb))
 }

@@ -1,53 +1,40 @@
--- `jpeg_color::green` meets its contract: each operation fits, the shift rounds down, `to_byte` clamps. Assumes nothing.
-use mathlib.Core.Path.{_∙_, ap}
+-- `jpeg_color::green` meets its contract: luma passes by the division. Assumes nothing.
+use mathlib.Core.Path.{_≡_, sym, _∙_, ap}
 use mathlib.Core.List.{List, [], _∷_}
+use Prim.Native.Nat.{ℕ}
 use borrow.Author.Needs.{needs}
-use lib.IntN.{ℤ, pos}
-use Rattle.whole.specs.Expressions.{Exp, var, lit, add, sub, mul, Under, under-nil}
-use Rattle.reading.specs.Colour.{toByte, green}
-use Rattle.jpeg_color.proofs.Sums.{byte-cons, ok, plus, down}
+use lib.IntN.{ℤ, pos, negℤ, _+ℤ_, _*ℤ_, +ℤ-assoc}
+use lib.Signed.{shrZ}
+use Rattle.whole.specs.Expressions.{Exp, var, add, Under, under-nil, under-cons}
+use Rattle.reading.specs.Colour.{toByte, chroma, green}
+use Rattle.jpeg_color.specs.Parts.{greenPart}
+use Rattle.jpeg_color.proofs.Sums.{byte-cons, ok, read, passes}
 use Rattle.jpeg_color.proofs.green.Statement.{statement}
 use Rattle.jpeg_color.proofs.green.Tie as tie
 
-abbrev B : Exp
-B = sub (var 1) (lit 128)
-
-abbrev D : Exp
-D = sub (var 2) (lit 128)
-
-abbrev S1 : Exp
-S1 = sub (mul (lit 65536) (var 0)) (mul (lit 22554) B)
-
-abbrev S2 : Exp
-S2 = sub S1 (mul (lit 46802) D)
+law : (y cb cr : ℕ) → toByte (pos y +ℤ greenPart cb cr) ≡ green y cb cr
+unfolding green greenPart
+law y cb cr =
+    let x = pos 65536 *ℤ pos y in
+    let b = negℤ (pos 22554 *ℤ chroma cb) in
+    let d = negℤ (pos 46802 *ℤ chroma cr) in
+    ap toByte (sym (passes (pos y) (b +ℤ d +ℤ pos 32768))
+    ∙ ap (λ z. shrZ z 65536) (sym (+ℤ-assoc x (b +ℤ d) (pos 32768)) ∙ ap (λ z. z +ℤ pos 32768) (sym (+ℤ-assoc x b d))))
 
 abbrev S : Exp
-S = add S2 (lit 32768)
+S = add (var 0) (var 1)
 
-abbrev inputs : tie.Start → List ℤ
-inputs s = pos (s .args .y) ∷ pos (s .args .cb) ∷ pos (s .args .cr) ∷ []
+abbrev inputs : tie.After-green-part → List ℤ
+inputs c = pos (c .before .args .y) ∷ c .green-part .result ∷ []
 
-small : (s : tie.Start) → Under (255 ∷ 255 ∷ 255 ∷ []) (inputs s)
-small s = byte-cons (s .args .y) (s .fits .y) (byte-cons (s .args .cb) (s .fits .cb) (byte-cons (s .args .cr) (s .fits .cr) under-nil))
+small : (c : tie.After-green-part) → Under (255 ∷ 1024 ∷ []) (inputs c)
+small c = byte-cons (c .before .args .y) (c .before .fits .y) (under-cons 1024 (c .green-part .result) (c .green-part .ensures .1) (under-nil {bs = []}))
 
 returns : tie.Need-returns
-unfolding green
-returns c = c .to-byte .ensures ∙ ap toByte (down (small (c .before)) S tt)
+returns c =
+    let s = c .before .before in
+    c .to-byte .ensures ∙ ap toByte (read (small (c .before)) S tt ∙ ap (λ z. pos (s .args .y) +ℤ z) (c .before .green-part .ensures .0)) ∙ law (s .args .y) (s .args .cb) (s .args .cr)
 
 pub green-spec : {M : Type 1} → statement M
 green-spec =
-    tie.close
-    (tie.spec
-    (λ c. search needs)
-    (λ c. ok (small c) B tt)
-    (λ c. search needs)
-    (λ c. ok (small c) D tt)
-    (λ c. search needs)
-    (λ c. ok (small c) (mul (lit 65536) (var 0)) tt)
-    (λ c. ok (small c) (mul (lit 22554) B) tt)
-    (λ c. ok (small c) S1 tt)
-    (λ c. ok (small c) (mul (lit 46802) D) tt)
-    (λ c. ok (small c) S2 tt)
-    (λ c. plus (small c) S2 tt _ tt)
-    (λ c κs. search needs)
-    returns)
+    tie.close (tie.spec (λ c. search needs) (λ c κs. search needs) (λ c. ok (small c) S tt) (λ c κs. search needs) returns)
