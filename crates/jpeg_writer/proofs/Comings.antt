@@ -21,7 +21,7 @@ use Rattle.reading.specs.Layout.{channelOf, dueBefore, restartBefore, restartDu
 use Rattle.reading.specs.Answers.{said, levelsOf}
 use Rattle.reading.specs.Scan as scan
 use Rattle.reading.specs.Settled.{Written, Coded, onto, cut, blockBits, predictors, written}
-use Rattle.jpeg_block.proofs.Answered.{Taken, told}
+use Rattle.reading.proofs.BlockAnswers.{Taken, told}
 use Rattle.jpeg_scan.specs.declared.Plan.{Plan}
 use Rattle.jpeg_scan.specs.declared.Halt.{Halt}
 use Rattle.jpeg_scan.specs.declared.Halt.the-variants.{No, Yes}

@@ -27,7 +27,7 @@ use Rattle.jpeg_scan.specs.Steps.{ahead}
 use Rattle.jpeg_scan.specs.Plans.{planIn}
 use Rattle.jpeg_scan.proofs.Standing.{Ready}
 use Rattle.jpeg_scan.proofs.Ends.{scan-stop, scan-done, scan-open}
-use Rattle.jpeg_scan.proofs.Counted.{scan-levels}
+use Rattle.reading.proofs.Counted.{scan-levels}
 use Rattle.jpeg_writer.specs.declared.Outcome.the-variants.{Done}
 use Rattle.jpeg_writer.specs.Page.{Spot, spot, bytesAt, page, fresh}
 use Rattle.jpeg_writer.specs.Join.{scanAt}
