@@ -69,13 +69,13 @@ enum-known-b : tie.Need-enum-known-b Inv-walk μ-walk
 enum-known-b c = search needs
 
 put-on-requires : tie.Need-put-on-requires Inv-walk μ-walk
-put-on-requires c κs = (c .before .before .before .before .before .before .before .before .before .before .before .before .before .before .walk .inv .fit, few-channels (c .before .before .before .before .before .before .before .before .before), c .before .before .before .before .before .before .before .before .before .before .before .before .before .before .before .before .before .before .before .before .before .before .pre .1 .size)
+put-on-requires c κs = (c .before .before .before .before .before .before .before .before .before .before .before .before .before .before .walk .inv .fit, omega (arith, few-channels (c .before .before .before .before .before .before .before .before .before)), c .before .before .before .before .before .before .before .before .before .before .before .before .before .before .before .before .before .before .before .before .before .before .pre .1 .size)
 
 mul-predictors : tie.Need-mul-predictors Inv-walk μ-walk
 mul-predictors c = omega (arith, few-channels (c .before .before .before .before .before .before .before .before .before .before .before .before))
 
 array-set-from-predictors : tie.Need-array-set-from-predictors Inv-walk μ-walk
-array-set-from-predictors c = few-channels (c .before .before .before .before .before .before .before .before .before .before .before .before)
+array-set-from-predictors c = omega (arith, few-channels (c .before .before .before .before .before .before .before .before .before .before .before .before))
 
 blocks-limit : (c : tie.Start Inv-walk μ-walk) → c .args .plan .blocks < 2 ^ 64
 blocks-limit c = omega (arith, c .good .1 .0 .1 .1 .1 .1 .1 .1 .1 .0)

@@ -61,7 +61,7 @@ enum-known-n c = search needs
 returns-3 : tie.Need-returns-3
 returns-3 c =
     let e = measured-settled (set-up (c .before .before .before .before .before .before .before .before .before .before .before)) (few (c .before .before .before .before .before .before .before .before .before .before .before .before .before .before)) (c .before .before .before .before .measure .ensures) in
-    (sym (c .before .before .n .given .1) ∙ e, stays-short (settledOf (c .before .before .before .before .before .before .before .before .before .before .before .before .before .before .before .before .before .before .args .s .now) (c .before .before .before .before .before .before .before .before .before .before .before .before .before .before .before .before .before .before .args .found)) (c .before .before .before .before .before .before .before .before .before .before .before .before .before .before .before .before .before .before .args .out .now) e (c .before .before .n .given .1) (c .if3 .taken))
+    (sym (c .before .before .n .given .1) ∙ e, stays-short (settledOf (c .before .before .before .before .before .before .before .before .before .before .before .before .before .before .before .before .before .before .args .s .now) (c .before .before .before .before .before .before .before .before .before .before .before .before .before .before .before .before .before .before .args .found)) (c .before .before .before .before .before .before .before .before .before .before .before .before .before .before .before .before .before .before .args .out .now) e (c .before .before .n .given .1) (omega (arith, c .if3 .taken)))
 
 slice-aggregate-run : tie.Need-slice-aggregate-run
 slice-aggregate-run c = search needs
@@ -86,7 +86,7 @@ returns-6 : tie.Need-returns-6
 returns-6 c =
     let e = measured-settled (set-up (c .before .before .before .before .before .before .before .before .before .before .before .before .before .before .before .before)) (few (c .before .before .before .before .before .before .before .before .before .before .before .before .before .before .before .before .before .before .before)) (c .before .before .before .before .before .before .before .before .before .measure .ensures) in
     let a = passed-settled (set-up (c .before .before .before .before .before .before .before .before .before .before .before .before .before .before .before .before)) (few (c .before .before .before .before .before .before .before .before .before .before .before .before .before .before .before .before .before .before .before)) (c .before .before .run .ensures) in
-    (a .says, writes-all (settledOf (c .before .before .before .before .before .before .before .before .before .before .before .before .before .before .before .before .before .before .before .before .before .before .before .args .s .now) (c .before .before .before .before .before .before .before .before .before .before .before .before .before .before .before .before .before .before .before .before .before .before .before .args .found)) (c .before .before .before .before .before .before .before .before .before .before .before .before .before .before .before .before .before .before .before .before .before .before .before .args .out .now) e (c .before .before .before .before .before .before .before .n .given .1) (c .before .before .before .before .before .if3 .left) a)
+    (a .says, writes-all (settledOf (c .before .before .before .before .before .before .before .before .before .before .before .before .before .before .before .before .before .before .before .before .before .before .before .args .s .now) (c .before .before .before .before .before .before .before .before .before .before .before .before .before .before .before .before .before .before .before .before .before .before .before .args .found)) (c .before .before .before .before .before .before .before .before .before .before .before .before .before .before .before .before .before .before .before .before .before .before .before .args .out .now) e (c .before .before .before .before .before .before .before .n .given .1) (omega (arith, c .before .before .before .before .before .if3 .left)) a)
 
 pub settled-spec : {M : Type 1} → statement M
 settled-spec =
