@@ -1,21 +1,19 @@
--- Padding and markers: what the tests of the code say of them, the end of a scan, and the restart before an MCU.
+-- Markers: what the tests of the code say of them, the end of a scan, and the restart before an MCU.
 use mathlib.Core.List.{List}
 use mathlib.Core.Path.{_≡_, refl, sym, _∙_, ap}
 use mathlib.Core.Bool.{Bool, true, false, true≢false}
-use Prim.Native.Nat.{ℕ, _+_, _-_, _/_, _%_, _^_, _<_, _≤_}
-use native.Mathlib.Nat.{mod-eq-of-lt, div-eq-of-lt, div-zero, le-div-iff-mul-le}
+use Prim.Native.Nat.{ℕ, _+_, _-_, _<_, _≤_}
 use native.Mathlib.Omega.{arith}
-use lib.Pow.{pow-mono}
 use lib.Dec.{ltb, eqb}
 use lib.ListN.{length, getD}
-use borrow.Author.Tests.{lt-ltb, le-ltb, eq-eqb, ne-eqb, ltb-true, ltb-false, eqb-true, eqb-false}
+use borrow.Author.Tests.{eq-eqb, ne-eqb, ltb-true, ltb-false, eqb-true, eqb-false}
 use Rattle.reading.specs.declared.Bits.{Bits}
 use Rattle.reading.specs.declared.Fault.the-variants.{Broken}
 use Rattle.reading.specs.declared.ScanCursor.{ScanCursor}
 use Rattle.reading.specs.Tests.{_and_, isAt}
 use Rattle.reading.specs.Bits.{padded, ended}
 use Rattle.reading.specs.Layout.{dueBefore, restartBefore}
-use Rattle.reading.proofs.FileBytes.{element-in, element-out}
+use Rattle.reading.proofs.Restarts.{is-at, is-out}
 use Rattle.jpeg_scan.specs.declared.Halt.the-variants.{Yes}
 use Rattle.jpeg_scan.specs.Steps.{marked, onTo, behindMarker, restarted}
 
@@ -27,25 +25,7 @@ same-test a b c d f g = go (eqb a b) refl
     go true e = e ∙ sym (eq-eqb c d (f (eqb-true a b e)))
     go false e = e ∙ sym (ne-eqb c d (λ (h : c ≡ d). eqb-false a b e (g h)))
 
--- ---- padding
-
--- more unread bits than a byte has are never all ones
-pub padded-over : (byte left : ℕ) → 8 < left → byte < 256 → false ≡ padded (record { at = 0; byte = byte; left = left })
-padded-over byte left h i =
-    let p : 2 ^ 9 ≤ 2 ^ left = pow-mono {i = 9} h in
-    let z : byte % 2 ^ left ≡ byte = mod-eq-of-lt (omega arith) in
-    sym (ne-eqb _ _ (λ (e : byte % 2 ^ left ≡ 2 ^ left - 1). let y : ⊥ = omega arith in y))
-
-pub padded-is : (byte left p : ℕ) → p ≡ 2 ^ left → eqb (byte % p) (p - 1) ≡ padded (record { at = 0; byte = byte; left = left })
-padded-is byte left p e = rw e
-
 -- ---- a marker
-
-is-at : (s : List ℕ) (i x : ℕ) → i < length s → isAt s i x ≡ eqb (getD s i 0) x
-is-at s i x h = rw (element-in s i h)
-
-is-out : (s : List ℕ) (i x : ℕ) → length s ≤ i → isAt s i x ≡ false
-is-out s i x h = rw (element-out s i h)
 
 module _ (s : List ℕ) (b : Bits) (code : ℕ) where
   pub marked-bare : padded b ≡ false → false ≡ marked s b code
@@ -103,26 +83,6 @@ ended-is s b e =
     ∙ sym (end-is s b ∙ ap (λ (t : Bool). t and eqb (b .at + 2) (length s)) e)
 
 -- ---- the restart before MCU m
-
-module _ (interval m : ℕ) where
-  pub due-first : m ≡ 0 → false ≡ dueBefore interval m
-  due-first e = rw (le-ltb 0 m (omega arith))
-
-  module _ (h : m ≡ 0 → ⊥) where
-    pub due-none : interval ≡ 0 → false ≡ dueBefore interval m
-    due-none e = rw (lt-ltb 0 m (omega arith), le-ltb 0 interval (omega arith))
-
-    pub due-is : (interval ≡ 0 → ⊥) → eqb (m % interval) 0 ≡ dueBefore interval m
-    due-is i = rw (lt-ltb 0 m (omega arith), lt-ltb 0 interval (omega arith))
-
-  pub code-early : m < interval → 208 ≡ restartBefore interval m
-  code-early h = ap (λ (k : ℕ). 208 + (k - 1) % 8) (sym (div-eq-of-lt h))
-
-  pub code-none : interval ≡ 0 → 208 ≡ restartBefore interval m
-  code-none e = rw (e, div-zero)
-
-  pub code-some : interval ≤ m → (interval ≡ 0 → ⊥) → 1 ≤ m / interval
-  code-some h i = le-div-iff-mul-le {k = interval} {x = 1} {y = m} (omega arith) .1 (omega arith)
 
 module _ (s : List ℕ) (interval m : ℕ) (q : ScanCursor) where
   pub restart-not : dueBefore interval m ≡ false → onTo q ≡ restarted s interval m q

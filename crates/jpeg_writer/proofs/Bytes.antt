@@ -4,15 +4,14 @@ use mathlib.Core.Path.{_≡_, refl, sym, ap, _∙_}
 use mathlib.Core.Bool.{Bool, true, false}
 use mathlib.Core.List.{List, [], _∷_, _++_}
 use native.Mathlib.Omega.{arith}
-use native.Mathlib.Nat.{not-suc-le-zero, mul-comm, mul-assoc, add-mul, suc-mul, add-assoc, add-zero, add-suc, mod-lt, mul-le-mul, le-refl, le-trans}
-use lib.Dec.{eqb, lit<}
-use lib.Arith.{mod-mul}
+use native.Mathlib.Nat.{not-suc-le-zero, mul-assoc, suc-mul, add-zero, add-suc, mod-lt, mul-le-mul, le-refl, le-trans}
+use lib.Dec.{eqb}
 use lib.Pow.{pow-pos, pow-add, shr-shr}
 use lib.ListN.{length, set}
 use lib.Seq.{set-out}
 use borrow.Author.Tests.{eq-eqb, ne-eqb, lt-ltb, le-ltb}
 use Rattle.reading.specs.Huffman.{bitsOf}
-use Rattle.reading.proofs.Plain.{twice-pow}
+pub use Rattle.whole.specs.Powers.{one-more}
 use Rattle.jpeg_writer.specs.declared.Pen.{Pen}
 use Rattle.jpeg_writer.specs.Page.{Spot, spot, byteAt, stuffedAt, Page, page, fresh, paged, spotOf, putNext, putFrom, putAll, Proper, Grown}
 
@@ -59,16 +58,6 @@ unfolding putAll putFrom
 all-none q = refl
 
 -- ---- several bits at once
-
-digit : (acc d p r : ℕ) → (2 * acc + d) * p + r ≡ acc * (2 * p) + (d * p + r)
-digit acc d p r = rw (add-mul (2 * acc) d p, mul-comm 2 acc, mul-assoc acc 2 p, add-assoc (acc * (2 * p)) (d * p) r) refl
-
--- a bit more of x, before the low n
-pub one-more : (n v x : ℕ) → (2 * v + x / 2 ^ n % 2) * 2 ^ n + x % 2 ^ n ≡ v * 2 ^ suc n + x % 2 ^ suc n
-one-more n v x = digit v (x / 2 ^ n % 2) (2 ^ n) (x % 2 ^ n) ∙ sym eq
-  where
-    eq : v * 2 ^ suc n + x % 2 ^ suc n ≡ v * (2 * 2 ^ n) + (x / 2 ^ n % 2 * 2 ^ n + x % 2 ^ n)
-    eq = rw (twice-pow n, mod-mul x (lit< tt) (pow-pos n)) refl
 
 -- fewer bits than are missing
 from-part : (n x : ℕ) (s : Spot) (v m : ℕ) → n < m → putFrom (bitsOf n x) s v m ≡ paged s (v * 2 ^ n + x % 2 ^ n) (m - n)

@@ -1,6 +1,7 @@
 pub mod Places
 pub mod SamplePlaces
 pub mod FileBytes
+pub mod Restarts
 pub mod Equal
 pub mod DoubleSum
 pub mod Inside

@@ -1,9 +1,11 @@
 -- Powers of two as the code meets them: `1 << n` in 64 bits, and a number that takes one bit more. Assumes nothing.
-use Prim.Native.Nat.{ℕ, suc, _+_, _-_, _*_, _%_, _^_, _<_, _≤_}
-use mathlib.Core.Path.{_≡_}
+use Prim.Native.Nat.{ℕ, suc, _+_, _-_, _*_, _/_, _%_, _^_, _<_, _≤_}
+use mathlib.Core.Path.{_≡_, refl, sym, _∙_}
 use native.Mathlib.Omega.{arith}
-use native.Mathlib.Nat.{pow-suc}
-use lib.Pow.{pow-mono}
+use native.Mathlib.Nat.{pow-suc, mul-comm, mul-assoc, add-mul, add-assoc}
+use lib.Dec.{lit<}
+use lib.Arith.{mod-mul}
+use lib.Pow.{pow-mono, pow-pos}
 
 -- 1 << n
 pub power-is : (n : ℕ) → n ≤ 63 → (1 * 2 ^ n) % 18446744073709551616 ≡ 2 ^ n
@@ -22,3 +24,16 @@ pub small : (n more : ℕ) {v : ℕ} → n ≤ 16 → v < 2 ^ (n - more) → v <
 small n more le h =
     let m : 2 ^ (n - more) ≤ 2 ^ 16 = pow-mono {j = 16} (omega arith) in
     omega arith
+
+pub twice-pow : (n : ℕ) → 2 ^ suc n ≡ 2 * 2 ^ n
+twice-pow n = pow-suc 2 n ∙ mul-comm (2 ^ n) 2
+
+digit : (acc d p r : ℕ) → (2 * acc + d) * p + r ≡ acc * (2 * p) + (d * p + r)
+digit acc d p r = rw (add-mul (2 * acc) d p, mul-comm 2 acc, mul-assoc acc 2 p, add-assoc (acc * (2 * p)) (d * p) r) refl
+
+-- v and then the low n + 1 bits of x: one bit of x behind v, and then the low n
+pub one-more : (n v x : ℕ) → (2 * v + x / 2 ^ n % 2) * 2 ^ n + x % 2 ^ n ≡ v * 2 ^ suc n + x % 2 ^ suc n
+one-more n v x = digit v (x / 2 ^ n % 2) (2 ^ n) (x % 2 ^ n) ∙ sym eq
+  where
+    eq : v * 2 ^ suc n + x % 2 ^ suc n ≡ v * (2 * 2 ^ n) + (x / 2 ^ n % 2 * 2 ^ n + x % 2 ^ n)
+    eq = rw (twice-pow n, mod-mul x (lit< tt) (pow-pos n)) refl

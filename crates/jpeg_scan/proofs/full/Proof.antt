@@ -4,7 +4,7 @@ use native.Mathlib.Nat.{le-trans}
 use lib.Dec.{lit≤}
 use lib.Pow.{pow-pos}
 use Rattle.whole.specs.Powers.{power-is}
-use Rattle.jpeg_scan.proofs.Marks.{padded-over, padded-is}
+use Rattle.reading.proofs.Restarts.{padded-over, padded-is}
 use borrow.Author.Needs.{needs}
 use Rattle.jpeg_scan.proofs.full.Statement.{statement}
 use Rattle.jpeg_scan.proofs.full.Tie as tie

@@ -1,4 +1,4 @@
-use Rattle.jpeg_scan.proofs.Marks.{code-early, code-none, code-some}
+use Rattle.reading.proofs.Restarts.{code-early, code-none, code-some}
 use borrow.Author.Needs.{needs}
 use Rattle.jpeg_scan.proofs.restart_code.Statement.{statement}
 use Rattle.jpeg_scan.proofs.restart_code.Tie as tie

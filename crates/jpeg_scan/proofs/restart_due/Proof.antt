@@ -1,4 +1,4 @@
-use Rattle.jpeg_scan.proofs.Marks.{due-first, due-none, due-is}
+use Rattle.reading.proofs.Restarts.{due-first, due-none, due-is}
 use borrow.Author.Needs.{needs}
 use Rattle.jpeg_scan.proofs.restart_due.Statement.{statement}
 use Rattle.jpeg_scan.proofs.restart_due.Tie as tie
