@@ -1,7 +1,9 @@
 -- Laws of the calls and of rendering.
 pub mod Chain
 pub mod Facts
+pub mod Admitted
 pub mod Inspected
+pub mod Refiled
 pub mod Decodes
 pub mod Draws
 pub mod Drawing
