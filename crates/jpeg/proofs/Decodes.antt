@@ -4,7 +4,7 @@ use mathlib.Core.Bool.{Bool, true, false, cond}
 use mathlib.Core.List.{List}
 use Prim.Native.Nat.{ℕ, _+_, _*_, _-_, _<_, _≤_}
 use native.Mathlib.Omega.{arith}
-use borrow.Author.Tests.{lt-ltb, le-ltb}
+use borrow.Author.Tests.{lt-ltb, le-ltb, ltb-false}
 use lib.Dec.{T, ltb}
 use lib.IntN.{ℤ}
 use lib.ListN.{length}
@@ -22,21 +22,19 @@ use Rattle.reading.specs.Scan.{levels}
 use Rattle.reading.specs.Reading.{Reading, accepted, refused, scanned, readFrom, reading, allSamples}
 use Rattle.reading.specs.Calls.{headerPrice, remaining, same, Decoded, undecoded, decodedWith, decodedFrom, decode}
 use Rattle.reading.proofs.Equal.{records-equal}
+use Rattle.reading.proofs.HeaderEnds.{or-left, or-right}
 use Rattle.jpeg.specs.Steps.{drawnAs}
-use Rattle.jpeg.proofs.Inspected.{isRefused}
+use Rattle.jpeg.proofs.Admitted.{isRefused}
 
 module _ (s : List ℕ) (r : Record) (out scratch : List ℕ) (budget : Budget) where
   abbrev pub short : Bool
   short = ltb (length out) (r .output) or ltb (length scratch) (r .scratch)
 
-  pub short-out : length out < r .output → short ≡ true
-  short-out h = rw (lt-ltb (length out) (r .output) h) refl
+  pub roomy-out : short ≡ false → r .output ≤ length out
+  roomy-out e = ltb-false (length out) (r .output) (or-left (ltb (length out) (r .output)) (ltb (length scratch) (r .scratch)) e)
 
-  pub short-scratch : r .output ≤ length out → length scratch < r .scratch → short ≡ true
-  short-scratch h k = rw (le-ltb (length out) (r .output) h, lt-ltb (length scratch) (r .scratch) k) refl
-
-  pub roomy : r .output ≤ length out → r .scratch ≤ length scratch → short ≡ false
-  roomy h k = rw (le-ltb (length out) (r .output) h, le-ltb (length scratch) (r .scratch) k) refl
+  pub roomy-scratch : short ≡ false → r .scratch ≤ length scratch
+  roomy-scratch e = ltb-false (length scratch) (r .scratch) (or-right (ltb (length out) (r .output)) (ltb (length scratch) (r .scratch)) e)
 
   pub decode-room : short ≡ true → undecoded ShortRoom budget out scratch ≡ decode s r out scratch budget
   unfolding decode

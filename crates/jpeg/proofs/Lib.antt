@@ -1,6 +1,8 @@
 -- Laws of the calls and of rendering.
 pub mod Chain
+pub mod Admitted
 pub mod Inspected
+pub mod Refiled
 pub mod Decodes
 pub mod Draws
 pub mod Drawing

@@ -1,35 +1,56 @@
--- The calls behind the header, as the code has them: a record is weighed against limits and budget before its scan is read, and
--- compared before it is drawn.
+-- The calls in the parts that the code has: what inspect and settle test before the scan is read; a record that is compared before it
+-- is drawn; a scan that is settled before its head is copied.
 use mathlib.Core.Bool.{Bool, true, false, cond}
-use mathlib.Core.List.{List}
-use Prim.Native.Nat.{ℕ}
-use lib.Dec.{ltb}
-use lib.IntN.{ℤ}
+use mathlib.Core.List.{List, _++_}
+use mathlib.Core.Option.{Option}
+use Prim.Native.Nat.{ℕ, _+_, _^_}
+use lib.Dec.{leb, ltb}
+use lib.ListN.{length, take, drop}
 use Rattle.reading.specs.declared.Bits.{Bits}
 use Rattle.reading.specs.declared.Budget.{Budget}
 use Rattle.reading.specs.declared.Decoding.{Decoding}
 use Rattle.reading.specs.declared.Inspection.{Inspection}
 use Rattle.reading.specs.declared.Limits.{Limits}
 use Rattle.reading.specs.declared.Record.{Record}
-use Rattle.reading.specs.declared.Refusal.the-variants.{OverBudget, TooLarge, Scan}
+use Rattle.reading.specs.declared.Refusal.the-variants.{TooLong, OverBudget, CutShort, TooLarge, ShortRoom, Scan}
+use Rattle.reading.specs.declared.Settling.{Settling}
+use Rattle.reading.specs.declared.Verdict.the-variants.{Accepted}
+use Rattle.reading.specs.Tests.{_or_}
 use Rattle.reading.specs.Reader.{Read, got, fault}
+use Rattle.reading.specs.Header.{Stage, more, done, stop, header}
 use Rattle.reading.specs.Scan.{levels}
 use Rattle.reading.specs.Reading.{scanned, allSamples}
-use Rattle.reading.specs.Calls.{takes, gives, tooLarge, remaining, inspection, Decoded, decodedFrom}
+use Rattle.reading.specs.Settled.{behind, settledOf, laidOver}
+use Rattle.reading.specs.Calls.{headerPrice, gives, tooLarge, remaining, inspection, Decoded, decodedFrom, Rewritten, unsettled, settledInto}
 
--- what a scan's reading makes of a record
-abbrev pub told : Record → Budget → Read Bits (List (List ℤ)) → Inspection
-told r rest (got ls b) = inspection (takes r ls) rest
-told r rest (fault f) = inspection (gives (Scan f)) rest
+-- ---- before the scan
 
--- inspect behind the header: 6, then 2 for work, then the scan
-unfoldable pub weighed : List ℕ → Limits → Budget → Record → Inspection
-unfolding levels
-weighed s l left r =
+-- a record whose price is taken
+abbrev pub admission : Record → Budget → Inspection
+admission r rest = record { verdict = Accepted; budget = rest; found = r }
+
+-- 6, then 2 for work
+unfoldable pub weighed : Limits → Budget → Record → Inspection
+weighed l left r =
     cond (tooLarge l r) (inspection (gives TooLarge) left)
-    (cond (ltb (left .left) (r .work)) (inspection (gives OverBudget) left) (told r (remaining left (r .work)) (levels s r)))
+    (cond (ltb (left .left) (r .work)) (inspection (gives OverBudget) left) (admission r (remaining left (r .work))))
 
--- decode behind the header, which gave the record q
+abbrev pub admittedHeader : Limits → Budget → Stage → Inspection
+admittedHeader l left (more h) = inspection (gives CutShort) left
+admittedHeader l left (done r) = weighed l left r
+admittedHeader l left (stop x) = inspection (gives x) left
+
+-- 1, 2 for the header's price, the header, 6, 2 for work
+unfoldable pub admitted : List ℕ → Bool → Limits → Budget → Inspection
+unfolding header weighed
+admitted s colour l budget =
+    cond (ltb (l .input) (length s) or leb (2 ^ 64) (headerPrice s)) (inspection (gives TooLong) budget)
+    (cond (ltb (budget .left) (headerPrice s)) (inspection (gives OverBudget) budget)
+    (admittedHeader l (remaining budget (headerPrice s)) (header s colour)))
+
+-- ---- decode
+
+-- behind the header, which gave the record q
 unfoldable pub drawnAs : List ℕ → Record → Record → List ℕ → List ℕ → Budget → Decoded
 unfolding levels
 drawnAs s q r out scratch rest = decodedFrom s r out scratch rest (scanned q (levels s q))
@@ -37,3 +58,30 @@ drawnAs s q r out scratch rest = decodedFrom s r out scratch rest (scanned q (le
 -- an answer and the two buffers as they are left
 abbrev pub left : Decoding → List ℕ → List ℕ → Decoded
 left answer out scratch = record { answer = answer; output = out; scratch = scratch }
+
+-- ---- settle
+
+-- an answer and the buffer as it is left
+abbrev pub remade : Settling → List ℕ → Rewritten
+remade answer out = record { answer = answer; output = out }
+
+-- a settled scan laid from its first coded byte on, where the buffer reaches so far
+unfoldable pub scanLaid : ℕ → Read Bits (Option (List ℕ)) → List ℕ → List ℕ
+unfolding laidOver
+scanLaid start t out = cond (ltb (length out) start) out (take start out ++ laidOver t (drop start out))
+
+-- behind a scan of n bytes: 7, or the head before it
+unfoldable pub joined : List ℕ → ℕ → ℕ → Budget → List ℕ → Rewritten
+joined s start n rest out =
+    cond (ltb (length out) (start + n)) (unsettled ShortRoom rest (start + n) out)
+    (remade (record { verdict = Accepted; budget = rest; length = start + n }) (take start s ++ drop start out))
+
+-- what a scan that was read and settled makes of the buffer
+abbrev pub refiledBy : List ℕ → Record → Budget → List ℕ → Read Bits (Option (List ℕ)) → Rewritten
+refiledBy s r rest out (got t b) = settledInto out rest (behind (take (r .start) s) t)
+refiledBy s r rest out (fault f) = unsettled (Scan f) rest 0 out
+
+-- settle behind the tests before the scan, which gave the record r
+unfoldable pub refiled : List ℕ → Record → Budget → List ℕ → Rewritten
+unfolding settledOf
+refiled s r rest out = refiledBy s r rest out (settledOf s r)

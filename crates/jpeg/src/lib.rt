@@ -1,18 +1,17 @@
-// The public calls (the rules' 'Refusal numbers'): inspect and decode, with their prices, limits and refusals in order.
+// The public calls (the rules' 'Refusal numbers'): inspect, decode and settle, with their prices, limits and refusals in order.
 ghost use mathlib.Core.Path.{_≡_};
-ghost use mathlib.Core.Bool.{true};
 ghost use Prim.Native.Nat.{_+_, _*_, _^_, _<_};
 ghost use lib.Dec.{ltb, leb};
 ghost use Rattle.reading.specs.Tests.{_or_};
-ghost use Rattle.reading.specs.Scan.{readable};
 ghost use Rattle.reading.specs.declared.Verdict.the-variants.{Refused};
-ghost use Rattle.reading.specs.Calls.{tooLarge, gives, inspection, inspect, decode};
+ghost use Rattle.reading.specs.Calls.{tooLarge, gives, inspection, inspect, decode, settle};
 ghost use Rattle.jpeg.specs.Meets.{Meets};
-ghost use Rattle.jpeg.specs.Steps.{weighed, drawnAs, left};
+ghost use Rattle.jpeg.specs.Steps.{weighed, admitted, drawnAs, left, remade};
 
 mod equal;
 mod layout;
 mod render;
+mod rewrite;
 
 use reading::Budget;
 use reading::Decoding;
@@ -21,6 +20,7 @@ use reading::Limits;
 use reading::Record;
 use reading::Refusal;
 use reading::ScanRead;
+use reading::Settling;
 use reading::Verdict;
 
 // 2n + 1 does not fit 64 bits. No slice is so long; the test keeps the price whole without that.
@@ -75,10 +75,9 @@ fn refused(x: Refusal, budget: Budget) -> Inspection
     }
 }
 
-// Inspect behind the header: 6, then 2 for work, then the scan.
-fn weigh(s: &[u8], limits: Limits, left: Budget, found: Record) -> Inspection
-    requires { ⌜ readable (now s) found ≡ true ⌝ }
-    ensures { λ r. ⌜ r ≡ weighed (now (s .entry)) limits left found ⌝ }
+// A record against limits and budget: 6, then 2 for work, which is taken where the record is accepted.
+fn weigh(limits: Limits, left: Budget, found: Record) -> Inspection
+    ensures { λ r. ⌜ r ≡ weighed limits left found ⌝ }
 {
     if too_large(limits, found) {
         return refused(Refusal::TooLarge, left);
@@ -88,19 +87,17 @@ fn weigh(s: &[u8], limits: Limits, left: Budget, found: Record) -> Inspection
         return refused(Refusal::OverBudget, left);
     }
     let rest = left.less(work);
-    match jpeg_scan::validate(s, found) {
-        ScanRead::Stop(f) => refused(Refusal::Scan(f), rest),
-        ScanRead::Done => Inspection {
-            verdict: Verdict::Accepted,
-            budget: rest,
-            found: found,
-        },
+    Inspection {
+        verdict: Verdict::Accepted,
+        budget: rest,
+        found: found,
     }
 }
 
-// What a file holds: its record, or the number of the first rule that refuses it. The budget is looked at before the first byte.
-pub fn inspect(s: &[u8], colour: bool, limits: Limits, budget: Budget) -> Inspection
-    ensures { λ r. ⌜ r ≡ inspect (now (s .entry)) colour limits budget ⌝ }
+// What inspect and settle test before the scan is read: 1, 2 for the header, the header, 6, 2 for work. The budget is looked at
+// before the first byte.
+fn admit(s: &[u8], colour: bool, limits: Limits, budget: Budget) -> Inspection
+    ensures { λ r. ⌜ r ≡ admitted (now (s .entry)) colour limits budget ⌝ }
 {
     let n = s.len();
     if too_long(n, limits.input) {
@@ -116,8 +113,39 @@ pub fn inspect(s: &[u8], colour: bool, limits: Limits, budget: Budget) -> Inspec
     let found = head.found;
     match verdict {
         Verdict::Refused(x) => refused(x, left),
-        Verdict::Accepted => weigh(s, limits, left, found),
+        Verdict::Accepted => weigh(limits, left, found),
     }
+}
+
+// What a file holds: its record, or the number of the first rule that refuses it.
+pub fn inspect(s: &[u8], colour: bool, limits: Limits, budget: Budget) -> Inspection
+    ensures { λ r. ⌜ r ≡ inspect (now (s .entry)) colour limits budget ⌝ }
+{
+    let seen = admit(s, colour, limits, budget);
+    let verdict = seen.verdict;
+    let rest = seen.budget;
+    let found = seen.found;
+    match verdict {
+        Verdict::Refused(x) => refused(x, rest),
+        Verdict::Accepted => match jpeg_scan::validate(s, found) {
+            ScanRead::Stop(f) => refused(Refusal::Scan(f), rest),
+            ScanRead::Done => Inspection {
+                verdict: Verdict::Accepted,
+                budget: rest,
+                found: found,
+            },
+        },
+    }
+}
+
+// Number 7 of decode: a record's length fields against the lengths of the buffers.
+fn short_room(output: usize, scratch: usize, found: Record) -> bool
+    ensures { λ r. ⌜ r ≡ (ltb output (found .output) or ltb scratch (found .scratch)) ⌝ }
+{
+    if output < found.output {
+        return true;
+    }
+    scratch < found.scratch
 }
 
 fn undecoded(x: Refusal, budget: Budget) -> Decoding
@@ -168,10 +196,7 @@ pub fn decode(
 ) -> Decoding
     ensures { λ r. ⌜ left r (now (out .exit)) (now (scratch .exit)) ≡ decode (now (s .entry)) found (now (out .entry)) (now (scratch .entry)) budget ⌝ }
 {
-    if out.len() < found.output {
-        return undecoded(Refusal::ShortRoom, budget);
-    }
-    if scratch.len() < found.scratch {
+    if short_room(out.len(), scratch.len(), found) {
         return undecoded(Refusal::ShortRoom, budget);
     }
     let n = s.len();
@@ -194,5 +219,20 @@ pub fn decode(
     match verdict {
         Verdict::Refused(_) => undecoded(Refusal::NotItsRecord, rest),
         Verdict::Accepted => draw(s, read, found, out, scratch, rest),
+    }
+}
+
+// The settled file of a file that inspect would accept: every byte before the first coded one, then the settled scan. For want of a
+// code 9, then 7 where the buffer is too short, with the length that is needed; nothing is written on a refusal.
+pub fn settle(s: &[u8], limits: Limits, budget: Budget, out: &mut [u8]) -> Settling
+    ensures { λ r. ⌜ remade r (now (out .exit)) ≡ settle (now (s .entry)) limits budget (now (out .entry)) ⌝ }
+{
+    let seen = admit(s, false, limits, budget);
+    let verdict = seen.verdict;
+    let rest = seen.budget;
+    let found = seen.found;
+    match verdict {
+        Verdict::Refused(x) => rewrite::unsettled(x, rest, 0),
+        Verdict::Accepted => rewrite::file(s, found, rest, out),
     }
 }

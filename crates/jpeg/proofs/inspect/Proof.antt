@@ -1,94 +1,58 @@
-use mathlib.Core.Path.{_≡_, refl, sym, ap, _∙_}
-use mathlib.Core.Bool.{Bool, false}
-use Prim.Native.Nat.{ℕ, _+_, _*_, _^_, _<_, _≤_}
+use mathlib.Core.Path.{_≡_, ap, _∙_}
+use mathlib.Core.List.{[]}
 use native.Mathlib.Omega.{arith}
+use Rattle.reading.proofs.FileBytes.{all-bytes}
+use Rattle.jpeg.proofs.Admitted.{stops, goes}
+use Rattle.jpeg.proofs.Inspected.{inspect-stops, inspect-fault, inspect-done}
 use borrow.Author.Needs.{needs}
-use borrow.Author.Tests.{leb-false}
-use lib.Dec.{ltb, leb}
-use Rattle.reading.specs.Tests.{_or_}
-use Rattle.reading.specs.Header.{header}
-use Rattle.reading.specs.Calls.{gives, inspection, remaining}
-use Rattle.reading.proofs.HeaderEnds.{or-right}
-use Rattle.reading.proofs.FileBytes.{AllBytes, all-bytes}
-use Rattle.jpeg.specs.Steps.{weighed}
-use Rattle.reading.proofs.States.{header-readable}
-use Rattle.jpeg.proofs.Inspected.{poor, rich, done-found, stop-verdict, inspect-long, inspect-poor, inspect-head, inspect-weighed}
 use Rattle.jpeg.proofs.inspect.Statement.{statement}
 use Rattle.jpeg.proofs.inspect.Tie as tie
 
--- a file that is not too long has a price that fits
-counted : (limit n : ℕ) (t : Bool) → t ≡ (ltb limit n or leb (2 ^ 64) (2 * n + 1)) → t ≡ false → 2 * n + 1 < 2 ^ 64
-counted limit n t e f = leb-false (2 ^ 64) (2 * n + 1) (or-right (ltb limit n) (leb (2 ^ 64) (2 * n + 1)) (sym e ∙ f))
-
-too-long-requires : tie.Need-too-long-requires
-too-long-requires c κs = tt
-
-refused-requires : tie.Need-refused-requires
-refused-requires c κs = tt
-
-returns : tie.Need-returns
-returns c = c .refused .ensures ∙ inspect-long (c .before .before .before .before .args .s .now) (c .before .before .before .before .args .colour) (c .before .before .before .before .args .limits) (c .before .before .before .before .args .budget) (sym (c .before .before .too-long .ensures) ∙ c .before .if1 .taken)
-
-header-price-requires : tie.Need-header-price-requires
-header-price-requires c κs = counted _ _ _ (c .before .too-long .ensures) (c .if1 .left)
-
-covers-requires : tie.Need-covers-requires
-covers-requires c κs = tt
-
-refused-requires-2 : tie.Need-refused-requires-2
-refused-requires-2 c κs = tt
-
-returns-2 : tie.Need-returns-2
-returns-2 c = c .refused2 .ensures ∙ inspect-poor (c .before .before .before .before .before .before .before .args .s .now) (c .before .before .before .before .before .before .before .args .colour) (c .before .before .before .before .before .before .before .args .limits) (c .before .before .before .before .before .before .before .args .budget) (sym (c .before .before .before .before .before .too-long .ensures) ∙ c .before .before .before .before .if1 .left) (poor _ _ _ _ (c .before .before .before .header-price .ensures) (c .before .before .covers .ensures) (c .before .if2 .taken))
-
-less-requires : tie.Need-less-requires
-less-requires c κs = tt
-
-header-requires : tie.Need-header-requires
-header-requires c κs = tt
+admit-requires : tie.Need-admit-requires
+admit-requires c κs = search needs
 
 enum-known-verdict : tie.Need-enum-known-verdict
 enum-known-verdict c = search needs
 
-refused-requires-3 : tie.Need-refused-requires-3
-refused-requires-3 c κs = tt
+refused-requires : tie.Need-refused-requires
+refused-requires c κs = search needs
 
 enum-told : tie.Need-enum-told
 enum-told c = search needs
 
-weigh-requires : tie.Need-weigh-requires
-weigh-requires c κs =
-    header-readable (c .before .before .before .before .before .before .before .before .before .before .before .args .s .now) (all-bytes (c .before .before .before .before .before .before .before .before .before .before .before .args .s .now) (λ i. omega (arith, c .before .before .before .before .before .before .before .before .before .before .shared-slice-known .given i))) (c .before .before .before .before .before .before .before .before .before .before .before .args .colour) _
-    (done-found (header (c .before .before .before .before .before .before .before .before .before .before .before .args .s .now) (c .before .before .before .before .before .before .before .before .before .before .before .args .colour)) _ (c .before .before .before .header .ensures) (c .enum-told .given .1))
+validate-requires : tie.Need-validate-requires
+validate-requires c κs = search needs
+
+enum-known-f : tie.Need-enum-known-f
+enum-known-f c = search needs
+
+refused-requires-2 : tie.Need-refused-requires-2
+refused-requires-2 c κs = search needs
+
+enum-told-2 : tie.Need-enum-told-2
+enum-told-2 c = search needs
+
+returns : tie.Need-returns
+returns c = c .refused .ensures ∙ inspect-stops (c .before .before .before .before .before .before .before .before .args .s .now) (c .before .before .before .before .before .before .before .before .args .colour) (c .before .before .before .before .before .before .before .before .args .limits) (c .before .before .before .before .before .before .before .before .args .budget) (stops (c .before .before .before .before .before .before .before .before .args .s .now) (c .before .before .before .before .before .before .before .before .args .colour) (c .before .before .before .before .before .before .before .before .args .limits) (c .before .before .before .before .before .before .before .before .args .budget) (c .before .before .before .before .before .before .admit .ensures) (c .before .before .verdict .given .1))
+
+returns-2 : tie.Need-returns-2
+returns-2 c = c .refused2 .ensures ∙ inspect-fault (c .before .before .before .before .before .before .before .before .before .before .before .args .s .now) (c .before .before .before .before .before .before .before .before .before .before .before .args .colour) (c .before .before .before .before .before .before .before .before .before .before .before .args .limits) (c .before .before .before .before .before .before .before .before .before .before .before .args .budget) (goes (c .before .before .before .before .before .before .before .before .before .before .before .args .s .now) (c .before .before .before .before .before .before .before .before .before .before .before .args .colour) (c .before .before .before .before .before .before .before .before .before .before .before .args .limits) (c .before .before .before .before .before .before .before .before .before .before .before .args .budget) (c .before .before .before .before .before .before .before .before .before .admit .ensures) (c .before .before .before .before .before .enum-told .given .1)) (all-bytes (c .before .before .before .before .before .before .before .before .before .before .before .args .s .now) (λ i. omega (arith, c .before .before .before .before .before .before .before .before .before .before .shared-slice-known .given i))) _ (c .before .before .before .before .validate .ensures) (c .before .before .f .given .1)
 
 returns-3 : tie.Need-returns-3
-returns-3 c =
-    c .refused3 .ensures ∙ ap (inspection (gives _)) (c .before .before .before .before .before .before .less .ensures ∙ ap (remaining (c .before .before .before .before .before .before .before .before .before .before .before .before .before .args .budget)) (c .before .before .before .before .before .before .before .before .before .header-price .ensures))
-    ∙ inspect-head (c .before .before .before .before .before .before .before .before .before .before .before .before .before .args .s .now) (c .before .before .before .before .before .before .before .before .before .before .before .before .before .args .colour) (c .before .before .before .before .before .before .before .before .before .before .before .before .before .args .limits) (c .before .before .before .before .before .before .before .before .before .before .before .before .before .args .budget) (sym (c .before .before .before .before .before .before .before .before .before .before .before .too-long .ensures) ∙ c .before .before .before .before .before .before .before .before .before .before .if1 .left) (rich _ _ _ _ (c .before .before .before .before .before .before .before .before .before .header-price .ensures) (c .before .before .before .before .before .before .before .before .covers .ensures) (c .before .before .before .before .before .before .before .if2 .left)) _
-    (stop-verdict (header (c .before .before .before .before .before .before .before .before .before .before .before .before .before .args .s .now) (c .before .before .before .before .before .before .before .before .before .before .before .before .before .args .colour)) _ _ (c .before .before .before .before .before .header .ensures) (c .before .before .verdict .given .1))
-
-returns-4 : tie.Need-returns-4
-returns-4 c =
-    c .weigh .ensures ∙ ap (λ left. weighed (c .before .before .before .before .before .before .before .before .before .before .before .before .args .s .now) (c .before .before .before .before .before .before .before .before .before .before .before .before .args .limits) left (c .before .before .before .before .header .result .found)) (c .before .before .before .before .before .less .ensures ∙ ap (remaining (c .before .before .before .before .before .before .before .before .before .before .before .before .args .budget)) (c .before .before .before .before .before .before .before .before .header-price .ensures))
-    ∙ inspect-weighed (c .before .before .before .before .before .before .before .before .before .before .before .before .args .s .now) (c .before .before .before .before .before .before .before .before .before .before .before .before .args .colour) (c .before .before .before .before .before .before .before .before .before .before .before .before .args .limits) (c .before .before .before .before .before .before .before .before .before .before .before .before .args .budget) (sym (c .before .before .before .before .before .before .before .before .before .before .too-long .ensures) ∙ c .before .before .before .before .before .before .before .before .before .if1 .left) (rich _ _ _ _ (c .before .before .before .before .before .before .before .before .header-price .ensures) (c .before .before .before .before .before .before .before .covers .ensures) (c .before .before .before .before .before .before .if2 .left)) _
-    (done-found (header (c .before .before .before .before .before .before .before .before .before .before .before .before .args .s .now) (c .before .before .before .before .before .before .before .before .before .before .before .before .args .colour)) _ (c .before .before .before .before .header .ensures) (c .before .enum-told .given .1))
+returns-3 c = inspect-done (c .before .before .before .before .before .before .before .before .before .args .s .now) (c .before .before .before .before .before .before .before .before .before .args .colour) (c .before .before .before .before .before .before .before .before .before .args .limits) (c .before .before .before .before .before .before .before .before .before .args .budget) (goes (c .before .before .before .before .before .before .before .before .before .args .s .now) (c .before .before .before .before .before .before .before .before .before .args .colour) (c .before .before .before .before .before .before .before .before .before .args .limits) (c .before .before .before .before .before .before .before .before .before .args .budget) (c .before .before .before .before .before .before .before .admit .ensures) (c .before .before .before .enum-told .given .1)) (all-bytes (c .before .before .before .before .before .before .before .before .before .args .s .now) (λ i. omega (arith, c .before .before .before .before .before .before .before .before .shared-slice-known .given i))) _ (c .before .before .validate .ensures) (c .enum-told2 .given .1) []
 
 pub inspect-spec : {M : Type 1} → statement M
 inspect-spec =
     tie.close
     (tie.spec
-    too-long-requires
-    refused-requires
-    returns
-    header-price-requires
-    covers-requires
-    refused-requires-2
-    returns-2
-    less-requires
-    header-requires
+    admit-requires
     enum-known-verdict
-    refused-requires-3
+    refused-requires
     enum-told
-    weigh-requires
-    returns-3
-    returns-4)
+    validate-requires
+    enum-known-f
+    refused-requires-2
+    enum-told-2
+    returns
+    returns-2
+    returns-3)
