@@ -5,6 +5,7 @@ pub mod Digits
 pub mod Writing
 pub mod Turns
 pub mod Symbols
+pub mod Quiets
 pub mod Filled
 pub mod Coders
 pub mod Lengths

@@ -1,5 +1,6 @@
 -- A block symbol by symbol: from a place on, behind a run of zeros that are not written yet.
-use Prim.Native.Nat.{ℕ, zero, suc, _+_, _*_, _-_}
+use Prim.Native.Nat.{ℕ, zero, suc, _+_, _*_, _-_, _<_, _≤_}
+use mathlib.Core.Path.{_≡_}
 use mathlib.Core.Bool.{Bool, false, cond}
 use mathlib.Core.List.{List, [], _∷_}
 use lib.Dec.{leb, eqb}
@@ -28,6 +29,11 @@ unfoldable pub zerosAt : List ℤ → ℕ → ℕ
 unfolding zerosOf
 zerosAt l zero = 0
 zerosAt l (suc k) = zerosOf (drop (suc k) l)
+
+-- the levels from a place on, which is not the first, are zero
+pub record Quiet (reach : ℕ) (l : List ℤ) : Type 0 where
+  pub some : 0 < reach
+  pub each : (k : ℕ) → reach ≤ k → getD l k (pos 0) ≡ pos 0
 
 -- of `count` levels all are written
 unfoldable pub over : ℕ → ℕ → ℕ → Bool

@@ -12,7 +12,7 @@ ghost use Rattle.reading.specs.Layout.{dueBefore, restartBefore};
 ghost use Rattle.reading.specs.Settled.{fieldOf, blockBy, onto, cut, settledOf, scanSettled, laidOver};
 ghost use Rattle.jpeg_writer.specs.Page.{spot, byteAt, stuffedAt, bytesAt, page, fresh, Proper, Grown, Puts, closedAt, restarted};
 ghost use Rattle.jpeg_writer.specs.Words.{codeWords, wordCode, coderOf, kept};
-ghost use Rattle.jpeg_writer.specs.Steps.{categoryOf, zerosAt, over, valueAt, turnAt, wordAt};
+ghost use Rattle.jpeg_writer.specs.Steps.{categoryOf, zerosAt, Quiet, over, valueAt, turnAt, wordAt};
 ghost use Rattle.jpeg_writer.specs.Sheets.{wordsIn, basesOf, Sheet};
 ghost use Rattle.jpeg_writer.specs.Pass.{finalBy, Fit, Moves, lastPart, Closes, Went, Ran, Measures};
 use jpeg_scan::Halt;
@@ -319,6 +319,17 @@ fn zeros_from(levels: &[i16], place: usize) -> usize
     }
 }
 
+// The same, where the levels from `reach` on are known to be zero and need not be looked at.
+fn zeros_to(levels: &[i16], place: usize, reach: usize) -> usize
+    requires { ⌜ Quiet reach (now levels) × (place ≤ length (now levels)) ⌝ }
+    ensures { λ r. ⌜ r ≡ zerosAt (now (levels .entry)) place ⌝ }
+{
+    if reach <= place {
+        return levels.len() - place;
+    }
+    zeros_from(levels, place)
+}
+
 // All is written: the levels are at their end, and no zeros wait for the end code.
 fn is_over(count: usize, place: usize, run: usize) -> bool
     ensures { λ r. ⌜ r ≡ over count place run ⌝ }
@@ -372,10 +383,19 @@ fn next(levels: &[i16], pred: i32, place: usize, run: usize) -> Turn
     }
 }
 
-// A block of levels by the words of its two tables, behind the prediction. One turn for each level that is not zero, for each
+// A block of levels by the words of its two tables, behind the prediction; the levels from `reach` on
+// are zero. One turn for each level that is not zero, for each
 // 240 and for the end code. (No level at all lacks its code.)
-fn put_block(out: &mut [u8], p: Pen, dc: &[u32], ac: &[u32], levels: &[i16], pred: i32) -> Outcome
-    requires { ⌜ Proper p ⌝ }
+fn put_block(
+    out: &mut [u8],
+    p: Pen,
+    dc: &[u32],
+    ac: &[u32],
+    levels: &[i16],
+    pred: i32,
+    reach: usize,
+) -> Outcome
+    requires { ⌜ Proper p × Quiet reach (now levels) ⌝ }
     ensures { λ r. ⌜ Puts (blockBy (coderOf (now (dc .entry))) (coderOf (now (ac .entry))) pred (now (levels .entry))) (page (now (out .entry)) p) r (now (out .exit)) ⌝ }
 {
     if levels.len() == 0 {
@@ -385,7 +405,7 @@ fn put_block(out: &mut [u8], p: Pen, dc: &[u32], ac: &[u32], levels: &[i16], pre
     let mut place = 0usize;
     let mut run = 0usize;
     'walk: loop {
-        let zeros = zeros_from(levels, place);
+        let zeros = zeros_to(levels, place, reach);
         place += zeros;
         run += zeros;
         if is_over(levels.len(), place, run) {
@@ -437,8 +457,9 @@ fn put_on(
     c: usize,
     levels: &[i16; 64],
     pred: i32,
+    reach: usize,
 ) -> Outcome
-    requires { ⌜ Fit ink × (c < 3) × (length (now words) ≡ 1536) ⌝ }
+    requires { ⌜ Fit ink × (c < 3) × (length (now words) ≡ 1536) × Quiet reach (now levels) ⌝ }
     ensures { λ r. ⌜ Moves (onto (blockBy (coderOf (wordsIn (512 * c) (now (words .entry)))) (coderOf (wordsIn (512 * c + 256) (now (words .entry)))) pred (now (levels .entry)))) ink (now (out .entry)) r (now (out .exit)) ⌝ }
 {
     let a = 512 * c;
@@ -446,7 +467,7 @@ fn put_on(
     let e = b + 256;
     match ink {
         Outcome::NoCode => Outcome::NoCode,
-        Outcome::Done(p) => put_block(out, p, &words[a..b], &words[b..e], levels, pred),
+        Outcome::Done(p) => put_block(out, p, &words[a..b], &words[b..e], levels, pred, reach),
     }
 }
 
@@ -521,7 +542,7 @@ fn mcu(s: &[u8], plan: Plan, words: &[u32], from: ScanCursor, pen: Outcome, out:
                 break 'walk Halt::Yes(f);
             }
             BlockRead::Got(b, first, reach) => {
-                ink = put_on(out, ink, words, c, &levels, prediction);
+                ink = put_on(out, ink, words, c, &levels, prediction, reach);
                 predictors[c] = first;
                 bits = b;
             }

@@ -28,11 +28,11 @@ record Walk (out₀ dc ac : List ℕ) (levels : List ℤ) (pred : ℤ) (q₀ : P
   onto : Onto (onwards dc ac pred levels 0 0) (onwards dc ac pred levels place run) (page out₀ q₀) (page out q)
 
 abbrev Inv-walk : tie.InvT-walk
-Inv-walk out₀ dc ac levels pred q₀ place₀ run₀ out q place run =
+Inv-walk out₀ dc ac levels pred reach q₀ place₀ run₀ out q place run =
     Walk out₀ dc ac levels (toZ w32 pred) q₀ out q place run
 
 abbrev μ-walk : tie.MeasureT-walk
-μ-walk out₀ dc ac levels pred q₀ place₀ run₀ out q place run = 2 * (length levels - place) + run
+μ-walk out₀ dc ac levels pred reach q₀ place₀ run₀ out q place run = 2 * (length levels - place) + run
 
 returns : tie.Need-returns Inv-walk μ-walk
 returns c =
@@ -40,10 +40,10 @@ returns c =
 
 walk-holds : tie.Need-walk-holds Inv-walk μ-walk
 walk-holds c =
-    record { full = omega (arith, c .if1 .left); within = omega arith; low = omega arith; long = refl; onto = onto-start _ _ (c .before .before .before .before .pre) }
+    record { full = omega (arith, c .if1 .left); within = omega arith; low = omega arith; long = refl; onto = onto-start _ _ (c .before .before .before .before .pre .0) }
 
-zeros-from-requires : tie.Need-zeros-from-requires Inv-walk μ-walk
-zeros-from-requires c κs = search needs
+zeros-to-requires : tie.Need-zeros-to-requires Inv-walk μ-walk
+zeros-to-requires c κs = (c .before .before .before .before .before .pre .1, c .walk .inv .within)
 
 -- the block from a place on
 abbrev to-come : tie.Start Inv-walk μ-walk → ℕ → ℕ → Written
@@ -54,8 +54,8 @@ whole c =
     ap (λ (z : ℤ). blockBy (coderOf (c .args .dc .now)) (coderOf (c .args .ac .now)) z (c .args .levels .now)) (sym (toZ-ofZ (c .fits .pred)))
     ∙ sym (onwards-block _ _ _ _ 0)
 
-behind : (c : tie.After-zeros-from Inv-walk μ-walk) → Behind (c .before .before .before .before .before .before .args .dc .now) (c .before .before .before .before .before .before .args .ac .now) (toZ w32 (ofZ w32 (c .before .before .before .before .before .before .args .pred))) (c .before .before .before .before .before .before .args .levels .now) (c .before .walk .place) (c .before .walk .run) (c .zeros-from .result)
-behind c = zeros-behind _ _ _ _ _ _ (c .before .walk .inv .within) (c .before .walk .inv .low) (c .zeros-from .ensures)
+behind : (c : tie.After-zeros-to Inv-walk μ-walk) → Behind (c .before .before .before .before .before .before .args .dc .now) (c .before .before .before .before .before .before .args .ac .now) (toZ w32 (ofZ w32 (c .before .before .before .before .before .before .args .pred))) (c .before .before .before .before .before .before .args .levels .now) (c .before .walk .place) (c .before .walk .run) (c .zeros-to .result)
+behind c = zeros-behind _ _ _ _ _ _ (c .before .walk .inv .within) (c .before .walk .inv .low) (c .zeros-to .ensures)
 
 add-place : tie.Need-add-place Inv-walk μ-walk
 add-place c = omega (arith, behind c .within)
@@ -72,7 +72,7 @@ next-requires c κs = search needs
 word-at-requires : tie.Need-word-at-requires Inv-walk μ-walk
 word-at-requires c κs = search needs
 
-within : (c : tie.After-next Inv-walk μ-walk) → Fits (c .before .before .before .before .before .before .before .before .before .args .levels .now) (c .before .before .before .before .walk .place + c .before .before .before .zeros-from .result) (c .before .before .before .before .walk .run + c .before .before .before .zeros-from .result) (c .next .result)
+within : (c : tie.After-next Inv-walk μ-walk) → Fits (c .before .before .before .before .before .before .before .before .before .args .levels .now) (c .before .before .before .before .walk .place + c .before .before .before .zeros-to .result) (c .before .before .before .before .walk .run + c .before .before .before .zeros-to .result) (c .next .result)
 within c = turn-within _ _ _ _ (c .before .before .before .before .walk .inv .full) (behind (c .before .before .before) .low) (c .before .before .is-over .ensures) (c .before .if2 .left) (c .next .ensures) (behind (c .before .before .before) .within)
 
 put-symbol-requires : tie.Need-put-symbol-requires Inv-walk μ-walk
@@ -118,7 +118,7 @@ put-block-spec =
     μ-walk
     returns
     walk-holds
-    zeros-from-requires
+    zeros-to-requires
     add-place
     add-run
     is-over-requires

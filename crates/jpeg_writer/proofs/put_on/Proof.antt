@@ -66,7 +66,7 @@ part-put-block-end-2 : tie.Need-part-put-block-end-2
 part-put-block-end-2 c = search needs
 
 put-block-requires : tie.Need-put-block-requires
-put-block-requires c κs = fit-pen (c .before .before .before .before .before .ink .given .1) (c .before .before .before .before .before .before .before .before .before .pre .0)
+put-block-requires c κs = (fit-pen (c .before .before .before .before .before .ink .given .1) (c .before .before .before .before .before .before .before .before .before .pre .0), c .before .before .before .before .before .before .before .before .before .pre .3)
 
 returns : tie.Need-returns
 returns c = moves-none _ _ _ (c .enum-told .given .1)
