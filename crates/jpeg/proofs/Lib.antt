@@ -4,6 +4,7 @@ pub mod Facts
 pub mod Admitted
 pub mod Inspected
 pub mod Refiled
+pub mod SettledCode
 pub mod Decodes
 pub mod Draws
 pub mod Drawing

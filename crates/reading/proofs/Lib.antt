@@ -19,3 +19,4 @@ pub mod Demand3
 pub mod Levels
 pub mod OnePicture
 pub mod WantOfCode
+pub mod SettledCalls

@@ -1,4 +1,4 @@
-use mathlib.Core.Path.{_≡_, _∙_}
+use mathlib.Core.Path.{_∙_}
 use native.Mathlib.Omega.{arith}
 use Rattle.jpeg_header.proofs.Accepted.{all-bytes}
 use Rattle.jpeg.proofs.Refiled.{file-stop, file-none, file-within, file-done}
