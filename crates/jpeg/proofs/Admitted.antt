@@ -3,14 +3,13 @@
 use mathlib.Core.Path.{_≡_, refl, sym, ap, _∙_, subst, subst⁻¹}
 use mathlib.Core.Bool.{Bool, true, false, not, cond}
 use mathlib.Core.List.{List}
-use Prim.Native.Nat.{ℕ, _+_, _*_, _-_, _^_, _<_, _≤_}
+use Prim.Native.Nat.{ℕ, _+_, _-_, _^_, _<_, _≤_}
 use native.Mathlib.Omega.{arith}
 use borrow.Author.Tests.{lt-ltb, le-ltb, ltb-true, ltb-false, leb-true, leb-false, not-true, not-false}
 use lib.Dec.{ltb, leb}
 use lib.ListN.{length}
 use Rattle.reading.specs.declared.Budget.{Budget}
 use Rattle.reading.specs.declared.Head.{Head}
-use Rattle.reading.specs.declared.Header.{Header}
 use Rattle.reading.specs.declared.Inspection.{Inspection}
 use Rattle.reading.specs.declared.Limits.{Limits}
 use Rattle.reading.specs.declared.Record.{Record}
@@ -21,7 +20,7 @@ use Rattle.reading.specs.declared.Verdict.the-variants.{Accepted, Refused}
 use Rattle.reading.specs.Tests.{_or_}
 use Rattle.reading.specs.Header.{Stage, more, done, stop, header, headed}
 use Rattle.reading.specs.Scan.{levels}
-use Rattle.reading.specs.Calls.{headerPrice, gives, Judged, judge, tooLarge, judgedScan, judgedRecord, judgedHeader, judged, remaining, inspection}
+use Rattle.reading.specs.Calls.{headerPrice, gives, judge, tooLarge, judgedScan, judgedRecord, judgedHeader, judged, remaining, inspection}
 use Rattle.reading.proofs.HeaderEnds.{or-right}
 use Rattle.jpeg.specs.Steps.{admission, weighed, admittedHeader, admitted}
 

@@ -1,6 +1,6 @@
 -- What inspect answers, one law for each way behind its tests before the scan.
-use mathlib.Core.Path.{_≡_, refl, sym, ap, _∙_}
-use mathlib.Core.Bool.{Bool, true, false}
+use mathlib.Core.Path.{_≡_, sym, ap, _∙_}
+use mathlib.Core.Bool.{Bool, true}
 use mathlib.Core.List.{List}
 use Prim.Native.Nat.{ℕ}
 use lib.IntN.{ℤ}
@@ -14,7 +14,7 @@ use Rattle.reading.specs.declared.Refusal.the-variants.{Scan}
 use Rattle.reading.specs.declared.ScanRead.{ScanRead}
 use Rattle.reading.specs.declared.ScanRead.the-variants.{Done, Stop}
 use Rattle.reading.specs.Answers.{scanRead}
-use Rattle.reading.specs.Scan.{levels, readable, scanOf}
+use Rattle.reading.specs.Scan.{readable, scanOf}
 use Rattle.reading.specs.Calls.{takes, gives, Judged, judgedScan, remaining, inspection, inspect}
 use Rattle.reading.proofs.FileBytes.{AllBytes}
 use Rattle.reading.proofs.ScanAnswers as E

@@ -3,6 +3,7 @@ pub mod Chain
 pub mod Admitted
 pub mod Inspected
 pub mod Refiled
+pub mod SettledCode
 pub mod Decodes
 pub mod Draws
 pub mod Drawing

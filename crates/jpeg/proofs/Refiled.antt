@@ -3,7 +3,7 @@ use mathlib.Core.Path.{_≡_, refl, sym, ap, ap₂, _∙_, subst}
 use mathlib.Core.Bool.{Bool, true, false, cond}
 use mathlib.Core.List.{List, [], _∷_, _++_, append-assoc, append-nil}
 use mathlib.Core.Option.{Option, none, some}
-use Prim.Native.Nat.{ℕ, zero, suc, _+_, _*_, _-_, _^_, _<_, _≤_}
+use Prim.Native.Nat.{ℕ, suc, _+_, _*_, _-_, _^_, _<_, _≤_}
 use native.Mathlib.Omega.{arith}
 use borrow.Author.Tests.{lt-ltb, le-ltb, ltb-true, ltb-false}
 use lib.Dec.{ltb}
@@ -23,10 +23,9 @@ use Rattle.reading.specs.declared.Settling.{Settling}
 use Rattle.reading.specs.declared.Verdict.the-variants.{Accepted, Refused}
 use Rattle.reading.specs.Tests.{over}
 use Rattle.reading.specs.Reader.{Read, got, fault}
-use Rattle.reading.specs.Header.{done, header}
-use Rattle.reading.specs.Scan.{levels, planOf, scanOf}
-use Rattle.reading.specs.Settled.{settledScan, settledFile, behind, settledRead, settledOf, scanSettled, laidOver}
-use Rattle.reading.specs.Calls.{headerPrice, takes, gives, Judged, judgedScan, remaining, Rewritten, unsettled, settledInto, settledFrom, settle}
+use Rattle.reading.specs.Scan.{levels, planOf}
+use Rattle.reading.specs.Settled.{settledScan, behind, settledRead, settledOf, scanSettled, laidOver}
+use Rattle.reading.specs.Calls.{Judged, judgedScan, remaining, Rewritten, unsettled, settledInto, settledFrom, settle}
 use Rattle.reading.proofs.HeaderEnds.{header-within}
 use Rattle.reading.proofs.FileBytes.{AllBytes}
 use Rattle.reading.proofs.Accepted as H

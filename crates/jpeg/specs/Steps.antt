@@ -1,6 +1,6 @@
 -- The calls in the parts that the code has: what inspect and settle test before the scan is read; a record that is compared before it
 -- is drawn; a scan that is settled before its head is copied.
-use mathlib.Core.Bool.{Bool, true, false, cond}
+use mathlib.Core.Bool.{Bool, cond}
 use mathlib.Core.List.{List, _++_}
 use mathlib.Core.Option.{Option}
 use Prim.Native.Nat.{ℕ, _+_, _^_}
@@ -19,7 +19,7 @@ use Rattle.reading.specs.Tests.{_or_}
 use Rattle.reading.specs.Reader.{Read, got, fault}
 use Rattle.reading.specs.Header.{Stage, more, done, stop, header}
 use Rattle.reading.specs.Scan.{levels}
-use Rattle.reading.specs.Reading.{scanned, allSamples}
+use Rattle.reading.specs.Reading.{scanned}
 use Rattle.reading.specs.Settled.{behind, settledOf, laidOver}
 use Rattle.reading.specs.Calls.{headerPrice, gives, tooLarge, remaining, inspection, Decoded, decodedFrom, Rewritten, unsettled, settledInto}
 

@@ -36,3 +36,4 @@ pub mod OnePicture
 pub mod WantOfCode
 pub mod Decodings
 pub mod Upstream
+pub mod SettledCalls

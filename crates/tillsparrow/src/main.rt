@@ -1,51 +1,17 @@
 // The program: a file from standard input, its picture as PPM or PGM to standard output, or `refused N` and a newline and nothing
 // else. What matters is in the libraries; here are three buffers and the two calls.
-ghost use lib.ListN.{length};
-ghost use Rattle.tillsparrow.specs.Filled.{Fills};
 use libc::STDERR_FILENO;
-use libc::STDIN_FILENO;
 use libc::STDOUT_FILENO;
 use reading::Budget;
 use reading::Limits;
 use reading::Record;
 use reading::Verdict;
-
-// What was read of standard input: so many bytes, or a read failed.
-enum Filled {
-    Bytes(usize),
-    Failed,
-}
-
-// Reads standard input until it ends or the buffer is full.
-fn fill(buffer: &mut [u8]) -> Filled
-    ensures { λ r. ⌜ Fills (length (now (buffer .exit))) r ⌝ }
-{
-    let mut n = 0usize;
-    'reads: loop {
-        if buffer.len() <= n {
-            break 'reads Filled::Bytes(n);
-        }
-        let got = libc::read(STDIN_FILENO, &mut buffer[n..]);
-        if got < 0 {
-            break 'reads Filled::Failed;
-        }
-        let more = io::count(got, &buffer[n..]);
-        if more == 0 {
-            break 'reads Filled::Bytes(n);
-        }
-        n = n + more;
-    }
-}
+use streams::Filled;
 
 // `refused N` and a newline.
 fn write_refusal(number: u8) -> bool {
-    if !io::write_all(STDOUT_FILENO, b"refused ") {
-        return false;
-    }
-    if !io::print_decimal(STDOUT_FILENO, number as u64) {
-        return false;
-    }
-    io::write_all(STDOUT_FILENO, b"\n")
+    let line = streams::refusal(number);
+    io::write_all(STDOUT_FILENO, &line)
 }
 
 // P5 for one channel and P6 for three, the sides, and 255: each with a newline.
@@ -118,7 +84,7 @@ fn answer(buffer: &[u8], n: usize) -> bool {
 // One byte more than the input limit is looked at, so that a longer file is seen to be longer.
 fn main() {
     let mut input = [0u8; 65537];
-    match fill(&mut input) {
+    match streams::fill(&mut input) {
         Filled::Failed => {
             io::write_all(STDERR_FILENO, b"tillsparrow: the input cannot be read\n");
         }

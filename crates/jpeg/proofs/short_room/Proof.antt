@@ -1,4 +1,4 @@
-use mathlib.Core.Path.{_≡_, refl}
+use mathlib.Core.Path.{refl}
 use borrow.Author.Tests.{lt-ltb, le-ltb}
 use Rattle.jpeg.proofs.short_room.Statement.{statement}
 use Rattle.jpeg.proofs.short_room.Tie as tie

@@ -1,4 +1,4 @@
-use mathlib.Core.Path.{_≡_, ap, _∙_}
+use mathlib.Core.Path.{ap, _∙_}
 use Rattle.jpeg.specs.Steps.{admission}
 use Rattle.jpeg.proofs.Admitted.{weighed-large, weighed-poor, weighed-well}
 use borrow.Author.Needs.{needs}

@@ -3,9 +3,6 @@ use lib.Seq.{length-take-le}
 use borrow.Author.Needs.{needs}
 use Rattle.tillsparrow.proofs.answer.Statement.{statement}
 use Rattle.tillsparrow.proofs.answer.Tie as tie
-use Rattle.tillsparrow.proofs.answer.Reads as reads
-use Rattle.tillsparrow.proofs.answer.Lts as lts
-use Rattle.tillsparrow.proofs.convert.Reads as convert-reads
 
 returns : tie.Need-returns
 returns c = search needs

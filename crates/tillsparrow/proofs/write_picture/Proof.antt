@@ -3,10 +3,6 @@ use lib.Seq.{length-take-le}
 use borrow.Author.Needs.{needs}
 use Rattle.tillsparrow.proofs.write_picture.Statement.{statement}
 use Rattle.tillsparrow.proofs.write_picture.Tie as tie
-use Rattle.tillsparrow.proofs.write_picture.Reads as reads
-use Rattle.tillsparrow.proofs.write_picture.Lts as lts
-use Rattle.io.proofs.write_all.Reads as write-all-reads
-use Rattle.tillsparrow.proofs.write_head.Reads as write-head-reads
 
 returns : tie.Need-returns
 returns c = search needs

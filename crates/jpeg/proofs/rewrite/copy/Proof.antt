@@ -1,8 +1,8 @@
 use mathlib.Core.Path.{_≡_, refl, ap, _∙_}
 use mathlib.Core.List.{_++_}
-use Prim.Native.Nat.{ℕ, _≤_, _<_, _-_}
+use Prim.Native.Nat.{ℕ, _≤_, _-_}
 use native.Mathlib.Omega.{arith}
-use lib.ListN.{length, take, drop}
+use lib.ListN.{take, drop}
 use Rattle.jpeg.proofs.Refiled.{copied-length, copied-next}
 use Rattle.jpeg.proofs.rewrite.copy.Statement.{statement}
 use Rattle.jpeg.proofs.rewrite.copy.Tie as tie

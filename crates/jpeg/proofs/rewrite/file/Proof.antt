@@ -1,4 +1,4 @@
-use mathlib.Core.Path.{_≡_, _∙_}
+use mathlib.Core.Path.{_∙_}
 use native.Mathlib.Omega.{arith}
 use Rattle.reading.proofs.FileBytes.{all-bytes}
 use Rattle.jpeg.proofs.Refiled.{file-stop, file-none, file-within, file-done}

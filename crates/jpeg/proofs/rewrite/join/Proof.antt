@@ -1,5 +1,3 @@
-use mathlib.Core.Path.{_≡_}
-use native.Mathlib.Omega.{arith}
 use Rattle.jpeg.proofs.Refiled.{joined-short, joined-all}
 use borrow.Author.Needs.{needs}
 use Rattle.jpeg.proofs.rewrite.join.Statement.{statement}

@@ -1,4 +1,3 @@
-use mathlib.Core.Path.{_≡_}
 use Rattle.reading.specs.Settled.{settledOf}
 use Rattle.jpeg.proofs.Refiled.{laid-short, laid-long}
 use borrow.Author.Needs.{needs}

@@ -1,7 +1,7 @@
 -- A buffer that was filled holds no more bytes than it has.
 use Prim.Native.Nat.{ℕ, _≤_}
-use Rattle.tillsparrow.specs.declared.Filled.{Filled}
-use Rattle.tillsparrow.specs.declared.Filled.the-variants.{Bytes, Failed}
+use Rattle.streams.specs.declared.Filled.{Filled}
+use Rattle.streams.specs.declared.Filled.the-variants.{Bytes, Failed}
 
 abbrev pub Within : ℕ → Filled → Type 0
 Within room (Bytes n) = n ≤ room

@@ -3,12 +3,8 @@ use Prim.Native.Nat.{_≤_, _-_}
 use native.Mathlib.Omega.{arith}
 use lib.ListN.{length}
 use borrow.Author.Needs.{needs}
-use Rattle.tillsparrow.proofs.fill.Statement.{statement}
-use Rattle.tillsparrow.proofs.fill.Tie as tie
-use Rattle.tillsparrow.proofs.fill.Reads as reads
-use Rattle.tillsparrow.proofs.fill.Lts as lts
-use Rattle.io.proofs.count.Reads as count-reads
-use Rattle.libc.proofs.read.Reads as read-reads
+use Rattle.streams.proofs.fill.Statement.{statement}
+use Rattle.streams.proofs.fill.Tie as tie
 
 abbrev Inv-reads : tie.InvT-reads
 Inv-reads buffer₀ n₀ buffer n = (n ≤ length buffer) × (length buffer ≡ length buffer₀)
@@ -16,75 +12,57 @@ Inv-reads buffer₀ n₀ buffer n = (n ≤ length buffer) × (length buffer ≡ 
 abbrev μ-reads : tie.MeasureT-reads
 μ-reads buffer₀ n₀ buffer n = length buffer - n
 
--- src/main.rt:17:5
 reads-holds : tie.Need-reads-holds Inv-reads μ-reads
 reads-holds c = omega arith
 
--- src/main.rt:21:33
 sub-read : tie.Need-sub-read Inv-reads μ-reads
 sub-read c = omega arith
 
--- src/main.rt:21:33
 part-read-start : tie.Need-part-read-start Inv-reads μ-reads
 part-read-start c = omega arith
 
--- src/main.rt:21:33
 part-read-end : tie.Need-part-read-end Inv-reads μ-reads
 part-read-end c = omega arith
 
--- src/main.rt:21:13
 read-requires : tie.Need-read-requires Inv-reads μ-reads
 read-requires c κs = search needs
 
--- src/main.rt:25:35
 sub-count : tie.Need-sub-count Inv-reads μ-reads
 sub-count c = omega arith
 
--- src/main.rt:25:35
 part-count-start : tie.Need-part-count-start Inv-reads μ-reads
 part-count-start c = omega arith
 
--- src/main.rt:25:35
 part-count-end : tie.Need-part-count-end Inv-reads μ-reads
 part-count-end c = omega arith
 
--- src/main.rt:25:13
 count-requires : tie.Need-count-requires Inv-reads μ-reads
 count-requires c κs = search needs
 
--- src/main.rt:29:13
 add-n : tie.Need-add-n Inv-reads μ-reads
 add-n c = omega arith
 
--- src/main.rt:17:5
 reads-less : tie.Need-reads-less Inv-reads μ-reads
 reads-less c = omega arith
 
--- src/main.rt:17:5
 reads-again : tie.Need-reads-again Inv-reads μ-reads
 reads-again c = omega arith
 
--- src/main.rt:13:1
 same-length : tie.Need-same-length Inv-reads μ-reads
 same-length c = omega arith
 
--- src/main.rt:13:1
 returns : tie.Need-returns Inv-reads μ-reads
 returns c = omega arith
 
--- src/main.rt:13:1
 same-length-2 : tie.Need-same-length-2 Inv-reads μ-reads
 same-length-2 c = omega arith
 
--- src/main.rt:13:1
 returns-2 : tie.Need-returns-2 Inv-reads μ-reads
 returns-2 c = omega arith
 
--- src/main.rt:13:1
 same-length-3 : tie.Need-same-length-3 Inv-reads μ-reads
 same-length-3 c = omega arith
 
--- src/main.rt:13:1
 returns-3 : tie.Need-returns-3 Inv-reads μ-reads
 returns-3 c = omega arith
 

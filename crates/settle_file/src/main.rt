@@ -1,0 +1,60 @@
+// The program behind `--settle`: a file from standard input, its settled file to standard output, or `refused N` and a newline and
+// nothing else. What matters is in the libraries; here are two buffers and the call.
+use libc::STDERR_FILENO;
+use libc::STDOUT_FILENO;
+use reading::Budget;
+use reading::Limits;
+use reading::Verdict;
+use streams::Filled;
+
+fn write_file(output: &[u8], n: usize) -> bool {
+    if output.len() < n {
+        return false;
+    }
+    io::write_all(STDOUT_FILENO, &output[..n])
+}
+
+// The limits are those of the other program; the budget always suffices.
+fn convert(s: &[u8], output: &mut [u8]) -> bool {
+    let limits = Limits {
+        input: Limits::BUFFER,
+        side: Limits::SIDE,
+        output: Limits::BUFFER,
+    };
+    let settling = jpeg::settle(s, limits, Budget::fresh(u64::MAX), output);
+    let verdict = settling.verdict;
+    match verdict {
+        Verdict::Refused(x) => {
+            let line = streams::refusal(x.number());
+            io::write_all(STDOUT_FILENO, &line)
+        }
+        Verdict::Accepted => write_file(output, settling.length),
+    }
+}
+
+// The first n bytes that were read. A settled file can be longer than the file, so its buffer has four times the room.
+fn answer(buffer: &[u8], n: usize) -> bool {
+    let mut output = [0u8; 262144];
+    if buffer.len() < n {
+        return false;
+    }
+    convert(&buffer[..n], &mut output)
+}
+
+// One byte more than the input limit is looked at, so that a longer file is seen to be longer.
+fn main() {
+    let mut input = [0u8; 65537];
+    match streams::fill(&mut input) {
+        Filled::Failed => {
+            io::write_all(STDERR_FILENO, b"tillsparrow: the input cannot be read\n");
+        }
+        Filled::Bytes(n) => {
+            if !answer(&input, n) {
+                io::write_all(
+                    STDERR_FILENO,
+                    b"tillsparrow: the output cannot be written\n",
+                );
+            }
+        }
+    }
+}

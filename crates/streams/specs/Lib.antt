@@ -1,0 +1,3 @@
+-- What the functions that the programs share say.
+pub mod Read
+pub mod Lines

@@ -1,2 +1,0 @@
--- What the program's own functions say.
-pub mod Filled

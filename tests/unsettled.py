@@ -1,0 +1,176 @@
+"""Files of one picture in more than one form, made from nothing: a bit writer, tables and blocks of our own, written from the rules
+alone. A block may have runs of 16 zeros before its end code, or up to its last place instead of one, and a symbol that a table
+lists twice may take its second code. `plain` takes no such choice: it is the form that settling must give.
+"""
+import random
+
+END, RUN = 0, 240
+
+
+class Table:
+    """A Huffman table: symbols by the length of their codes. A symbol that is listed twice has two codes."""
+
+    def __init__(self, by_length):
+        self.counts = [len(by_length.get(n, [])) for n in range(1, 17)]
+        self.symbols = [x for n in range(1, 17) for x in by_length.get(n, [])]
+        self.codes = {}
+        code = 0
+        for n in range(1, 17):
+            for x in by_length.get(n, []):
+                self.codes.setdefault(x, []).append((code, n))
+                code += 1
+            assert code < 2 ** n, "all ones is no code"
+            code *= 2
+
+    def segment(self, kind):
+        body = bytes([kind, *self.counts, *self.symbols])
+        return b"\xff\xc4" + (len(body) + 2).to_bytes(2, "big") + body
+
+
+class Writer:
+    """Bits, highest first; 0 behind every 255; padding of ones."""
+
+    def __init__(self):
+        self.bytes, self.value, self.count = bytearray(), 0, 0
+
+    def put(self, field, size):
+        for i in reversed(range(size)):
+            self.value = 2 * self.value + (field >> i) % 2
+            self.count += 1
+            if self.count == 8:
+                self.bytes.append(self.value)
+                if self.value == 255:
+                    self.bytes.append(0)
+                self.value, self.count = 0, 0
+
+    def marker(self, code):
+        while self.count:
+            self.put(1, 1)
+        self.bytes += bytes([255, code])
+
+
+def plain(choices):
+    """The first code, and no run that is not needed."""
+    return 0
+
+
+def size_of(value):
+    return abs(value).bit_length()
+
+
+def field_of(value, size):
+    return value if value >= 0 else value + 2 ** size - 1
+
+
+class Coder:
+    """One form of a scan: `choose` is asked for a number below the one given."""
+
+    def __init__(self, choose):
+        self.choose, self.writer = choose, Writer()
+
+    def symbol(self, table, x):
+        codes = table.codes[x]
+        self.writer.put(*codes[self.choose(len(codes))])
+
+    def value(self, table, run, value):
+        size = size_of(value)
+        self.symbol(table, 16 * run + size)
+        self.writer.put(field_of(value, size), size)
+
+    def block(self, dc, ac, prediction, levels):
+        """64 levels in zigzag order."""
+        self.value(dc, 0, levels[0] - prediction)
+        place = 1
+        for k in [k for k in range(1, 64) if levels[k]]:
+            for _ in range((k - place) // 16):
+                self.symbol(ac, RUN)
+            self.value(ac, (k - place) % 16, levels[k])
+            place = k + 1
+        if place == 64:
+            return
+        # so many runs fit before the end code, or instead of it where they reach the last place
+        for _ in range(self.choose((64 - place) // 16 + 1)):
+            self.symbol(ac, RUN)
+            place += 16
+        if place < 64:
+            self.symbol(ac, END)
+
+
+class Picture:
+    """Levels of blocks in the order of the scan, and the tables that they are written by."""
+
+    def __init__(self, width, height, sampling, channels, interval, tables, levels):
+        self.width, self.height, self.sampling, self.channels = width, height, sampling, channels
+        self.interval, self.tables, self.levels = interval, tables, levels
+
+    def per_mcu(self):
+        across, down = self.sampling
+        return [0] * (across * down) + [1, 2] if self.channels == 3 else [0]
+
+    def head(self):
+        across, down = self.sampling
+        frame = bytes([8]) + self.height.to_bytes(2, "big") + self.width.to_bytes(2, "big") + bytes([self.channels])
+        scan = bytes([self.channels])
+        for c in range(self.channels):
+            frame += bytes([c + 1, 16 * across + down if c == 0 and self.channels == 3 else 17, 0])
+            scan += bytes([c + 1, 17 * min(c, len(self.tables) - 1)])
+        out = b"\xff\xd8\xff\xdb\x00\x43\x00" + bytes([1 + k % 3 for k in range(64)])
+        out += b"\xff\xc0" + (len(frame) + 2).to_bytes(2, "big") + frame
+        for i, (dc, ac) in enumerate(self.tables):
+            out += dc.segment(i) + ac.segment(16 + i)
+        if self.interval:
+            out += b"\xff\xdd\x00\x04" + self.interval.to_bytes(2, "big")
+        scan += b"\x00\x3f\x00"
+        return out + b"\xff\xda" + (len(scan) + 2).to_bytes(2, "big") + scan
+
+    def form(self, choose):
+        coder, order, prediction = Coder(choose), self.per_mcu(), [0, 0, 0]
+        for k, levels in enumerate(self.levels):
+            mcu, c = k // len(order), order[k % len(order)]
+            if self.interval and k % len(order) == 0 and mcu and mcu % self.interval == 0:
+                coder.writer.marker(208 + (mcu // self.interval - 1) % 8)
+                prediction = [0, 0, 0]
+            dc, ac = self.tables[min(c, len(self.tables) - 1)]
+            coder.block(dc, ac, prediction[c], levels)
+            prediction[c] = levels[0]
+        coder.writer.marker(217)
+        return self.head() + bytes(coder.writer.bytes)
+
+
+def tables(source):
+    """Every category and every pair of run and size, some of them twice, in an order and at lengths of no other table."""
+    categories = list(range(12)) + source.sample(range(12), 4)
+    pairs = [16 * run + size for run in range(16) for size in range(1, 11)]
+    more = pairs + source.sample(pairs, 40) + [END, RUN, RUN]
+    source.shuffle(categories)
+    source.shuffle(more)
+    dc = Table({2: categories[:1], 3: categories[1:3], 5: categories[3:9], 7: categories[9:]})
+    ac = Table({3: more[:1] + [END], 4: more[1:3], 5: more[3:7], 8: more[7:60], 10: more[60:130], 16: more[130:]})
+    return dc, ac
+
+
+def block(source, last):
+    """A block whose last level that is not zero is at one of the places given."""
+    levels = [source.randrange(-300, 300)] + [0] * 63
+    end = source.choice(last)
+    for k in range(1, end):
+        if source.random() < source.choice((0.02, 0.3)):
+            levels[k] = source.randrange(-40, 40)
+    if end:
+        levels[end] = source.choice((-1, 1)) * source.randrange(1, 1024)
+    return levels
+
+
+def made(seed, width, height, sampling=(1, 1), channels=1, interval=0, pairs=1, last=(0, 1, 5, 15, 31, 47, 60, 63)):
+    source = random.Random(seed)
+    across, down = sampling
+    mcus = -(-width // (8 * across)) * -(-height // (8 * down))
+    picture = Picture(width, height, sampling, channels, interval, [tables(source) for _ in range(pairs)], [])
+    picture.levels = [block(source, last) for _ in range(mcus * len(picture.per_mcu()))]
+    return picture
+
+
+def without_end_code(end):
+    """One block that ends at place 15: a table with no end code, or with a long one, and 240 as the code 0."""
+    ac = Table({1: [RUN], 2: [16 * 14 + 1], 16: [END] if end else []})
+    return Picture(8, 8, (1, 1), 1, 0, [(Table({1: [0]}), ac)], [[0] * 15 + [1] + [0] * 48])
