@@ -160,3 +160,40 @@ module _ {t s : List ℕ} {base : ℕ} {b here : Bits} {code next at place more 
               some = omega (arith, left, byte, w .few, w .some);
               same = after-bit ∙ rw (le-ltb _ _ m);
             }
+
+-- ---- the walk by how far the code lies past those before it
+
+pub record Ahead (t s : List ℕ) (base : ℕ) (b here : Bits) (past at place more : ℕ) : Type 0 where
+  pub code : ℕ
+  pub next : ℕ
+  pub gap : code ≡ next + past
+  pub walk : Walk t s base b here code next at place more
+
+pub ahead-begun : (t s : List ℕ) (base : ℕ) (b : Bits) (more : ℕ) → base < length t → more ≡ min 16 (length t - base) → Ahead t s base b b 0 base (base + 16) more
+ahead-begun t s base b more h e = record { code = 0; next = 0; gap = omega arith; walk = begun t s base b more h e }
+
+module _ {t s : List ℕ} {base : ℕ} {b here : Bits} {past at place more : ℕ} (a : Ahead t s base b here past at place more)
+    (h : more ≡ 0 → ⊥) {r : BitRead} (e : bitRead r ≡ one s here) {x : ℕ} {after : Bits} (g : r ≡ Got x after) where
+  split : 2 * a .code + x ≡ 2 * a .next + (2 * past + x)
+  split = omega (arith, a .gap)
+
+  pub ahead-small : 2 * past + x < 65536
+  ahead-small = omega (arith, split, code-small (a .walk) h e g)
+
+  -- a code of this length
+  pub ahead-found : 2 * past + x < getD t at 0 → symbol (one s) (tableAt t base) b ≡ got (getD t (place + (2 * past + x)) 0) after
+  ahead-found m =
+      let same : place + (2 * a .code + x - 2 * a .next) ≡ place + (2 * past + x) = omega (arith, split) in
+      found (a .walk) h e g (omega (arith, split, m)) ∙ ap (λ i. got (getD t i 0) after) same
+
+  -- no code of this length
+  pub ahead-passed :
+      getD t at 0 < 256 → getD t at 0 ≤ 2 * past + x
+      → Ahead t s base b after (2 * past + x - getD t at 0) (at + 1) (place + getD t at 0) (more - 1)
+  ahead-passed byte m =
+      record {
+        code = 2 * a .code + x;
+        next = 2 * a .next + getD t at 0;
+        gap = omega (arith, split, m);
+        walk = passed (a .walk) h e g byte (omega (arith, split, m));
+      }

@@ -54,9 +54,9 @@ fn symbol_at(t: &[u8], place: usize) -> usize
 }
 
 // The symbol of the next code in s (T.81 F.2.2.3, DECODE). The table's counts stand at `base` of t, its symbols behind them; a
-// count past the end of t is not there. `next` is the code that follows the last one of the lengths before, `place` that of the
-// first symbol of this length. The code so far is never below `first`, whatever the table, as it was not below `next` before its
-// last bit.
+// count past the end of t is not there. `past` is how far the code so far lies past the last one of the lengths before, and `place`
+// that of the first symbol of this length. It is never below 0, whatever the table: a code that is none of its length is as far past
+// the first as there are codes of it, or farther.
 pub fn symbol(t: &[u8], base: usize, s: &[u8], b: Bits) -> NumberRead
     ensures { λ r. ⌜ numberRead r ≡ symbol (one (now (s .entry))) (tableAt (now (t .entry)) base) b ⌝ }
 {
@@ -64,8 +64,7 @@ pub fn symbol(t: &[u8], base: usize, s: &[u8], b: Bits) -> NumberRead
         return NumberRead::Stop(Fault::NoCode);
     }
     let mut here = b;
-    let mut code = 0usize;
-    let mut next = 0usize;
+    let mut past = 0usize;
     let mut at = base;
     let mut place = base + 16;
     let mut more = lengths(t.len() - base);
@@ -78,14 +77,13 @@ pub fn symbol(t: &[u8], base: usize, s: &[u8], b: Bits) -> NumberRead
                 break 'walk NumberRead::Stop(f);
             }
             BitRead::Got(x, after) => {
-                let first = 2 * next;
                 let count = t[at] as usize;
-                code = 2 * code + x as usize;
-                if code < first + count {
-                    break 'walk NumberRead::Got(symbol_at(t, place + (code - first)), after);
+                let code = 2 * past + x as usize;
+                if code < count {
+                    break 'walk NumberRead::Got(symbol_at(t, place + code), after);
                 }
                 here = after;
-                next = first + count;
+                past = code - count;
                 place = place + count;
             }
         }

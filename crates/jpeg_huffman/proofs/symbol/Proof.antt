@@ -1,20 +1,19 @@
--- `symbol`: before each bit, the lengths still to come find the same symbol (`Walk`, of Codes).
+-- `symbol`: before each bit, the lengths still to come find the same symbol (`Ahead`, of Codes).
 use Prim.Native.Nat.{_+_, _-_, _*_, _<_, _≤_}
 use mathlib.Core.Path.{_∙_, sym, ap}
 use native.Mathlib.Omega.{arith}
 use lib.ListN.{getD}
 use borrow.Author.Needs.{needs}
 use Rattle.reading.specs.Reader.{got}
-use Rattle.jpeg_huffman.proofs.Codes.{Walk, symbol-none, begun, no-code, no-bit, there, code-small, found, passed}
+use Rattle.jpeg_huffman.proofs.Codes.{Ahead, symbol-none, ahead-begun, no-code, no-bit, there, ahead-small, ahead-found, ahead-passed}
 use Rattle.jpeg_huffman.proofs.symbol.Statement.{statement}
 use Rattle.jpeg_huffman.proofs.symbol.Tie as tie
 
 abbrev Inv-walk : tie.InvT-walk
-Inv-walk t base s here₀ code₀ next₀ at₀ place₀ more₀ here code next at place more =
-    Walk t s base here₀ here code next at place more
+Inv-walk t base s here₀ past₀ at₀ place₀ more₀ here past at place more = Ahead t s base here₀ here past at place more
 
 abbrev μ-walk : tie.MeasureT-walk
-μ-walk t base s here₀ code₀ next₀ at₀ place₀ more₀ here code next at place more = more
+μ-walk t base s here₀ past₀ at₀ place₀ more₀ here past at place more = more
 
 returns : tie.Need-returns Inv-walk μ-walk
 returns c = sym (symbol-none _ _ _ _ (c .if1 .taken))
@@ -29,7 +28,7 @@ lengths-requires : tie.Need-lengths-requires Inv-walk μ-walk
 lengths-requires c κs = search needs
 
 walk-holds : tie.Need-walk-holds Inv-walk μ-walk
-walk-holds c = begun _ _ _ _ _ (c .before .if1 .left) (c .lengths .ensures)
+walk-holds c = ahead-begun _ _ _ _ _ (c .before .if1 .left) (c .lengths .ensures)
 
 bit-requires : tie.Need-bit-requires Inv-walk μ-walk
 bit-requires c κs = search needs
@@ -40,24 +39,17 @@ enum-known-f c = search needs
 enum-known-x : tie.Need-enum-known-x Inv-walk μ-walk
 enum-known-x c = search needs
 
-module _ (c : tie.After-known-told2 Inv-walk μ-walk) where
-  code-fits : 2 * c .before .before .before .before .before .walk .code + c .before .x .given .0 .0 < 65536
-  code-fits = code-small (c .before .before .before .before .before .walk .inv) (c .before .before .before .before .if2 .left) (c .before .before .before .bit .ensures) (c .before .x .given .1)
-
-  next-fits : 2 * c .before .before .before .before .before .walk .next < 65536
-  next-fits = omega (arith, code-fits, c .before .before .before .before .before .walk .inv .beyond)
+code-fits : (c : tie.After-known-told2 Inv-walk μ-walk) → 2 * c .before .before .before .before .before .walk .past + c .before .x .given .0 .0 < 65536
+code-fits c = ahead-small (c .before .before .before .before .before .walk .inv) (c .before .before .before .before .if2 .left) (c .before .before .before .bit .ensures) (c .before .x .given .1)
 
 byte : (c : tie.After-shared-slice-known3 Inv-walk μ-walk) → getD (c .before .before .before .before .before .before .before .before .before .before .before .args .t .now) (c .before .before .before .before .before .before .walk .at) 0 < 256
 byte c = omega (arith, c .shared-slice-known3 .given (c .before .before .before .before .before .before .walk .at))
 
 place-fits : (c : tie.At-walk Inv-walk μ-walk) → c .walk .place ≤ c .before .before .before .before .before .args .base + 4096
-place-fits c = omega (arith, c .walk .inv .stands, c .walk .inv .some)
-
-mul-first : tie.Need-mul-first Inv-walk μ-walk
-mul-first c = omega (arith, next-fits c)
+place-fits c = omega (arith, c .walk .inv .walk .stands, c .walk .inv .walk .some)
 
 shared-slice-read-count : tie.Need-shared-slice-read-count Inv-walk μ-walk
-shared-slice-read-count c = there (c .before .before .before .before .before .before .walk .inv) (c .before .before .before .before .before .if2 .left)
+shared-slice-read-count c = there (c .before .before .before .before .before .before .walk .inv .walk) (c .before .before .before .before .before .if2 .left)
 
 cast-count : tie.Need-cast-count Inv-walk μ-walk
 cast-count c = omega (arith, byte c)
@@ -71,26 +63,17 @@ cast-code c = search needs
 add-code : tie.Need-add-code Inv-walk μ-walk
 add-code c = omega (arith, code-fits (c .before))
 
-add-if3 : tie.Need-add-if3 Inv-walk μ-walk
-add-if3 c = omega (arith, byte c, next-fits (c .before))
-
-sub-symbol-at : tie.Need-sub-symbol-at Inv-walk μ-walk
-sub-symbol-at c = omega (arith, c .before .before .before .before .before .before .before .walk .inv .beyond)
-
 add-symbol-at : tie.Need-add-symbol-at Inv-walk μ-walk
 add-symbol-at c = omega (arith, code-fits (c .before .before), place-fits (c .before .before .before .before .before .before .before), c .before .before .before .before .before .before .before .before .before .if1 .left)
 
 symbol-at-requires : tie.Need-symbol-at-requires Inv-walk μ-walk
 symbol-at-requires c κs = search needs
 
-add-next : tie.Need-add-next Inv-walk μ-walk
-add-next c = omega (arith, byte (c .before), next-fits (c .before .before))
-
 add-place-2 : tie.Need-add-place-2 Inv-walk μ-walk
 add-place-2 c = omega (arith, byte (c .before), place-fits (c .before .before .before .before .before .before .before), c .before .before .before .before .before .before .before .before .before .if1 .left)
 
 add-at : tie.Need-add-at Inv-walk μ-walk
-add-at c = omega (arith, c .before .before .before .before .before .before .before .walk .inv .inside)
+add-at c = omega (arith, c .before .before .before .before .before .before .before .walk .inv .walk .inside)
 
 sub-more : tie.Need-sub-more Inv-walk μ-walk
 sub-more c = omega arith
@@ -99,17 +82,17 @@ walk-less : tie.Need-walk-less Inv-walk μ-walk
 walk-less c = omega arith
 
 walk-again : tie.Need-walk-again Inv-walk μ-walk
-walk-again c = passed (c .before .before .before .before .before .before .before .walk .inv) (c .before .before .before .before .before .before .if2 .left) (c .before .before .before .before .before .bit .ensures) (c .before .before .before .x .given .1) (byte (c .before)) (c .if3 .left)
+walk-again c = ahead-passed (c .before .before .before .before .before .before .before .walk .inv) (c .before .before .before .before .before .before .if2 .left) (c .before .before .before .before .before .bit .ensures) (c .before .before .before .x .given .1) (byte (c .before)) (c .if3 .left)
 
 returns-2 : tie.Need-returns-2 Inv-walk μ-walk
-returns-2 c = sym (no-code (c .before .walk .inv) (c .if2 .taken))
+returns-2 c = sym (no-code (c .before .walk .inv .walk) (c .if2 .taken))
 
 returns-3 : tie.Need-returns-3 Inv-walk μ-walk
-returns-3 c = sym (no-bit (c .before .before .before .before .before .walk .inv) (c .before .before .before .before .if2 .left) (c .before .before .before .bit .ensures) (c .before .f .given .1))
+returns-3 c = sym (no-bit (c .before .before .before .before .before .walk .inv .walk) (c .before .before .before .before .if2 .left) (c .before .before .before .bit .ensures) (c .before .f .given .1))
 
 returns-4 : tie.Need-returns-4 Inv-walk μ-walk
 returns-4 c =
-    ap (λ y. got y (c .before .before .before .before .x .given .0 .1 .0)) (c .symbol-at .ensures) ∙ sym (found (c .before .before .before .before .before .before .before .before .walk .inv) (c .before .before .before .before .before .before .before .if2 .left) (c .before .before .before .before .before .before .bit .ensures) (c .before .before .before .before .x .given .1) (c .before .if3 .taken))
+    ap (λ y. got y (c .before .before .before .before .x .given .0 .1 .0)) (c .symbol-at .ensures) ∙ sym (ahead-found (c .before .before .before .before .before .before .before .before .walk .inv) (c .before .before .before .before .before .before .before .if2 .left) (c .before .before .before .before .before .before .bit .ensures) (c .before .before .before .before .x .given .1) (c .before .if3 .taken))
 
 pub symbol-spec : {M : Type 1} → statement M
 symbol-spec =
@@ -125,17 +108,13 @@ symbol-spec =
     bit-requires
     enum-known-f
     enum-known-x
-    mul-first
     shared-slice-read-count
     cast-count
     mul-code
     cast-code
     add-code
-    add-if3
-    sub-symbol-at
     add-symbol-at
     symbol-at-requires
-    add-next
     add-place-2
     add-at
     sub-more
