@@ -13,8 +13,8 @@ use Rattle.reading.specs.declared.BlockRead.the-variants as read
 use Rattle.reading.specs.Answers.{said, levelsOf}
 use Rattle.reading.specs.Block.{places}
 use Rattle.reading.specs.Reader.{Read}
-use Rattle.jpeg_block.proofs.Answered.{Taken, told}
-use Rattle.jpeg_block.proofs.Reach.{places-some, places-zero}
+use Rattle.reading.proofs.BlockAnswers.{Taken, told}
+use Rattle.reading.proofs.Reach.{places-some, places-zero}
 use Rattle.jpeg_writer.specs.Steps.{zerosOf, zerosAt, Quiet}
 
 all-zero : (l : List ℤ) → ((i : ℕ) → getD l i (pos 0) ≡ pos 0) → length l ≡ zerosOf l
