@@ -3,16 +3,15 @@ use Prim.Native.Nat.{ℕ}
 use mathlib.Core.Path.{_≡_, refl, sym, ap, _∙_, subst, subst⁻¹}
 use mathlib.Core.Bool.{Bool, true, false}
 use mathlib.Core.List.{List, [], _∷_}
-use mathlib.Core.Option.{Option, none, some}
-use Rattle.reading.specs.declared.ScanSettled.{ScanSettled}
+use mathlib.Core.Option.{Option, some}
 use Rattle.reading.specs.declared.ScanSettled.the-variants as answer
 use Rattle.reading.specs.Settled.{Written, Coded, onto, cut}
 use Rattle.jpeg_writer.specs.declared.Pen.{Pen}
 use Rattle.jpeg_writer.specs.declared.Outcome.{Outcome}
 use Rattle.jpeg_writer.specs.declared.Outcome.the-variants.{Done, NoCode}
-use Rattle.jpeg_writer.specs.Page.{Spot, spot, bytesAt, Page, page, closedAt, restarted, Proper, Wrote, Told, Puts}
+use Rattle.jpeg_writer.specs.Page.{Spot, spot, bytesAt, Page, page, closedAt, restarted, Proper, Told, Puts}
 use Rattle.jpeg_writer.specs.Join.{finalAt}
-use Rattle.jpeg_writer.specs.Pass.{finalBy, Fit, Moves, lastPart, endedAt, Closes}
+use Rattle.jpeg_writer.specs.Pass.{finalBy, Fit, Moves, lastPart, Closes}
 use Rattle.jpeg_writer.proofs.Forwards.{final-put, final-lacks, final-restart, final-on, final-end, restarted-proper}
 
 -- ---- the pen of an ink

@@ -1,7 +1,7 @@
 -- The blocks of one MCU. Before its block j what is still to come is what was to come at the start. One block more keeps this
 -- (`further`), a fault is the scan's fault (`broken`), and behind the last block it is what the contract says (`whole`, `out`).
-use Prim.Native.Nat.{ℕ, _+_, _*_, _-_, _<_, _≤_, min}
-use mathlib.Core.Path.{_≡_, refl, sym, _∙_, ap}
+use Prim.Native.Nat.{ℕ, _+_, _*_, _-_, _<_, _≤_}
+use mathlib.Core.Path.{_≡_, refl, _∙_, ap}
 use mathlib.Core.Bool.{Bool, true, false, cond}
 use mathlib.Core.List.{List}
 use mathlib.Core.Option.{Option}
@@ -24,7 +24,6 @@ use Rattle.jpeg_scan.specs.declared.Halt.the-variants.{No, Yes}
 use Rattle.jpeg_scan.specs.Plans.{chan, Stands}
 use Rattle.jpeg_scan.proofs.Onward.{blockAt, past}
 use Rattle.jpeg_scan.proofs.OneMcu.{below}
-use Rattle.jpeg_writer.specs.declared.Moved.{Moved}
 use Rattle.jpeg_writer.specs.declared.Outcome.{Outcome}
 use Rattle.jpeg_writer.specs.Page.{Spot}
 use Rattle.jpeg_writer.specs.Words.{coderOf}

@@ -1,7 +1,7 @@
 -- MCU after MCU. What is still to come is what was to come at the start; one MCU more keeps this (`further`), a fault of the
 -- restart or of a block is the scan's (`stopped`, `broken`), and behind the last block stands the end (`ended-done`, `ended-not`).
-use Prim.Native.Nat.{ℕ, _+_, _*_, _-_, _<_, _≤_, _^_, min}
-use mathlib.Core.Path.{_≡_, refl, sym, _∙_, ap, subst, subst⁻¹}
+use Prim.Native.Nat.{ℕ, _+_, _*_, _-_, _<_, _≤_, min}
+use mathlib.Core.Path.{_≡_, refl, _∙_, subst, subst⁻¹}
 use mathlib.Core.Bool.{Bool, true, false, cond}
 use mathlib.Core.List.{List}
 use mathlib.Core.Option.{Option, some}
@@ -29,7 +29,7 @@ use Rattle.jpeg_writer.specs.declared.Moved.{Moved}
 use Rattle.jpeg_writer.specs.declared.Outcome.{Outcome}
 use Rattle.jpeg_writer.specs.declared.Outcome.the-variants.{Done}
 use Rattle.jpeg_writer.specs.Page.{Spot, fresh}
-use Rattle.jpeg_writer.specs.Pass.{finalBy, Fit, Moves, lastPart, endedAt, Closes, coming, resuming, Behind, Went, closing, Answers, Ran}
+use Rattle.jpeg_writer.specs.Pass.{finalBy, Fit, Moves, lastPart, Closes, coming, resuming, Behind, Went, closing, Answers, Ran}
 use Rattle.jpeg_writer.proofs.Comings.{coming-none, coming-stop, coming-restart, done-same}
 
 -- the bytes that have the tables

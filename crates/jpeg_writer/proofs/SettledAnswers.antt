@@ -1,14 +1,13 @@
 -- What a pass answers is what the definition says of a record's scan: so what is measured is what is written.
 use Prim.Native.Nat.{ℕ, _+_, _<_, _≤_, _^_}
-use mathlib.Core.Path.{_≡_, refl, sym, ap, ap₂, _∙_, subst}
+use mathlib.Core.Path.{_≡_, refl, sym, ap, _∙_, subst}
 use mathlib.Core.Bool.{Bool, true, false, cond}
 use mathlib.Core.List.{List, _++_}
 use mathlib.Core.Option.{Option, none, some}
 use native.Mathlib.Nat.{zero-add}
 use native.Mathlib.Omega.{arith}
-use lib.Dec.{ltb}
 use lib.IntN.{ℤ}
-use lib.ListN.{length, take, drop}
+use lib.ListN.{length, drop}
 use lib.Seq.{sets, sets-eq}
 use borrow.Author.Tests.{lt-ltb, le-ltb}
 use Rattle.reading.specs.declared.Bits.{Bits}
@@ -24,12 +23,11 @@ use Rattle.reading.specs.Settled.{written, settledScan, settledRead, settledOf,
 use Rattle.reading.specs.Tests.{over}
 use Rattle.jpeg_scan.specs.declared.Plan.{Plan}
 use Rattle.jpeg_scan.specs.Steps.{ahead}
-use Rattle.jpeg_scan.specs.Plans.{planIn}
 use Rattle.jpeg_scan.proofs.Standing.{Ready}
 use Rattle.jpeg_scan.proofs.Ends.{scan-stop, scan-done, scan-open}
 use Rattle.reading.proofs.Counted.{scan-levels}
 use Rattle.jpeg_writer.specs.declared.Outcome.the-variants.{Done}
-use Rattle.jpeg_writer.specs.Page.{Spot, spot, bytesAt, page, fresh}
+use Rattle.jpeg_writer.specs.Page.{Spot, spot, bytesAt, fresh}
 use Rattle.jpeg_writer.specs.Join.{scanAt}
 use Rattle.jpeg_writer.specs.Pass.{finalBy, endedAt, settling, coming, closing, Answers, Ran, Measures}
 use Rattle.jpeg_writer.proofs.Forwards.{final-scan}

@@ -1,8 +1,7 @@
 -- The words of one table more leave those before it.
-use Prim.Native.Nat.{ℕ, zero, suc, _+_, _*_, _-_, _≤_, _<_}
+use Prim.Native.Nat.{ℕ, zero, suc, _+_, _*_, _≤_, _<_}
 use mathlib.Core.Path.{_≡_, refl, sym, ap, ap₂, _∙_, subst, subst⁻¹}
-use mathlib.Core.List.{List, [], _∷_, _++_}
-use mathlib.Core.Option.{Option, none, some}
+use mathlib.Core.List.{List, _++_}
 use native.Mathlib.Decide.{ℕ-discrete}
 use native.Mathlib.Nat.{not-suc-le-zero, le-of-suc-le-suc}
 use native.Mathlib.Omega.{arith}
@@ -17,7 +16,7 @@ use Rattle.jpeg_scan.specs.declared.Plan.{Plan}
 use Rattle.jpeg_scan.specs.Plans.{Stands}
 use Rattle.jpeg_writer.specs.Words.{wordOf, codeWords, coderOf}
 use Rattle.jpeg_writer.specs.Sheets.{wordsIn, basesOf, Sheet}
-use Rattle.jpeg_writer.proofs.Coders.{Alike, block-alike, words-alike}
+use Rattle.jpeg_writer.proofs.Coders.{block-alike, words-alike}
 
 -- ---- filling
 

@@ -1,9 +1,8 @@
 -- `run`: before each MCU what is still to come is what was to come at the start (ScanPassed).
-use Prim.Native.Nat.{_*_, _-_, _≤_}
-use mathlib.Core.Path.{_≡_, refl, sym, _∙_, ap}
+use Prim.Native.Nat.{_-_}
+use mathlib.Core.Path.{sym, _∙_, ap}
 use native.Mathlib.Nat.{le-mul-of-pos-right}
 use native.Mathlib.Omega.{arith}
-use lib.ListN.{length}
 use borrow.Author.Needs.{needs}
 use Rattle.jpeg_writer.specs.declared.Outcome.the-variants.{Done}
 use Rattle.jpeg_writer.proofs.ScanPassed.{Walk, begin, ended-done, ended-not, at-mcu, stopped, gained, broken, further}

@@ -1,6 +1,6 @@
 -- `settled`: what the first pass says is the answer, and what the second leaves is the settled scan (SettledAnswers).
-use Prim.Native.Nat.{_≤_, _<_, _^_, _*_}
-use mathlib.Core.Path.{_≡_, sym, _∙_, ap}
+use Prim.Native.Nat.{_<_, _^_}
+use mathlib.Core.Path.{sym, _∙_, ap}
 use native.Mathlib.Omega.{arith}
 use lib.Seq.{length-take-le}
 use borrow.Author.Needs.{needs}
