@@ -1,9 +1,9 @@
 -- Demand 3 in the calls' own words. The theorems on readings set limits, budget and room aside; here they are given: what settle
 -- and inspect answer of a file that was settled, where they are enough.
-use Prim.Native.Nat.{ℕ, _+_, _*_, _-_, _^_, _<_, _≤_}
+use Prim.Native.Nat.{ℕ, _+_, _^_, _<_, _≤_}
 use mathlib.Core.Path.{_≡_, refl, sym, ap, _∙_, subst, subst⁻¹}
 use mathlib.Core.Bool.{Bool, true, false, cond}
-use mathlib.Core.List.{List, [], _∷_, _++_}
+use mathlib.Core.List.{List}
 use mathlib.Core.Logic.{_↔_}
 use mathlib.Core.Option.{Option, none, some}
 use native.Mathlib.Omega.{arith}
@@ -17,22 +17,19 @@ use Rattle.reading.specs.declared.Budget.{Budget}
 use Rattle.reading.specs.declared.Inspection.{Inspection}
 use Rattle.reading.specs.declared.Limits.{Limits}
 use Rattle.reading.specs.declared.Record.{Record}
-use Rattle.reading.specs.declared.Refusal.{Refusal}
 use Rattle.reading.specs.declared.Refusal.the-variants.{TooLong, OverBudget, CutShort, Malformed, Unsupported, TooLarge, ShortRoom, NotItsRecord, NoEndCode, Scan}
-use Rattle.reading.specs.declared.Settling.{Settling}
 use Rattle.reading.specs.declared.Verdict.{Verdict}
 use Rattle.reading.specs.declared.Verdict.the-variants.{Accepted, Refused}
 use Rattle.reading.specs.Tests.{_or_, over}
 use Rattle.reading.specs.Reader.{Read, got, fault}
 use Rattle.reading.specs.Header.{Stage, more, done, stop, header}
 use Rattle.reading.specs.Scan.{levels, planOf}
-use Rattle.reading.specs.Reading.{Reading, accepted, refused, reading, dequantized}
+use Rattle.reading.specs.Reading.{accepted, reading}
 use Rattle.reading.specs.Settled.{settledFile, someLacksEnd}
 use Rattle.reading.specs.Calls.{headerPrice, Outcome, takes, gives, Judged, judge, tooLarge, judgedScan, judgedRecord, judgedHeader, judged, remaining, inspection, inspect, Rewritten, unsettled, settledInto, settledFrom, settle}
 use Rattle.reading.proofs.HeaderEnds.{or-left, or-right}
-use Rattle.reading.proofs.Written.{some-list}
 use Rattle.reading.proofs.WantOfCode.{AllBytes}
-use Rattle.reading.proofs.Demand3.{Settles, Taken, taken-apart}
+use Rattle.reading.proofs.Demand3.{Settles, taken-apart}
 use Rattle.reading.proofs.Theorems as Th
 use Rattle.reading.proofs.Theorems.{coefficientsOf}
 

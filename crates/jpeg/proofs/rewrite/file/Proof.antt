@@ -25,7 +25,9 @@ enum-known-n : tie.Need-enum-known-n
 enum-known-n c = search needs
 
 join-requires : tie.Need-join-requires
-join-requires c κs = file-within (c .before .before .before .before .before .before .before .before .before .before .args .s .now) (all-bytes (c .before .before .before .before .before .before .before .before .before .before .args .s .now) (λ i. omega (arith, c .before .before .before .before .before .before .before .before .before .shared-slice-known .given i))) (c .before .before .before .before .before .before .before .before .before .before .args .found) (c .before .before .before .before .before .before .before .before .before .before .pre) (c .before .before .before .before .before .before .before .before .before .before .args .rest) (c .before .before .before .before .before .before .before .before .before .before .args .out .now) (c .before .before .before .before .before .before .scan .ensures .0) (c .before .before .before .before .before .before .scan .ensures .1) (c .before .before .n .given .1)
+join-requires c κs =
+    let w = file-within (c .before .before .before .before .before .before .before .before .before .before .args .s .now) (all-bytes (c .before .before .before .before .before .before .before .before .before .before .args .s .now) (λ i. omega (arith, c .before .before .before .before .before .before .before .before .before .shared-slice-known .given i))) (c .before .before .before .before .before .before .before .before .before .before .args .found) (c .before .before .before .before .before .before .before .before .before .before .pre) (c .before .before .before .before .before .before .before .before .before .before .args .rest) (c .before .before .before .before .before .before .before .before .before .before .args .out .now) (c .before .before .before .before .before .before .scan .ensures .0) (c .before .before .before .before .before .before .scan .ensures .1) (c .before .before .n .given .1) in
+    (omega (arith, w), omega (arith, w, c .before .before .before .before .before .before .before .before .before .before .pre .counted))
 
 same-length : tie.Need-same-length
 same-length c = search needs
