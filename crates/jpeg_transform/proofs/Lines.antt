@@ -104,6 +104,23 @@ module _ (f : ℕ → ℤ) (small : (i : ℕ) → natAbs (f i) ≤ 2 ^ 40) where
       next : (j : ℕ) → suc j ≡ 1 + j
       next j = omega arith
 
+  -- the test of a column: its lower four inputs are 0 where no bit of any of them is 1
+  pub lower-none : orFrom (ofZ w64 (f 4)) (from (λ i. ofZ w64 (f i)) 5 3) ≡ 0 → (j : ℕ) → j < 4 → f (4 + j) ≡ pos 0
+  unfolding from
+  lower-none e j h =
+      zero-bits w64 (input-fits (4 + j) .sfits)
+      (sym (getD-from (λ i. ofZ w64 (f i)) 4 4 j 0 h) ∙ or-each (ofZ w64 (f 4)) (from (λ i. ofZ w64 (f i)) 5 3) e j)
+
+  -- two inputs and two zeros, as a half is given them
+  pub upper-small : (i j : ℕ) → Within (2 ^ 40) (lent i ∷ lent j ∷ pos 0 ∷ pos 0 ∷ [])
+  upper-small i j = one i (one j (within-cons (pos 0) (leb→le 0 (2 ^ 40) tt) (within-cons (pos 0) (leb→le 0 (2 ^ 40) tt) within-nil)))
+    where
+      one : (i : ℕ) {l : List ℤ} → Within (2 ^ 40) l → Within (2 ^ 40) (lent i ∷ l)
+      one i h = within-cons (lent i) (rw (lent-is i) (small i)) h
+
+  pub upper-is : (g : ℤ → ℤ → ℤ → ℤ → Four) (i j k m : ℕ) → f k ≡ pos 0 → f m ≡ pos 0 → {r : Four} → r ≡ g (lent i) (lent j) (pos 0) (pos 0) → r ≡ g (f i) (f j) (f k) (f m)
+  upper-is g i j k m p q e = e ∙ rw (lent-is i, lent-is j, p, q) refl
+
 -- ---- a line whose first input alone is not 0
 
 dot-none : (f : ℕ → ℤ) → ((j : ℕ) → j < 7 → f (suc j) ≡ pos 0) → (ks : List ℤ) (i : ℕ) → i + length ks ≤ 7 → dot ks f (suc i) ≡ pos 0

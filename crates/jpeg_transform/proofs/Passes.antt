@@ -1,23 +1,24 @@
 -- The two passes: how large their sums are, what each turn of a pass adds, and that one pass after the other is the definition. Assumes
 -- nothing.
 use mathlib.Core.Path.{_≡_, refl, sym, _∙_, ap, ap₂}
-use mathlib.Core.Bool.{Bool, true, false}
+use mathlib.Core.Bool.{Bool, true, false, cond}
 use mathlib.Core.List.{List, []}
 use Prim.Native.Nat.{ℕ, zero, suc, _+_, _-_, _*_, _/_, _%_, _≤_, _<_, zero-le}
 use native.Mathlib.Decide.{ℕ-discrete}
 use native.Mathlib.Omega.{arith}
-use borrow.Author.Tests.{ltb-true, ltb-false}
-use lib.Dec.{ltb}
+use borrow.Author.Tests.{ltb-true, ltb-false, leb-true, leb-false}
+use lib.Dec.{leb, ltb, leb→le}
 use lib.ListN.{getD, length, List·getD-map}
-use lib.IntN.{ℤ, pos, natAbs}
-use Rattle.whole.specs.Expressions.{at, Within, dot, dot-cong}
-use Rattle.whole.specs.Lists.{from, getD-from, is-list-of, listOf-cong}
-use Rattle.reading.specs.Tests.{over}
-use Rattle.reading.specs.Transform.{basis, weights, line, row, plane, sampleOf, samples}
-use Rattle.jpeg_transform.specs.Passes.{place, spaced, lines, puts, rowed, rowsOf, columned, columnsOf}
+use lib.IntN.{ℤ, pos, negsuc, natAbs, _+ℤ_}
+use lib.Signed.{shrZ}
+use Rattle.whole.specs.Expressions.{at, Within, dot, weight, dot-small, dot-cong}
+use Rattle.whole.specs.Lists.{from, getD-from, is-list-of, listOf, listOf-cong}
+use Rattle.reading.specs.Colour.{toByte}
+use Rattle.reading.specs.Transform.{basis, weights, line, row, plane, clamped, sampleOf, samples}
+use Rattle.jpeg_transform.specs.Passes.{place, spaced, lines, puts, rowed, rowsOf, inSteps, columned, columnsOf}
 use Rattle.reading.proofs.DoubleSum.{weights-short}
 pub use Rattle.reading.proofs.DoubleSum.{line-small, row-small}
-use Rattle.jpeg_transform.proofs.Stores.{place-is, length-puts, puts-same, puts-other, over-is}
+use Rattle.jpeg_transform.proofs.Stores.{place-is, length-puts, puts-same, puts-other}
 
 -- ---- one line
 
@@ -111,43 +112,38 @@ rows-within {B} {c} {t} {i} h d = record { each = λ j. go j (ltb j i) refl }
     go j true b = rw (d .done j (ltb-true j i b)) (row-small h (j / 8) (j % 8))
     go j false b = rw (d .left j (ltb-false j i b)) (omega (arith, h .each j))
 
--- ---- the second pass: the samples of the columns before x are there, and what stands behind the 64th is as it was
+-- ---- the second pass: the columns before x are there, in steps
 
--- the sample at place j, of a block whose rows are transformed
-abbrev sampleAt : List ℤ → ℕ → ℕ
-sampleAt t j = sampleOf (line (λ v. at t (8 * v + j % 8)) (j / 8))
+-- the number at place j, of a block whose rows are transformed
+abbrev stepsAt : List ℤ → ℕ → ℤ
+stepsAt t j = inSteps (line (λ v. at t (8 * v + j % 8)) (j / 8))
 
-pub record ColumnsTo (t : List ℤ) (old : List ℕ) (x : ℕ) (out : List ℕ) : Type 0 where
-  pub long : length out ≡ length old
-  pub done : (j : ℕ) → j < 64 → j % 8 < x → getD out j 0 ≡ sampleOf (line (λ v. at t (8 * v + j % 8)) (j / 8))
-  pub left : (j : ℕ) → 64 ≤ j → getD out j 0 ≡ getD old j 0
+pub record ColumnsTo (t : List ℤ) (x : ℕ) (steps : List ℤ) : Type 0 where
+  pub long : length steps ≡ 64
+  pub done : (j : ℕ) → j < 64 → j % 8 < x → at steps j ≡ inSteps (line (λ v. at t (8 * v + j % 8)) (j / 8))
 
-pub columns-next : {t : List ℤ} {old out : List ℕ} {x : ℕ} → ColumnsTo t old x out → x < 8 → 64 ≤ length old → ColumnsTo t old (x + 1) (columned t x out)
+pub columns-next : {t steps : List ℤ} {x : ℕ} → ColumnsTo t x steps → x < 8 → ColumnsTo t (x + 1) (columned t x steps)
 unfolding columned
-columns-next {t} {old} {out} {x} d h room = record {
-  long = length-puts out p f 8 ∙ d .long;
+columns-next {t} {steps} {x} d h = record {
+  long = length-puts steps p f 8 ∙ d .long;
   done = λ j q r. done j q r (ℕ-discrete (j % 8) x);
-  left = λ j q. puts-other out p f 8 j 0 (λ u r e. apart u r (e ∙ place-is x 8 u) q) ∙ d .left j q;
 }
   where
     p : ℕ → ℕ
     p = place x 8
 
-    f : ℕ → ℕ
-    f = λ y. sampleOf (at (lines (spaced t x 8)) y)
+    f : ℕ → ℤ
+    f = λ y. inSteps (at (lines (spaced t x 8)) y)
 
-    apart : {j : ℕ} (u : ℕ) → u < 8 → j ≡ x + u * 8 → 64 ≤ j → ⊥
-    apart u r e q = omega (arith, h)
-
-    done : (j : ℕ) → j < 64 → j % 8 < x + 1 → Dec (j % 8 ≡ x) → getD (puts out p f 8) j 0 ≡ sampleAt t j
-    done j q r (no ne) = puts-other out p f 8 j 0 (λ u s e. ne (there u (e ∙ place-is x 8 u))) ∙ d .done j q (omega arith)
+    done : (j : ℕ) → j < 64 → j % 8 < x + 1 → Dec (j % 8 ≡ x) → at (puts steps p f 8) j ≡ stepsAt t j
+    done j q r (no ne) = puts-other steps p f 8 j (pos 0) (λ u s e. ne (there u (e ∙ place-is x 8 u))) ∙ d .done j q (omega arith)
       where
         there : (u : ℕ) → j ≡ x + u * 8 → j % 8 ≡ x
         there u e = omega (arith, h)
     done j q r (yes e) =
-        ap (λ k. getD (puts out p f 8) k 0) (here ∙ sym (place-is x 8 (j / 8)))
-        ∙ puts-same out p f 8 (j / 8) 0 less (rw (place-is x 8 (j / 8), d .long) fits) (λ v s g. own v (sym (place-is x 8 (j / 8)) ∙ g ∙ place-is x 8 v))
-        ∙ ap sampleOf (lines-at (spaced t x 8) (j / 8)
+        ap (at (puts steps p f 8)) (here ∙ sym (place-is x 8 (j / 8)))
+        ∙ puts-same steps p f 8 (j / 8) (pos 0) less (rw (place-is x 8 (j / 8), d .long) fits) (λ v s g. own v (sym (place-is x 8 (j / 8)) ∙ g ∙ place-is x 8 v))
+        ∙ ap inSteps (lines-at (spaced t x 8) (j / 8)
         ∙ line-cong (spaced t x 8) (λ v. at t (8 * v + j % 8)) (j / 8) (λ v s. ap (at t) (place-is x 8 v ∙ swap v)))
       where
         here : j ≡ x + j / 8 * 8
@@ -156,8 +152,8 @@ columns-next {t} {old} {out} {x} d h room = record {
         less : j / 8 < 8
         less = omega (arith, q)
 
-        fits : x + j / 8 * 8 < length old
-        fits = omega (arith, e, q, room)
+        fits : x + j / 8 * 8 < 64
+        fits = omega (arith, e, q)
 
         own : (v : ℕ) → x + j / 8 * 8 ≡ x + v * 8 → j / 8 ≡ v
         own v g = omega arith
@@ -165,15 +161,51 @@ columns-next {t} {old} {out} {x} d h room = record {
         swap : (v : ℕ) → x + v * 8 ≡ 8 * v + j % 8
         swap v = omega (arith, e)
 
-pub columns-done : {t : List ℤ} {old out : List ℕ} {x : ℕ} → ColumnsTo t old x out → 8 ≤ x → 64 ≤ length old → out ≡ over (columnsOf t) old
+pub columns-done : {t steps : List ℤ} {x : ℕ} → ColumnsTo t x steps → 8 ≤ x → steps ≡ columnsOf t
 unfolding columnsOf
-columns-done {t} {old} {out} d h room = over-is out old 64 (sampleAt t) (d .long) room (λ j q. d .done j q (omega arith)) (d .left)
+columns-done {t} {steps} d h = is-list-of (pos 0) steps 64 (stepsAt t) (d .long) (λ j q. d .done j q (omega arith))
+
+-- ---- the clamp
+
+-- the byte nearest to a number of steps is the sample
+pub byte-of-steps : (v : ℤ) → toByte (inSteps v) ≡ sampleOf v
+unfolding toByte inSteps clamped
+byte-of-steps v = go (v +ℤ pos 137975824384)
+  where
+    go : (z : ℤ) → toByte (shrZ z 1073741824) ≡ clamped z
+    go (negsuc n) = refl
+    go (pos n) = tests (leb n 0) refl (leb 273804165120 n) refl (ltb (n / 1073741824) 0) refl (ltb 255 (n / 1073741824)) refl
+      where
+        none : n ≤ 0 → n / 1073741824 ≡ 0
+        none h = omega arith
+
+        full : 273804165120 ≤ n → n / 1073741824 ≤ 255 → n / 1073741824 ≡ 255
+        full h k = omega arith
+
+        not-full : n < 273804165120 → 255 < n / 1073741824 → ⊥
+        not-full h k = omega arith
+
+        not-none : n ≤ 0 → 255 < n / 1073741824 → ⊥
+        not-none h k = omega arith
+
+        never : n / 1073741824 < 0 → ⊥
+        never h = omega arith
+
+        tests : (a : Bool) → leb n 0 ≡ a → (b : Bool) → leb 273804165120 n ≡ b → (c : Bool) → ltb (n / 1073741824) 0 ≡ c → (d : Bool) → ltb 255 (n / 1073741824) ≡ d
+            → cond c 0 (cond d 255 (n / 1073741824)) ≡ cond a 0 (cond b 255 (n / 1073741824))
+        tests a p b q true r d s = absurd (never (ltb-true (n / 1073741824) 0 r))
+        tests true p b q false r true s = absurd (not-none (leb-true n 0 p) (ltb-true 255 (n / 1073741824) s))
+        tests true p b q false r false s = none (leb-true n 0 p)
+        tests false p true q false r true s = refl
+        tests false p true q false r false s = full (leb-true 273804165120 n q) (ltb-false 255 (n / 1073741824) s)
+        tests false p false q false r true s = absurd (not-full (leb-false 273804165120 n q) (ltb-true 255 (n / 1073741824) s))
+        tests false p false q false r false s = refl
 
 -- ---- the two passes, one after the other, are the definition
 
-pub both : (c : List ℤ) → columnsOf (rowsOf c) ≡ samples c
+pub both : (c : List ℤ) → listOf 64 (λ k. toByte (at (columnsOf (rowsOf c)) k)) ≡ samples c
 unfolding columnsOf rowsOf samples plane
-both c = listOf-cong 64 (sampleAt (rowsOf c)) (λ k. sampleOf (plane c (k / 8) (k % 8))) (λ k h. ap sampleOf (one k h))
+both c = listOf-cong 64 (λ k. toByte (at (columnsOf (rowsOf c)) k)) (λ k. sampleOf (plane c (k / 8) (k % 8))) (λ k h. ap toByte (steps k h) ∙ byte-of-steps (plane c (k / 8) (k % 8)))
   where
     one : (k : ℕ) → k < 64 → line (λ v. at (rowsOf c) (8 * v + k % 8)) (k / 8) ≡ plane c (k / 8) (k % 8)
     one k h =
@@ -185,3 +217,9 @@ both c = listOf-cong 64 (sampleAt (rowsOf c)) (λ k. sampleOf (plane c (k / 8) (
 
         beside : (v : ℕ) → (0 + (8 * v + k % 8)) % 8 ≡ k % 8
         beside v = omega arith
+
+    steps : (k : ℕ) → k < 64 → at (columnsOf (rowsOf c)) k ≡ inSteps (plane c (k / 8) (k % 8))
+    steps k h = getD-from (stepsAt (rowsOf c)) 0 64 k (pos 0) h ∙ ap (stepsAt (rowsOf c)) same ∙ ap inSteps (one k h)
+      where
+        same : 0 + k ≡ k
+        same = omega arith

@@ -1,11 +1,12 @@
 -- The two passes over a block, line by line: what one row or column leaves behind, and what a whole pass does.
 use mathlib.Core.List.{List, map}
 use Prim.Native.Nat.{ℕ, zero, suc, _+_, _*_, _/_, _%_}
-use lib.IntN.{ℤ}
+use lib.IntN.{ℤ, pos, _+ℤ_}
 use lib.ListN.{set}
+use lib.Signed.{shrZ}
 use Rattle.whole.specs.Expressions.{dot, at}
 use Rattle.whole.specs.Lists.{from, listOf}
-use Rattle.reading.specs.Transform.{basis, line, row, clamped, sampleOf}
+use Rattle.reading.specs.Transform.{basis, line, row}
 
 -- the u-th of the places that stand s apart from i on
 abbrev pub place : ℕ → ℕ → ℕ → ℕ
@@ -36,12 +37,16 @@ unfoldable pub rowsOf : List ℤ → List ℤ
 unfolding from row
 rowsOf c = listOf 64 (λ j. row c (j / 8) (j % 8))
 
--- the bytes after the samples of column x were stored
-unfoldable pub columned : List ℤ → ℕ → List ℕ → List ℕ
-unfolding lines puts clamped
-columned t x out = puts out (place x 8) (λ y. sampleOf (at (lines (spaced t x 8)) y)) 8
+-- a double sum, moved up by the middle, in steps of a sample, rounded down: `toByte` of it is the sample
+unfoldable pub inSteps : ℤ → ℤ
+inSteps v = shrZ (v +ℤ pos 137975824384) 1073741824
 
--- the samples of the second pass
-unfoldable pub columnsOf : List ℤ → List ℕ
-unfolding from basis clamped
-columnsOf t = listOf 64 (λ k. sampleOf (line (λ v. at t (8 * v + k % 8)) (k / 8)))
+-- the numbers after the outputs of column x were stored, in steps
+unfoldable pub columned : List ℤ → ℕ → List ℤ → List ℤ
+unfolding lines puts inSteps
+columned t x steps = puts steps (place x 8) (λ y. inSteps (at (lines (spaced t x 8)) y)) 8
+
+-- the second pass, in steps
+unfoldable pub columnsOf : List ℤ → List ℤ
+unfolding from basis inSteps
+columnsOf t = listOf 64 (λ k. inSteps (line (λ v. at t (8 * v + k % 8)) (k / 8)))

@@ -9,9 +9,10 @@ ghost use lib.ListN.{length, getD, take, replicate};
 ghost use Rattle.whole.specs.Expressions.{at, Within};
 ghost use Rattle.whole.specs.Lists.{listOf};
 ghost use Rattle.reading.specs.Tests.{over};
+ghost use Rattle.reading.specs.Colour.{toByte};
 ghost use Rattle.reading.specs.Transform.{coefficients, sampleOf, painted};
 ghost use Rattle.jpeg_transform.specs.Halves.{evenOf, listed, weighed, oddOf, halves, joined};
-ghost use Rattle.jpeg_transform.specs.Passes.{place, puts, rowed, rowsOf, columned, columnsOf};
+ghost use Rattle.jpeg_transform.specs.Passes.{place, puts, rowed, rowsOf, inSteps, columned, columnsOf};
 use reading::Sample;
 
 // The natural place of each zigzag place.
@@ -121,19 +122,12 @@ fn odd(c1: i64, c3: i64, c5: i64, c7: i64) -> Four
     Four(o0, o1, o2, o3)
 }
 
-// The sample of a double sum: moved up by the middle, clamped, rounded down.
-fn sample(v: i64) -> u8
+// A double sum, moved up by the middle, in steps of a sample, rounded down.
+fn in_steps(v: i64) -> i32
     requires { ⌜ natAbs v ≤ 2 ^ 57 ⌝ }
-    ensures { λ r. ⌜ r ≡ sampleOf v ⌝ }
+    ensures { λ r. ⌜ r ≡ inSteps v ⌝ }
 {
-    let m = v + Sample::MIDDLE;
-    if m <= 0 {
-        0
-    } else if m >= Sample::TOP {
-        255
-    } else {
-        (m / Sample::STEP) as u8
-    }
+    ((v + Sample::MIDDLE) >> 30) as i32
 }
 
 // The quantizer's entry at a zigzag place; 0 behind its end.
@@ -235,42 +229,70 @@ fn rows(block: &mut [i64; 64])
     }
 }
 
-// The samples of a column's outputs from its halves, stored eight apart from place x on.
-fn join_column(out: &mut [u8], x: usize, e: Four, o: Four)
-    requires { ⌜ (64 ≤ length (now out)) × (x < 8) × (Within (2 ^ 56) (halves e o)) ⌝ }
-    ensures { λ _. ⌜ now (out .exit) ≡ puts (now (out .entry)) (place x 8) (λ y. sampleOf (at (joined e o) y)) 8 ⌝ }
+// A column's outputs from its halves, in steps of a sample, stored eight apart from place x on.
+fn join_column(steps: &mut [i32; 64], x: usize, e: Four, o: Four)
+    requires { ⌜ (x < 8) × (Within (2 ^ 56) (halves e o)) ⌝ }
+    ensures { λ _. ⌜ now (steps .exit) ≡ puts (now (steps .entry)) (place x 8) (λ y. inSteps (at (joined e o) y)) 8 ⌝ }
 {
     let Four(e0, e1, e2, e3) = e;
     let Four(o0, o1, o2, o3) = o;
-    out[x] = sample(e0 + o0);
-    out[x + 8] = sample(e1 + o1);
-    out[x + 16] = sample(e2 + o2);
-    out[x + 24] = sample(e3 + o3);
-    out[x + 32] = sample(e3 - o3);
-    out[x + 40] = sample(e2 - o2);
-    out[x + 48] = sample(e1 - o1);
-    out[x + 56] = sample(e0 - o0);
+    steps[x] = in_steps(e0 + o0);
+    steps[x + 8] = in_steps(e1 + o1);
+    steps[x + 16] = in_steps(e2 + o2);
+    steps[x + 24] = in_steps(e3 + o3);
+    steps[x + 32] = in_steps(e3 - o3);
+    steps[x + 40] = in_steps(e2 - o2);
+    steps[x + 48] = in_steps(e1 - o1);
+    steps[x + 56] = in_steps(e0 - o0);
 }
 
-// The samples of column x.
-fn column(block: &[i64; 64], x: usize, out: &mut [u8])
-    requires { ⌜ (Within (2 ^ 40) (now block)) × (x < 8) × (64 ≤ length (now out)) ⌝ }
-    ensures { λ _. ⌜ now (out .exit) ≡ columned (now (block .entry)) x (now (out .entry)) ⌝ }
+// Column x.
+fn column(block: &[i64; 64], x: usize, steps: &mut [i32; 64])
+    requires { ⌜ (Within (2 ^ 40) (now block)) × (x < 8) ⌝ }
+    ensures { λ _. ⌜ now (steps .exit) ≡ columned (now (block .entry)) x (now (steps .entry)) ⌝ }
 {
-    let e = even(block[x], block[x + 16], block[x + 32], block[x + 48]);
-    let o = odd(block[x + 8], block[x + 24], block[x + 40], block[x + 56]);
-    join_column(out, x, e, o);
+    let c0 = block[x];
+    let c1 = block[x + 8];
+    let c2 = block[x + 16];
+    let c3 = block[x + 24];
+    let c4 = block[x + 32];
+    let c5 = block[x + 40];
+    let c6 = block[x + 48];
+    let c7 = block[x + 56];
+    // Where the lower four inputs are 0, as in most blocks, half of the products fall away.
+    if (c4 | c5 | c6 | c7) == 0 {
+        let e = even(c0, c2, 0, 0);
+        let o = odd(c1, c3, 0, 0);
+        join_column(steps, x, e, o);
+        return;
+    }
+    let e = even(c0, c2, c4, c6);
+    let o = odd(c1, c3, c5, c7);
+    join_column(steps, x, e, o);
 }
 
-// The second pass: the columns of what the first pass left, and the samples of the double sums.
-fn columns(block: &[i64; 64], out: &mut [u8])
-    requires { ⌜ (Within (2 ^ 40) (now block)) × (64 ≤ length (now out)) ⌝ }
-    ensures { λ _. ⌜ now (out .exit) ≡ over (columnsOf (now (block .entry))) (now (out .entry)) ⌝ }
+// The second pass: the columns of what the first pass left, in steps of a sample. They are clamped by a loop of their own, which is
+// compiled to vector code.
+fn columns(block: &[i64; 64], steps: &mut [i32; 64])
+    requires { ⌜ (Within (2 ^ 40) (now block)) × (length (now steps) ≡ 64) ⌝ }
+    ensures { λ _. ⌜ now (steps .exit) ≡ columnsOf (now (block .entry)) ⌝ }
 {
     let mut x = 0usize;
     while x < 8 {
-        column(block, x, out);
+        column(block, x, steps);
         x += 1;
+    }
+}
+
+// The samples of a block from its double sums in steps.
+fn clamp(steps: &[i32; 64], out: &mut [u8])
+    requires { ⌜ 64 ≤ length (now out) ⌝ }
+    ensures { λ _. ⌜ now (out .exit) ≡ over (listOf 64 (λ k. toByte (at (now (steps .entry)) k))) (now (out .entry)) ⌝ }
+{
+    let mut k = 0usize;
+    while k < 64 {
+        out[k] = jpeg_color::to_byte(steps[k]);
+        k += 1;
     }
 }
 
@@ -279,7 +301,7 @@ fn flat(first: i64, out: &mut [u8])
     requires { ⌜ (natAbs first ≤ 2 ^ 23) × (64 ≤ length (now out)) ⌝ }
     ensures { λ _. ⌜ now (out .exit) ≡ over (listOf 64 (λ k. sampleOf (first *ℤ pos 134212225))) (now (out .entry)) ⌝ }
 {
-    let b = sample(first * 134212225);
+    let b = jpeg_color::to_byte(in_steps(first * 134212225));
     let mut k = 0usize;
     while k < 64 {
         out[k] = b;
@@ -302,5 +324,7 @@ pub fn samples(levels: &[i16; 64], quantizer: &[u8], places: usize, out: &mut [u
     let mut block = [0i64; 64];
     dequantize(levels, quantizer, places, &mut block);
     rows(&mut block);
-    columns(&block, out);
+    let mut steps = [0i32; 64];
+    columns(&block, &mut steps);
+    clamp(&steps, out);
 }

@@ -4,17 +4,22 @@ use mathlib.Core.List.{List}
 use Prim.Native.Nat.{ℕ, _+_, _-_, _≤_, _<_, _^_}
 use native.Mathlib.Nat.{le-trans}
 use native.Mathlib.Omega.{arith}
+use borrow.Author.Needs.{needs, sfits-of}
 use lib.Dec.{lit≤}
 use lib.ListN.{length, getD, set, length-set}
 use lib.Seq.{getD-set-other}
 use lib.IntN.{pos, natAbs, _*ℤ_}
 use mir.Syntax.{w64}
 use mir.Val.{toZ}
+use mir.Facts.{toZ-ofZ}
 use Rattle.whole.specs.Expressions.{Exp, var, Fine, fine, bitsOf, exact, bounded}
 use Rattle.whole.specs.Lists.{stored}
+use Rattle.reading.specs.Colour.{toByte}
 use Rattle.reading.specs.Transform.{sampleOf}
 use Rattle.jpeg_transform.specs.Halves.{by}
+use Rattle.jpeg_transform.specs.Passes.{inSteps}
 use Rattle.jpeg_transform.proofs.Stores.{over-is}
+use Rattle.jpeg_transform.proofs.Passes.{byte-of-steps}
 use Rattle.jpeg_transform.proofs.flat.Statement.{statement}
 use Rattle.jpeg_transform.proofs.flat.Tie as tie
 
@@ -64,9 +69,11 @@ loop-holds c = record { inside = omega arith; long = refl; done = λ j h. absurd
 returns : tie.Need-returns Inv-loop μ-loop
 returns c =
     let d = c .before .loop .inv in
-    let s = c .before .before .before .before in
+    let r = c .before .before .before in
+    let s = r .before .before in
     over-is (c .before .loop .out) (s .args .out .now) 64 (λ k. sampleOf (s .args .first *ℤ pos 134212225)) (d .long) (s .pre .1)
-    (λ j h. d .done j (omega arith) ∙ c .before .before .sample .ensures ∙ ap sampleOf (read s)) (d .left)
+    (λ j h. d .done j (omega arith) ∙ c .before .before .to-byte .ensures
+    ∙ ap toByte (toZ-ofZ (sfits-of (r .in-steps .ok)) ∙ r .in-steps .ensures ∙ ap inSteps (read s)) ∙ byte-of-steps (s .args .first *ℤ pos 134212225)) (d .left)
 
 pub flat-spec : {M : Type 1} → statement M
 flat-spec =
@@ -76,10 +83,11 @@ flat-spec =
     μ-loop
     (λ c. fits (c .before))
     (λ c κs. low (c .before))
+    (λ c κs. search needs)
     loop-holds
-    (λ c. omega (arith, c .before .loop .inv .long, c .before .before .before .before .pre .1))
+    (λ c. omega (arith, c .before .loop .inv .long, c .before .before .before .before .before .pre .1))
     (λ c. omega arith)
     (λ c. omega arith)
-    (λ c. next (c .before .loop .inv) (c .loop-test .taken) (c .before .before .before .before .pre .1))
+    (λ c. next (c .before .loop .inv) (c .loop-test .taken) (c .before .before .before .before .before .pre .1))
     (λ c. c .before .loop .inv .long)
     returns)

@@ -1,6 +1,6 @@
 -- `jpeg_transform::samples` meets its contract: both ways leave the definition's samples in front of what stood behind them. Assumes
 -- nothing.
-use mathlib.Core.Path.{_≡_, sym, _∙_, ap, ap₂, subst⁻¹}
+use mathlib.Core.Path.{_≡_, refl, sym, _∙_, ap, ap₂, subst⁻¹}
 use mathlib.Core.List.{List}
 use Prim.Native.Nat.{ℕ, _^_}
 use borrow.Author.Needs.{needs, sfits-of}
@@ -12,6 +12,7 @@ use mir.Facts.{toZ-ofZ}
 use Rattle.whole.specs.Expressions.{at, Within, fits-abs}
 use Rattle.whole.specs.Lists.{listOf}
 use Rattle.reading.specs.Tests.{over}
+use Rattle.reading.specs.Colour.{toByte}
 use Rattle.reading.specs.Transform.{dequantizedAt, coefficients, sampleOf, samples}
 use Rattle.jpeg_transform.specs.Passes.{rowsOf, columnsOf}
 use Rattle.jpeg_transform.proofs.Passes.{rows-small, both}
@@ -45,8 +46,8 @@ returns-2 c =
 
 -- ---- the two passes
 
-two-passes : (c : List ℤ) {made passed : List ℤ} → passed ≡ rowsOf made → made ≡ c → columnsOf passed ≡ samples c
-two-passes c e h = ap columnsOf (e ∙ ap rowsOf h) ∙ both c
+two-passes : (c : List ℤ) {made passed steps : List ℤ} → steps ≡ columnsOf passed → passed ≡ rowsOf made → made ≡ c → listOf 64 (λ k. toByte (at steps k)) ≡ samples c
+two-passes c g e h = ap (λ xs. listOf 64 (λ k. toByte (at xs k))) (g ∙ ap columnsOf (e ∙ ap rowsOf h)) ∙ both c
 
 rows-requires : tie.Need-rows-requires
 rows-requires c κs =
@@ -57,15 +58,16 @@ rows-requires c κs =
 columns-requires : tie.Need-columns-requires
 columns-requires c κs =
     let r = c .before .before in
-    (subst⁻¹ (Within (2 ^ 40)) (r .rows .ensures) (rows-small (r .before .before .dequantize .ensures .1)), r .before .before .before .before .before .if1 .left)
+    (subst⁻¹ (Within (2 ^ 40)) (r .rows .ensures) (rows-small (r .before .before .dequantize .ensures .1)), refl)
 
 returns-3 : tie.Need-returns-3
 returns-3 c =
-    let r = c .before .before .before .before .before in
+    let k = c .before .before .before .before .before in
+    let r = k .before .before .before in
     let d = r .before .before in
     let s = d .before .before .before .before .before .before in
-    c .before .before .columns .ensures
-    ∙ ap (λ xs. over xs (s .args .out .now)) (two-passes (coefficients (s .args .quantizer .now) (take (s .args .places) (s .args .levels .now))) (r .rows .ensures) (d .dequantize .ensures .0))
+    c .before .before .clamp .ensures
+    ∙ ap (λ xs. over xs (s .args .out .now)) (two-passes (coefficients (s .args .quantizer .now) (take (s .args .places) (s .args .levels .now))) (k .columns .ensures) (r .rows .ensures) (d .dequantize .ensures .0))
     ∙ painted-long (s .args .quantizer .now) (s .args .levels .now) (s .args .places) (s .args .out .now) (d .before .before .before .if1 .left)
 
 pub samples-spec : {M : Type 1} → statement M
@@ -82,5 +84,6 @@ samples-spec =
     (λ c κs. search needs)
     rows-requires
     columns-requires
+    (λ c κs. c .before .before .before .before .before .before .before .before .before .before .if1 .left)
     (λ c. search needs)
     returns-3)
