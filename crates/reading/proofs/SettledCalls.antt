@@ -98,12 +98,12 @@ module _ (s : List ℕ) (colour : Bool) (l : Limits) (budget : Budget) where
             blocks = ls;
             read = rw (e, p) refl;
             enough =
-              record {
-                input = ltb-false (l .input) (length s) (or-left (ltb (l .input) (length s)) (leb (2 ^ 64) (headerPrice s)) a);
-                counted = leb-false (2 ^ 64) (headerPrice s) (or-right (ltb (l .input) (length s)) (leb (2 ^ 64) (headerPrice s)) a);
-                sizes = b;
-                price = c;
-              };
+                record {
+                  input = ltb-false (l .input) (length s) (or-left (ltb (l .input) (length s)) (leb (2 ^ 64) (headerPrice s)) a);
+                  counted = leb-false (2 ^ 64) (headerPrice s) (or-right (ltb (l .input) (length s)) (leb (2 ^ 64) (headerPrice s)) a);
+                  sizes = b;
+                  price = c;
+                };
             is = refl;
           }
 
