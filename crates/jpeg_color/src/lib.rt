@@ -5,8 +5,8 @@
 ghost use mathlib.Core.Path.{_≡_};
 ghost use mathlib.Core.Bool.{cond};
 ghost use Prim.Native.Nat.{_≤_};
-ghost use lib.IntN.{pos, natAbs};
-ghost use lib.Signed.{ltZ};
+ghost use lib.IntN.{pos, natAbs, _-ℤ_};
+ghost use lib.Signed.{ltZ, shrZ};
 ghost use Rattle.reading.specs.Colour.{toByte, red, green, blue};
 ghost use Rattle.jpeg_color.specs.Parts.{redPart, greenPart, bluePart};
 
@@ -46,14 +46,21 @@ fn red_part(cr: u8) -> i32
     d + ((26345 * d + 32768) >> 16)
 }
 
-// What both add in green: -46802 is 18734 - 65536. The two products are summed before the one division: rounded apart they would give
-// another green.
+// The difference of two numbers, divided by 65536 and rounded down once: rounded apart the two would give another green.
+fn divided(p: i32, q: i32) -> i32
+    requires { ⌜ (natAbs p ≤ 16777216) × (natAbs q ≤ 16777216) ⌝ }
+    ensures { λ r. ⌜ r ≡ shrZ (p -ℤ q) 65536 ⌝ }
+{
+    (p - q) >> 16
+}
+
+// What both add in green: -46802 is 18734 - 65536.
 fn green_part(cb: u8, cr: u8) -> i32
     ensures { λ r. ⌜ (r ≡ greenPart cb cr) × (natAbs r ≤ 1024) ⌝ }
 {
     let b = cb as i32 - 128;
     let d = cr as i32 - 128;
-    -d + ((18734 * d - 22554 * b + 32768) >> 16)
+    -d + divided(18734 * d + 32768, 22554 * b)
 }
 
 // What a chroma sample adds in blue: 116130 is 2 x 65536 - 14942.

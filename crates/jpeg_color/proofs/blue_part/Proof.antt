@@ -1,45 +1,44 @@
--- `jpeg_color::blue_part` meets its contract: each operation fits, and the whole multiple of 65536 passes by the division. Assumes nothing.
+-- `jpeg_color::blue_part` meets its contract: each operation fits, and the whole multiple of 65536 passes by the division. The numbers are
+-- read off the code: that each operation fits holds of any number as small, and only what is returned asks for these. Assumes nothing.
 use mathlib.Core.Path.{_≡_, refl, sym, _∙_, ap}
-use mathlib.Core.List.{List, [], _∷_}
+use mathlib.Core.List.{[], _∷_}
+use Prim.Native.Nat.{ℕ, _+_, _≤_}
+use native.Mathlib.Omega.{arith}
 use borrow.Author.Needs.{needs}
-use lib.IntN.{ℤ, pos, _+ℤ_}
+use lib.Dec.{T, leb}
+use lib.IntN.{ℤ, pos, natAbs, _+ℤ_, _-ℤ_, _*ℤ_}
 use lib.Signed.{shrZ}
-use Rattle.whole.specs.Expressions.{Exp, var, lit, add, sub, mul, at, value, same, Under, under-nil}
+use Rattle.whole.specs.Expressions.{Exp, var, lit, add, sub, mul, at, value, same}
+use Rattle.reading.specs.Colour.{chroma}
 use Rattle.jpeg_color.specs.Parts.{bluePart}
-use Rattle.jpeg_color.proofs.Sums.{byte-cons, ok, passes, both-fit, both-are, both-small}
+use Rattle.jpeg_color.proofs.Sums.{passes, Held, held-small, number, byte, difference, plus-fits, plus, less-fits, less, times-fits, times, floor}
 use Rattle.jpeg_color.proofs.blue_part.Statement.{statement}
 use Rattle.jpeg_color.proofs.blue_part.Tie as tie
 
 abbrev D : Exp
 D = sub (var 0) (lit 128)
 
--- what passes by the division, and what is divided
-abbrev E : Exp
-E = mul (lit 2) D
-
-abbrev S : Exp
-S = sub (lit 32768) (mul (lit 14942) D)
-
-abbrev inputs : tie.Start → List ℤ
-inputs s = pos (s .args .cb) ∷ []
-
-small : (s : tie.Start) → Under (255 ∷ []) (inputs s)
-small s = byte-cons (s .args .cb) (s .fits .cb) under-nil
-
-part : (s : tie.Start) → value (at (inputs s)) E +ℤ shrZ (value (at (inputs s)) S) 65536 ≡ bluePart (s .args .cb)
+sum : (cb j k r : ℕ) → j ≡ 2 → k ≡ 14942 → r ≡ 32768 → pos j *ℤ chroma cb +ℤ shrZ (pos r -ℤ pos k *ℤ chroma cb) 65536 ≡ bluePart cb
 unfolding bluePart
-part s =
-    sym (passes (value (at (inputs s)) E) (value (at (inputs s)) S))
-    ∙ ap (λ z. shrZ z 65536) (same (at (inputs s)) (add (mul (lit 65536) E) S) (add (mul (lit 116130) D) (lit 32768)) tt tt refl refl)
+sum cb j k r o p q =
+    let f = at (pos cb ∷ []) in
+    let E = mul (lit 2) D in
+    let S = sub (lit 32768) (mul (lit 14942) D) in
+    rw (o, p, q) (sym (passes (value f E) (value f S)) ∙ ap (λ z. shrZ z 65536) (same f (add (mul (lit 65536) E) S) (add (mul (lit 116130) D) (lit 32768)) tt tt refl refl))
+
+-- what the code returns with any factors j and k and any number r that is added before the division
+part : {x : ℤ} {b : ℕ} (cb j k r : ℕ) → Held x (pos j *ℤ chroma cb +ℤ shrZ (pos r -ℤ pos k *ℤ chroma cb) 65536) b → j ≡ 2 → 116130 + k ≡ 131072 → r ≡ 32768
+    → T (leb b 1024) → (x ≡ bluePart cb) × (natAbs x ≤ 1024)
+part cb j k r h o p q t = (h .is ∙ sum cb j k r o (omega (arith, p)) q, held-small h t)
 
 pub blue-part-spec : {M : Type 1} → statement M
 blue-part-spec =
     tie.close
     (tie.spec
     (λ c. search needs)
-    (λ c. ok (small c) D tt)
-    (λ c. ok (small c) E tt)
-    (λ c. ok (small c) (mul (lit 14942) D) tt)
-    (λ c. ok (small c) S tt)
-    (λ c. both-fit (small c) E S tt tt 256 tt tt)
-    (λ c. (both-are (small c) E S tt tt 256 tt tt ∙ part c, both-small (small c) E S tt tt 256 tt tt tt)))
+    (λ c. less-fits (byte (c .fits .cb)) (number 128) tt)
+    (λ c. times-fits (number _) (difference (c .fits .cb)) tt)
+    (λ c. times-fits (number _) (difference (c .fits .cb)) tt)
+    (λ c. less-fits (number _) (times (number _) (difference (c .fits .cb)) tt) tt)
+    (λ c. plus-fits (times (number _) (difference (c .fits .cb)) tt) (floor (less (number _) (times (number _) (difference (c .fits .cb)) tt) tt) 256 tt tt) tt)
+    (λ c. part _ _ _ _ (plus (times (number _) (difference (c .fits .cb)) tt) (floor (less (number _) (times (number _) (difference (c .fits .cb)) tt) tt) 256 tt tt) tt) refl refl refl tt))

@@ -1,14 +1,17 @@
--- `jpeg_color::green_part` meets its contract: each operation fits, and the whole multiple of 65536 passes by the division. Assumes
--- nothing.
+-- `jpeg_color::green_part` meets its contract: each operation fits, and the whole multiple of 65536 passes by the division. The numbers are
+-- read off the code: that each operation fits holds of any number as small, and only what is returned asks for these. Assumes nothing.
 use mathlib.Core.Path.{_≡_, refl, sym, _∙_, ap}
-use mathlib.Core.List.{List, [], _∷_}
+use mathlib.Core.List.{[], _∷_}
+use Prim.Native.Nat.{ℕ, _+_, _≤_}
+use native.Mathlib.Omega.{arith}
 use borrow.Author.Needs.{needs}
-use lib.IntN.{ℤ, pos, negℤ, _+ℤ_, _-ℤ_, _*ℤ_, +ℤ-idl}
+use lib.Dec.{T, leb}
+use lib.IntN.{ℤ, pos, negℤ, natAbs, _+ℤ_, _-ℤ_, _*ℤ_, +ℤ-idl}
 use lib.Signed.{shrZ}
-use Rattle.whole.specs.Expressions.{Exp, var, lit, add, sub, mul, at, value, same, Under, under-nil}
+use Rattle.whole.specs.Expressions.{Exp, var, lit, add, sub, mul, at, value, same}
 use Rattle.reading.specs.Colour.{chroma}
 use Rattle.jpeg_color.specs.Parts.{greenPart}
-use Rattle.jpeg_color.proofs.Sums.{byte-cons, ok, passes, both-fit, both-are, both-small}
+use Rattle.jpeg_color.proofs.Sums.{passes, Held, held-small, number, byte, difference, plus-fits, plus, less-fits, less, times-fits, times, called}
 use Rattle.jpeg_color.proofs.green_part.Statement.{statement}
 use Rattle.jpeg_color.proofs.green_part.Tie as tie
 
@@ -18,43 +21,35 @@ B = sub (var 0) (lit 128)
 abbrev D : Exp
 D = sub (var 1) (lit 128)
 
--- what passes by the division, and what is divided
-abbrev E : Exp
-E = sub (lit 0) D
-
-abbrev S1 : Exp
-S1 = sub (mul (lit 18734) D) (mul (lit 22554) B)
-
-abbrev S : Exp
-S = add S1 (lit 32768)
-
-abbrev inputs : tie.Start → List ℤ
-inputs s = pos (s .args .cb) ∷ pos (s .args .cr) ∷ []
-
-small : (s : tie.Start) → Under (255 ∷ 255 ∷ []) (inputs s)
-small s = byte-cons (s .args .cb) (s .fits .cb) (byte-cons (s .args .cr) (s .fits .cr) under-nil)
-
-part : (s : tie.Start) → value (at (inputs s)) E +ℤ shrZ (value (at (inputs s)) S) 65536 ≡ greenPart (s .args .cb) (s .args .cr)
+sum : (cb cr j k r : ℕ) → k ≡ 18734 → r ≡ 32768 → j ≡ 22554
+    → (pos 0 -ℤ chroma cr) +ℤ shrZ ((pos k *ℤ chroma cr +ℤ pos r) -ℤ pos j *ℤ chroma cb) 65536 ≡ greenPart cb cr
 unfolding greenPart
-part s =
-    sym (passes (value (at (inputs s)) E) (value (at (inputs s)) S))
-    ∙ ap (λ z. shrZ z 65536) (same (at (inputs s)) (add (mul (lit 65536) E) S) (add (sub (sub (lit 0) (mul (lit 22554) B)) (mul (lit 46802) D)) (lit 32768)) tt tt refl refl ∙ zero s)
-  where
-    zero : (s : tie.Start) → value (at (inputs s)) (add (sub (sub (lit 0) (mul (lit 22554) B)) (mul (lit 46802) D)) (lit 32768)) ≡ negℤ (pos 22554 *ℤ chroma (s .args .cb)) -ℤ pos 46802 *ℤ chroma (s .args .cr) +ℤ pos 32768
-    zero s = ap (λ z. z -ℤ pos 46802 *ℤ chroma (s .args .cr) +ℤ pos 32768) (+ℤ-idl (negℤ (pos 22554 *ℤ chroma (s .args .cb))))
+sum cb cr j k r p q o =
+    let f = at (pos cb ∷ pos cr ∷ []) in
+    let E = sub (lit 0) D in
+    let S = sub (add (mul (lit 18734) D) (lit 32768)) (mul (lit 22554) B) in
+    let G = add (sub (sub (lit 0) (mul (lit 22554) B)) (mul (lit 46802) D)) (lit 32768) in
+    rw (p, q, o) (sym (passes (value f E) (value f S))
+    ∙ ap (λ z. shrZ z 65536) (same f (add (mul (lit 65536) E) S) G tt tt refl refl
+    ∙ ap (λ z. z -ℤ pos 46802 *ℤ chroma cr +ℤ pos 32768) (+ℤ-idl (negℤ (pos 22554 *ℤ chroma cb)))))
+
+-- what the code returns with any factors j and k and any number r that is added before the division
+part : {x : ℤ} {b : ℕ} (cb cr j k r : ℕ) → Held x ((pos 0 -ℤ chroma cr) +ℤ shrZ ((pos k *ℤ chroma cr +ℤ pos r) -ℤ pos j *ℤ chroma cb) 65536) b
+    → 46802 + k ≡ 65536 → r ≡ 32768 → j ≡ 22554 → T (leb b 1024) → (x ≡ greenPart cb cr) × (natAbs x ≤ 1024)
+part cb cr j k r h p q o t = (h .is ∙ sum cb cr j k r (omega (arith, p)) q o, held-small h t)
 
 pub green-part-spec : {M : Type 1} → statement M
 green-part-spec =
     tie.close
     (tie.spec
     (λ c. search needs)
-    (λ c. ok (small c) B tt)
+    (λ c. less-fits (byte (c .fits .cb)) (number 128) tt)
     (λ c. search needs)
-    (λ c. ok (small c) D tt)
-    (λ c. ok (small c) E tt)
-    (λ c. ok (small c) (mul (lit 18734) D) tt)
-    (λ c. ok (small c) (mul (lit 22554) B) tt)
-    (λ c. ok (small c) S1 tt)
-    (λ c. ok (small c) S tt)
-    (λ c. both-fit (small c) E S tt tt 256 tt tt)
-    (λ c. (both-are (small c) E S tt tt 256 tt tt ∙ part c, both-small (small c) E S tt tt 256 tt tt tt)))
+    (λ c. less-fits (byte (c .fits .cr)) (number 128) tt)
+    (λ c. less-fits (number 0) (difference (c .fits .cr)) tt)
+    (λ c. times-fits (number _) (difference (c .fits .cr)) tt)
+    (λ c. plus-fits (times (number _) (difference (c .fits .cr)) tt) (number _) tt)
+    (λ c. times-fits (number _) (difference (c .fits .cb)) tt)
+    (λ c κs. (held-small (plus (times (number _) (difference (c .fits .cr)) tt) (number _) tt) tt, held-small (times (number _) (difference (c .fits .cb)) tt) tt))
+    (λ c. plus-fits (less (number 0) (difference (c .before .fits .cr)) tt) (called (plus (times (number _) (difference (c .before .fits .cr)) tt) (number _) tt) (times (number _) (difference (c .before .fits .cb)) tt) 512 tt tt (c .divided .ensures)) tt)
+    (λ c. part _ _ _ _ _ (plus (less (number 0) (difference (c .before .fits .cr)) tt) (called (plus (times (number _) (difference (c .before .fits .cr)) tt) (number _) tt) (times (number _) (difference (c .before .fits .cb)) tt) 512 tt tt (c .divided .ensures)) tt) refl refl refl tt))
