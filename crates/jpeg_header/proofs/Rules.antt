@@ -1,8 +1,8 @@
 -- Each step of the header by its ways out, as the code finds them: one law for each way.
-use Prim.Native.Nat.{ℕ, zero, suc, _+_, _*_, _-_, _/_, _%_, _<_, _≤_, suc-le-suc}
+use Prim.Native.Nat.{ℕ, suc, _+_, _*_, _-_, _/_, _%_, _<_, _≤_, suc-le-suc}
 use mathlib.Core.Path.{_≡_, refl, sym, ap, _∙_}
 use mathlib.Core.Bool.{Bool, true, false, not, cond}
-use mathlib.Core.List.{List, [], _∷_}
+use mathlib.Core.List.{List}
 use native.Mathlib.Omega.{arith}
 use lib.Dec.{leb, ltb, eqb}
 use lib.ListN.{length, set}
@@ -15,7 +15,7 @@ use Rattle.reading.specs.declared.Header.{Header}
 use Rattle.reading.specs.Tests.{_or_, within}
 use Rattle.reading.specs.Huffman.{sum}
 use Rattle.reading.specs.Layout.{blockCount, outputLength}
-use Rattle.reading.specs.Header.{Stage, more, done, stop, refuse-if, byte, word, moved, window, each, quantizerFits, withQuantizer, quantizer, countsOf, tableFits, withTable, huffman, frameKnown, frameOf, frameFits, withFrame, hasFrame, frame, withInterval, interval, shapeOf, dcId, acId, recordOf, complete, scanKnown, inOrder, selected, scan, kindOf, segment, segmentEnd, marker}
+use Rattle.reading.specs.Header.{Stage, more, done, stop, refuse-if, byte, word, moved, window, each, withQuantizer, countsOf, withTable, frameKnown, frameOf, frameFits, withFrame, hasFrame, frame, withInterval, interval, shapeOf, dcId, acId, recordOf, complete, scanKnown, inOrder, selected, scan, kindOf, segment, segmentEnd, marker}
 use Rattle.reading.proofs.Stages.{refuse-yes, refuse-go}
 use Rattle.reading.proofs.Accepted.{work-is}
 
@@ -25,18 +25,24 @@ cond-yes t x y e = rw e
 pub cond-no : {A : Type 0} (t : Bool) (x y : A) → t ≡ false → y ≡ cond t x y
 cond-no t x y e = rw e
 
+-- ---- an entry of a segment of tables: the segment's end, an entry that does not fit, one that does
+
+module _ (h : Header) (e : ℕ) (fits : Bool) (next : Header) where
+  abbrev entry : Stage
+  entry = cond (eqb (h .at) e) (more (moved h e Marker)) (refuse-if (not fits) Malformed (more next))
+
+  pub entry-end : h .at ≡ e → more (moved h e Marker) ≡ entry
+  entry-end p = cond-yes (eqb (h .at) e) _ _ (eq-eqb (h .at) e p)
+
+  pub entry-bad : (h .at ≡ e → ⊥) → fits ≡ false → stop Malformed ≡ entry
+  entry-bad p q = sym (refuse-yes (not fits) Malformed _ (ap not q)) ∙ cond-no (eqb (h .at) e) _ _ (ne-eqb (h .at) e p)
+
+  pub entry-in : (h .at ≡ e → ⊥) → fits ≡ true → more next ≡ entry
+  entry-in p q = sym (refuse-go (not fits) Malformed _ (ap not q)) ∙ cond-no (eqb (h .at) e) _ _ (ne-eqb (h .at) e p)
+
 -- ---- a quantizer
 
-module _ (b : List ℕ) (h : Header) (e : ℕ) where
-  pub quantizer-end : h .at ≡ e → more (moved h e Marker) ≡ quantizer b h e
-  quantizer-end p = cond-yes (eqb (h .at) e) _ _ (eq-eqb (h .at) e p)
-
-  pub quantizer-bad : (h .at ≡ e → ⊥) → quantizerFits b ≡ false → stop Malformed ≡ quantizer b h e
-  quantizer-bad p q = sym (refuse-yes (not (quantizerFits b)) Malformed _ (ap not q)) ∙ cond-no (eqb (h .at) e) _ _ (ne-eqb (h .at) e p)
-
-  pub quantizer-in : (h .at ≡ e → ⊥) → quantizerFits b ≡ true → more (withQuantizer b h) ≡ quantizer b h e
-  quantizer-in p q = sym (refuse-go (not (quantizerFits b)) Malformed _ (ap not q)) ∙ cond-no (eqb (h .at) e) _ _ (ne-eqb (h .at) e p)
-
+module _ (b : List ℕ) (h : Header) where
   -- the state behind a quantizer, as the code stores it
   pub with-quantizer :
       (q : List ℕ)
@@ -46,16 +52,7 @@ module _ (b : List ℕ) (h : Header) (e : ℕ) where
 
 -- ---- a Huffman table
 
-module _ (b : List ℕ) (h : Header) (e : ℕ) where
-  pub huffman-end : h .at ≡ e → more (moved h e Marker) ≡ huffman b h e
-  huffman-end p = cond-yes (eqb (h .at) e) _ _ (eq-eqb (h .at) e p)
-
-  pub huffman-bad : (h .at ≡ e → ⊥) → tableFits b ≡ false → stop Malformed ≡ huffman b h e
-  huffman-bad p q = sym (refuse-yes (not (tableFits b)) Malformed _ (ap not q)) ∙ cond-no (eqb (h .at) e) _ _ (ne-eqb (h .at) e p)
-
-  pub huffman-in : (h .at ≡ e → ⊥) → tableFits b ≡ true → more (withTable b h) ≡ huffman b h e
-  huffman-in p q = sym (refuse-go (not (tableFits b)) Malformed _ (ap not q)) ∙ cond-no (eqb (h .at) e) _ _ (ne-eqb (h .at) e p)
-
+module _ (b : List ℕ) (h : Header) where
   -- the state behind a table, as the code stores it
   module _ (l : List ℕ) (k : ℕ) (symbols : k ≡ sum (countsOf b)) where
     pub with-dc :

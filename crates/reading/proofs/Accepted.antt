@@ -1,15 +1,15 @@
 -- What an accepted header says of its record: the rules of the frame hold of its numbers, its sizes follow from them and are small,
 -- and the tables of each channel stand before the first coded byte.
-use Prim.Native.Nat.{ℕ, zero, suc, _+_, _*_, _-_, _%_, _^_, _<_, _≤_, zero-le}
-use mathlib.Core.Path.{_≡_, refl, ap, _∙_, subst, subst⁻¹}
+use Prim.Native.Nat.{ℕ, zero, suc, _+_, _*_, _-_, _^_, _<_, _≤_, zero-le}
+use mathlib.Core.Path.{_≡_, refl, ap, subst, subst⁻¹}
 use mathlib.Core.Bool.{Bool, true, false, not, cond}
 use mathlib.Core.Logic.{_⊎_, _≢_, inl, inr, ⊎-elim}
 use mathlib.Core.List.{List}
 use native.Mathlib.Omega.{arith}
-use native.Mathlib.Nat.{not-suc-le-zero, mul-le-mul, div-lt-iff-lt-mul, mod-eq-of-lt}
+use native.Mathlib.Nat.{not-suc-le-zero, mul-le-mul, div-lt-iff-lt-mul}
 use lib.Dec.{T, leb, ltb, eqb, lit<, lit≤, leb→le, ltb→lt, eqb→eq}
 use lib.ListN.{length, getD}
-use borrow.Author.Tests.{ltb-true, lt-ltb, le-ltb, eq-eqb, ne-eqb}
+use borrow.Author.Tests.{ltb-true, eq-eqb, ne-eqb}
 use Rattle.reading.specs.declared.Refusal.{Refusal}
 use Rattle.reading.specs.declared.Refusal.the-variants.{CutShort, Malformed, Unsupported}
 use Rattle.reading.specs.declared.Case.{Case}
@@ -20,14 +20,13 @@ use Rattle.reading.specs.declared.Frame.{Frame}
 use Rattle.reading.specs.declared.Header.{Header}
 use Rattle.reading.specs.declared.Record.{Record}
 use Rattle.reading.specs.Tests.{_and_, _or_, within}
-use Rattle.reading.specs.Layout.{Shape, ceiling, blockCount, outputLength, workOf, channelOf}
+use Rattle.reading.specs.Layout.{Shape, ceiling, blockCount, outputLength, workOf}
 use Rattle.reading.specs.Tables.{shapeIn}
 use Rattle.reading.specs.Header.{Stage, more, done, stop, byte, word, moved, window, each, withQuantizer, withTable, frameKnown, acrossOf, downOf, quantsFit, threeFit, frameOf, frameFits, hasFrame, withFrame, withInterval, shapeOf, dcId, acId, recordOf, selected, kindOf, segment, segmentEnd, stepIn, step, opens, started, opening, header}
 use Rattle.reading.proofs.Plain.{and-left, and-right}
 use Rattle.reading.proofs.Stages.{refused-or, chosen-or, steps-hold}
 use Rattle.reading.proofs.HeaderEnds.{is-so}
-use Rattle.reading.proofs.Places.{count-is, output-is, channel-is}
-use Rattle.reading.proofs.GoodTables.{header-ready, Stands, tables-stand}
+use Rattle.reading.proofs.Places.{count-is, output-is}
 use Rattle.reading.proofs.Fits.{within-known, all-at}
 use Rattle.reading.proofs.FileBytes.{AllBytes, byte-below, word-below, window-bytes}
 use Rattle.reading.proofs.Frames.{FrameOk, Shaped, frameIn}
@@ -246,30 +245,3 @@ module _ (colour : Bool) where
     pub header-accepted : (r : Record) → header s colour ≡ done r → Accepted colour r
     unfolding header
     header-accepted r e = met-so r (subst Sound e (steps-hold s colour Sound goes-on (2 * length s + 1) (started s) (refused-or Sound off (not (opens s)) Malformed (more opening) (λ t. on opening opening-shaped))))
-
--- ---- the tables of a channel
-
-pub header-stands : (s : List ℕ) (colour : Bool) (r : Record) → header s colour ≡ done r → (c : ℕ) → c < r .channels → Stands s r c
-header-stands s colour r e c p = go c p
-  where
-    some : 0 < r .hs * r .vs
-    some = header-ready s colour r e .lum
-
-    is : (k : ℕ) → channelOf (shapeIn r) k ≡ cond (ltb (k % (r .hs * r .vs + (r .channels - 1))) (r .hs * r .vs)) 0 (k % (r .hs * r .vs + (r .channels - 1)) - r .hs * r .vs + 1)
-    is k = channel-is (r .width) (r .height) (r .hs) (r .vs) (r .channels) k some
-
-    small : (k : ℕ) → k < r .hs * r .vs + (r .channels - 1) → channelOf (shapeIn r) k ≡ cond (ltb k (r .hs * r .vs)) 0 (k - r .hs * r .vs + 1)
-    small k q = is k ∙ ap (λ i. cond (ltb i (r .hs * r .vs)) 0 (i - r .hs * r .vs + 1)) (mod-eq-of-lt q)
-
-    first : channelOf (shapeIn r) 0 ≡ 0
-    first = small 0 (omega (arith, some)) ∙ ap (λ t. cond t 0 (0 - r .hs * r .vs + 1)) (lt-ltb 0 (r .hs * r .vs) some)
-
-    later : (c : ℕ) → suc c < r .channels → channelOf (shapeIn r) (r .hs * r .vs + c) ≡ suc c
-    later c q =
-        small (r .hs * r .vs + c) (omega (arith, q))
-        ∙ ap (λ t. cond t 0 (r .hs * r .vs + c - r .hs * r .vs + 1)) (le-ltb (r .hs * r .vs + c) (r .hs * r .vs) (omega arith))
-        ∙ omega arith
-
-    go : (c : ℕ) → c < r .channels → Stands s r c
-    go zero q = subst (Stands s r) first (tables-stand s colour r e 0)
-    go (suc c) q = subst (Stands s r) (later c q) (tables-stand s colour r e (r .hs * r .vs + c))

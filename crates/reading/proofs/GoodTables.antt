@@ -11,7 +11,6 @@ use Rattle.reading.proofs.Places.{channel-in}
 use Rattle.reading.specs.Scan.{planOf}
 use Rattle.reading.specs.Tables.{shapeIn, quantAt, dcAt, acAt}
 use Rattle.reading.proofs.ScanWritten.{GoodPlan}
-use borrow.Author.Tests.{ltb-false}
 use lib.Dec.{T, eqb, ltb, leb, eqb→eq, leb→le, ltb→lt, lit<}
 use lib.ListN.{length, take, drop, getD, set, replicate, length-take, length-drop}
 use Rattle.reading.specs.declared.Refusal.{Refusal}
@@ -27,7 +26,7 @@ use Rattle.reading.specs.Huffman.{tableAt, sum, codesFit}
 use Rattle.reading.specs.Header.{Stage, more, done, stop, byte, word, moved, window, quantizerFits, withQuantizer, countsOf, put, tableFits, withTable, frame, frameOf, frameFits, withFrame, withInterval, recordOf, complete, hasFrame, kindOf, segment, segmentEnd, marker, stepIn, step, opens, started, opening, header}
 use Rattle.reading.proofs.Plain.{and-left, and-right, Good}
 use Rattle.reading.proofs.Fits.{within-known, TableKnown, table-known, all-at}
-use Rattle.reading.proofs.HeaderEnds.{is-so, or-left, or-right, window-short, header-within}
+use Rattle.reading.proofs.HeaderEnds.{is-so, segment-room, window-short, header-within}
 use Rattle.reading.proofs.HeaderPrefix.{take-drop-take}
 use Rattle.reading.proofs.Stages.{refused-or, chosen-or, steps-hold}
 
@@ -195,10 +194,7 @@ module _ (s : List ℕ) (colour : Bool) where
       refused-or Kept off (ltb (length s) (h .at + 2) or not (eqb (byte s (h .at)) 255)) Malformed _ (λ t1. chosen-or Kept (eqb (byte s (h .at + 1)) 255) _ _ (λ t2. on _ (kept h v (moved h (h .at + 1) Marker) refl refl refl (omega arith) (v .lum)))
       (λ t2. refused-or Kept off (eqb (byte s (h .at + 1)) 217) Malformed _ (λ t3. refused-or Kept off (ltb (length s) (h .at + 4) or ltb (word s (h .at + 2)) 2 or ltb (length s) (segmentEnd s (h .at))) CutShort _
       (λ t4. segment-kept h v (kindOf (byte s (h .at + 1))) (window s (h .at + 4) (segmentEnd s (h .at))) (h .at + 4) (segmentEnd s (h .at)) (omega arith)
-      (long (h .at) (word s (h .at + 2)) (ltb-false (word s (h .at + 2)) 2 (or-left (ltb (word s (h .at + 2)) 2) (ltb (length s) (segmentEnd s (h .at))) (or-right (ltb (length s) (h .at + 4)) (ltb (word s (h .at + 2)) 2 or ltb (length s) (segmentEnd s (h .at))) t4))))))))
-    where
-      long : (p w : ℕ) → 2 ≤ w → p + 4 ≤ p + 2 + w
-      long p w q = omega arith
+      (segment-room s (h .at) t4 .behind)))))
 
   -- inside a segment of tables the place stays below its end
   stepIn-kept : (h : Header) → Inv h → (c : Case) → Kept (stepIn s colour h c)

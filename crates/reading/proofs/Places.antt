@@ -1,15 +1,14 @@
 -- What the layout is for the factors hs x vs and then 1 x 1: the blocks of an MCU, the channel of a block, and the places of the
 -- first channel's samples and of the chroma channels'.
-use Prim.Native.Nat.{ℕ, zero, suc, _+_, _*_, _-_, _/_, _%_, _<_, _≤_, max}
-use mathlib.Core.Path.{_≡_, refl, sym, ap, ap₂, _∙_, subst, subst⁻¹}
+use Prim.Native.Nat.{ℕ, zero, suc, _+_, _*_, _-_, _%_, _<_, _≤_}
+use mathlib.Core.Path.{_≡_, refl, ap, ap₂, _∙_, subst⁻¹}
 use mathlib.Core.Bool.{Bool, true, false, cond}
-use mathlib.Core.List.{List, [], _∷_}
 use native.Mathlib.Omega.{arith}
 use native.Mathlib.Nat.{mod-lt, not-suc-le-zero}
 use lib.Dec.{ltb}
 use lib.ListN.{length, replicate}
-use borrow.Author.Tests.{lt-ltb, le-ltb, ltb-true, ltb-false}
-use Rattle.reading.specs.Layout.{Factors, Shape, oneByOne, factorsOf, ceiling, widest, highest, mcusAcross, mcusDown, area, areas, perMcu, blockCount, outputLength, channelIn, channelOf, mcuAt, scaled, placeIn, placeOfChannel, sampleAt}
+use borrow.Author.Tests.{le-ltb, ltb-false}
+use Rattle.reading.specs.Layout.{Shape, oneByOne, factorsOf, ceiling, widest, highest, mcusAcross, mcusDown, areas, perMcu, blockCount, outputLength, channelIn, channelOf}
 
 -- ---- n channels of 1 x 1
 

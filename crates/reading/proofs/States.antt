@@ -5,20 +5,18 @@
 --     header-readable  and its scan can be read
 use Prim.Native.Nat.{ℕ, _+_, _*_, _≤_}
 use mathlib.Core.Path.{_≡_, refl, subst}
-use mathlib.Core.Bool.{Bool, true, false, not}
+use mathlib.Core.Bool.{Bool, true, not}
 use mathlib.Core.List.{List}
-use lib.Dec.{leb, eqb, leb→le}
 use lib.ListN.{length}
 use borrow.Author.Tests.{le-leb}
 use Rattle.reading.specs.declared.Refusal.the-variants.{Malformed}
 use Rattle.reading.specs.declared.Header.{Header}
 use Rattle.reading.specs.declared.Record.{Record}
-use Rattle.reading.specs.Tests.{_and_, within}
+use Rattle.reading.specs.Tests.{within}
 use Rattle.reading.specs.Scan.{readable}
-use Rattle.reading.specs.Header.{Stage, more, done, stop, byte, step, steps, opens, started, opening, header}
-use Rattle.reading.proofs.Plain.{and-left}
+use Rattle.reading.specs.Header.{Stage, more, done, stop, step, steps, opens, started, opening, header}
 use Rattle.reading.proofs.Stages.{refused-or, steps-hold}
-use Rattle.reading.proofs.HeaderEnds.{Ok, Down, left, is-so, step-down}
+use Rattle.reading.proofs.HeaderEnds.{Ok, Down, left, opens-two, step-down}
 use Rattle.reading.proofs.HeaderEnds as ends
 use Rattle.reading.proofs.FileBytes.{AllBytes}
 use Rattle.reading.proofs.Frames.{Shaped}
@@ -56,10 +54,7 @@ module _ (s : List ℕ) (colour : Bool) where
     step-valid h v = joined (left (length s) h) (step s colour h) (step-down s colour h (v .place)) (step-sound colour s y h (v .shape)) (step-kept s colour h (v .tables))
 
     start-valid : Holds (started s)
-    start-valid = refused-or Holds (λ x. tt) (not (opens s)) Malformed (more opening) (λ t. record { place = (long t, tt); shape = opening-shaped colour s y; tables = opening-kept s colour })
-      where
-        long : not (opens s) ≡ false → 2 ≤ length s
-        long t = leb→le 2 (length s) (and-left (leb 2 (length s)) (eqb (byte s 0) 255 and eqb (byte s 1) 216) (is-so (opens s) t))
+    start-valid = refused-or Holds (λ x. tt) (not (opens s)) Malformed (more opening) (λ t. record { place = (opens-two s t, tt); shape = opening-shaped colour s y; tables = opening-kept s colour })
 
     pub steps-valid : (k : ℕ) → Holds (steps s colour k (started s))
     steps-valid k = steps-hold s colour Holds step-valid k (started s) start-valid

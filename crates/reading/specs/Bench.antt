@@ -1,7 +1,7 @@
 -- The bench pieces of the rules, as one table that is computed: what is found, and what the rules say.
-use Prim.Native.Nat.{ℕ, zero, suc, _+_, _*_, _-_}
+use Prim.Native.Nat.{ℕ, _+_, _-_}
 use mathlib.Core.Bool.{Bool, true, false}
-use mathlib.Core.List.{List, [], _∷_, _++_, map}
+use mathlib.Core.List.{List, [], _∷_, _++_}
 use lib.Dec.{T, eqb}
 use lib.ListN.{length, take, replicate}
 use lib.IntN.{ℤ, pos, negsuc}
@@ -9,16 +9,13 @@ use Rattle.whole.specs.Expressions.{neg}
 use Rattle.reading.specs.declared.Limits.{Limits}
 use Rattle.reading.specs.declared.Budget.{Budget}
 use Rattle.reading.specs.declared.Record.{Record}
-use Rattle.reading.specs.declared.Inspection.{Inspection}
-use Rattle.reading.specs.declared.Decoding.{Decoding}
-use Rattle.reading.specs.declared.Settling.{Settling}
 use Rattle.reading.specs.Tests.{_and_, all}
 use Rattle.reading.specs.Bits.{meaning}
 use Rattle.reading.specs.Block.{zeros}
 use Rattle.reading.specs.Colour.{red, green, blue}
 use Rattle.reading.specs.Transform.{clamped, coefficients, samples}
 use Rattle.reading.specs.Layout.{Shape, factorsOf, blockCount, outputLength, workOf}
-use Rattle.reading.specs.Calls.{inspect, Decoded, decode, Rewritten, settle, number, eqList, eqBool}
+use Rattle.reading.specs.Calls.{inspect, decode, settle, number, eqList}
 
 -- ---- files
 

@@ -1,15 +1,14 @@
 -- Bits, highest first, from the bytes of a file; fields of n bits and what they mean.
 use Prim.Native.Nat.{ℕ, zero, suc, _+_, _*_, _-_, _/_, _%_, _^_}
-use mathlib.Core.Bool.{Bool, true, false, cond}
-use mathlib.Core.List.{List, [], _∷_}
+use mathlib.Core.Bool.{Bool, cond}
+use mathlib.Core.List.{List}
 use mathlib.Core.Option.{Option, none, some}
 use lib.Dec.{leb, ltb, eqb}
 use lib.ListN.{getElem?, length}
-use lib.IntN.{ℤ, pos, negsuc, subℕ}
+use lib.IntN.{ℤ, pos, subℕ}
 use Rattle.reading.specs.declared.Bits.{Bits}
-use Rattle.reading.specs.declared.Fault.{Fault}
-use Rattle.reading.specs.declared.Fault.the-variants.{RanOut, Bare, NoCode, Broken}
-use Rattle.reading.specs.Reader.{Read, got, fault, Reader, _>>=_, _>>_, give, fail, rule}
+use Rattle.reading.specs.declared.Fault.the-variants.{RanOut, Bare, Broken}
+use Rattle.reading.specs.Reader.{Read, got, fault, Reader, _>>=_, _>>_, give, rule}
 use Rattle.reading.specs.Tests.{_and_, isAt}
 
 -- the first bit of a data byte x that stands before `at`

@@ -1,14 +1,13 @@
 -- A block: 64 levels in zigzag order.
-use Prim.Native.Nat.{ℕ, zero, suc, _+_, _*_, _-_, _/_, _%_, _^_, max}
+use Prim.Native.Nat.{ℕ, zero, suc, _+_, _-_, _/_, _%_, max}
 use mathlib.Core.Bool.{Bool, true, false, cond}
-use mathlib.Core.List.{List, [], _∷_, _++_, map}
-use mathlib.Core.Option.{Option, none, some}
+use mathlib.Core.List.{List, [], _∷_, _++_}
 use lib.Dec.{leb, ltb, eqb}
-use lib.ListN.{getD, take, drop, replicate}
-use lib.IntN.{ℤ, pos, negsuc, _+ℤ_, _*ℤ_}
+use lib.ListN.{replicate}
+use lib.IntN.{ℤ, pos, negsuc, _+ℤ_}
 use lib.Signed.{leZ}
 use Rattle.reading.specs.declared.Fault.the-variants.{Broken}
-use Rattle.reading.specs.Reader.{Read, Reader, _>>=_, _>>_, give, fail, rule}
+use Rattle.reading.specs.Reader.{Reader, _>>=_, _>>_, give, fail, rule}
 use Rattle.reading.specs.Bits.{field, amplitude}
 use Rattle.reading.specs.Huffman.{Table, symbol}
 use Rattle.reading.specs.Tests.{_and_, within}

@@ -1,12 +1,11 @@
 -- What the three calls answer.
-use Prim.Native.Nat.{ℕ, zero, suc, _+_, _*_, _-_, _/_, _%_, _^_}
+use Prim.Native.Nat.{ℕ, _+_, _*_, _-_, _^_}
 use mathlib.Core.Bool.{Bool, true, false, cond}
-use mathlib.Core.List.{List, [], _∷_, _++_, map}
+use mathlib.Core.List.{List, [], _∷_}
 use mathlib.Core.Option.{Option, none, some}
 use lib.Dec.{leb, ltb, eqb}
-use lib.ListN.{getD, length, drop, replicate}
-use lib.IntN.{ℤ, pos}
-use Rattle.reading.specs.declared.Fault.{Fault}
+use lib.ListN.{length}
+use lib.IntN.{ℤ}
 use Rattle.reading.specs.declared.Refusal.{Refusal}
 use Rattle.reading.specs.declared.Refusal.the-variants.{TooLong, OverBudget, CutShort, Malformed, Unsupported, TooLarge, ShortRoom, NotItsRecord, NoEndCode, Scan}
 use Rattle.reading.specs.declared.Record.{Record}

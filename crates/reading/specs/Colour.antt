@@ -1,6 +1,6 @@
 -- Colour: Y, Cb, Cr to R, G, B, with floor division and clamping (the rules' 'Samples, places, colour').
 use Prim.Native.Nat.{ℕ, zero, suc}
-use mathlib.Core.Bool.{Bool, true, false, cond}
+use mathlib.Core.Bool.{cond}
 use lib.IntN.{ℤ, pos, natAbs, _+ℤ_, _-ℤ_, _*ℤ_}
 use lib.Signed.{ltZ, shrZ}
 

@@ -1,7 +1,7 @@
 -- From SOI to SOS.
-use Prim.Native.Nat.{ℕ, zero, suc, _+_, _*_, _-_, _/_, _%_, _^_}
+use Prim.Native.Nat.{ℕ, zero, suc, _+_, _*_, _-_, _/_, _%_}
 use mathlib.Core.Bool.{Bool, true, false, not, cond}
-use mathlib.Core.List.{List, [], _∷_, _++_, map}
+use mathlib.Core.List.{List, [], _∷_}
 use lib.Dec.{leb, ltb, eqb}
 use lib.ListN.{getD, take, drop, set, length, replicate}
 use Rattle.reading.specs.declared.Refusal.{Refusal}
@@ -13,11 +13,10 @@ use Rattle.reading.specs.declared.Kind.the-variants.{Quants, Tables, Fra
 use Rattle.reading.specs.declared.Frame.{Frame}
 use Rattle.reading.specs.declared.Header.{Header}
 use Rattle.reading.specs.declared.Record.{Record}
-use Rattle.reading.specs.declared.Verdict.{Verdict}
 use Rattle.reading.specs.declared.Verdict.the-variants.{Accepted, Refused}
 use Rattle.reading.specs.declared.Head.{Head}
 use Rattle.reading.specs.Tests.{_and_, _or_, within, all, allFrom}
-use Rattle.reading.specs.Huffman.{Table, tableAt, sum, codesFit}
+use Rattle.reading.specs.Huffman.{sum, codesFit}
 use Rattle.reading.specs.Tables.{quantAt, dcAt, acAt}
 use Rattle.reading.specs.Layout.{Shape, factorsOf, blockCount, outputLength, workOf}
 

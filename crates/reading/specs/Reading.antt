@@ -1,19 +1,19 @@
 -- The reading of a file, limits set aside, and its picture.
-use Prim.Native.Nat.{ℕ, zero, suc, _+_, _*_, _-_, _/_, _%_}
-use mathlib.Core.Bool.{Bool, true, false, cond}
-use mathlib.Core.List.{List, [], _∷_, _++_, map}
-use lib.Dec.{leb, ltb, eqb}
+use Prim.Native.Nat.{ℕ, suc, _+_, _*_, _/_, _%_}
+use mathlib.Core.Bool.{Bool, cond}
+use mathlib.Core.List.{List, [], _∷_, _++_}
+use lib.Dec.{ltb, eqb}
 use lib.ListN.{getD, length}
-use lib.IntN.{ℤ, pos}
+use lib.IntN.{ℤ}
 use Rattle.reading.specs.declared.Refusal.{Refusal}
-use Rattle.reading.specs.declared.Refusal.the-variants.{CutShort, Malformed, Scan}
+use Rattle.reading.specs.declared.Refusal.the-variants.{CutShort, Scan}
 use Rattle.reading.specs.declared.Record.{Record}
 use Rattle.reading.specs.declared.Bits.{Bits}
 use Rattle.reading.specs.Reader.{Read, got, fault}
-use Rattle.whole.specs.Lists.{from, listOf}
+use Rattle.whole.specs.Lists.{listOf}
 use Rattle.reading.specs.Tests.{_and_, over}
 use Rattle.reading.specs.Header.{Stage, more, done, stop, header}
-use Rattle.reading.specs.Layout.{Shape, channelOf, sampleAt}
+use Rattle.reading.specs.Layout.{channelOf, sampleAt}
 use Rattle.reading.specs.Transform.{coefficients, samples}
 use Rattle.reading.specs.Colour.{colourOf}
 use Rattle.reading.specs.Scan.{Plan, planOf, levels}

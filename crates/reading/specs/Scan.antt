@@ -1,15 +1,15 @@
 -- The scan: blocks, restarts, the end.
-use Prim.Native.Nat.{ℕ, zero, suc, _+_, _*_, _-_, _/_, _%_}
-use mathlib.Core.Bool.{Bool, true, false, cond}
-use mathlib.Core.List.{List, [], _∷_, _++_, map}
-use lib.Dec.{leb, ltb, eqb}
+use Prim.Native.Nat.{ℕ, zero, suc}
+use mathlib.Core.Bool.{Bool, cond}
+use mathlib.Core.List.{List, [], _∷_}
+use lib.Dec.{leb}
 use lib.ListN.{getD, take, drop, set, length}
 use lib.IntN.{ℤ, pos}
 use Rattle.reading.specs.declared.Bits.{Bits}
 use Rattle.reading.specs.declared.Fault.the-variants.{Broken}
 use Rattle.reading.specs.declared.Record.{Record}
 use Rattle.reading.specs.declared.ScanCursor.{ScanCursor}
-use Rattle.reading.specs.Reader.{Read, got, fault, Reader, _>>=_, _>>_, give, fail, rule}
+use Rattle.reading.specs.Reader.{Read, fault, Reader, _>>=_, _>>_, give, rule}
 use Rattle.reading.specs.Bits.{Source, file}
 use Rattle.reading.specs.Huffman.{Table, tableAt}
 use Rattle.reading.specs.Block.{block, zeros}

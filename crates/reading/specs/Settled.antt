@@ -1,10 +1,10 @@
 -- The settled scan.
 use Prim.Native.Nat.{ℕ, zero, suc, _+_, _*_, _-_, _/_, _%_, _^_}
 use mathlib.Core.Bool.{Bool, true, false, cond}
-use mathlib.Core.List.{List, [], _∷_, _++_, map}
+use mathlib.Core.List.{List, [], _∷_, _++_}
 use mathlib.Core.Option.{Option, none, some}
-use lib.Dec.{leb, ltb, eqb}
-use lib.ListN.{getD, length, take, drop, set, replicate}
+use lib.Dec.{ltb, eqb}
+use lib.ListN.{getD, length, take, set}
 use lib.IntN.{ℤ, pos, negsuc, natAbs, _-ℤ_}
 use Rattle.reading.specs.declared.Bits.{Bits}
 use Rattle.reading.specs.declared.Fault.the-variants.{Broken}
@@ -12,8 +12,8 @@ use Rattle.reading.specs.declared.Record.{Record}
 use Rattle.reading.specs.declared.ScanSettled.{ScanSettled}
 use Rattle.reading.specs.declared.ScanSettled.the-variants as answer
 use Rattle.reading.specs.Reader.{Read, got, fault}
-use Rattle.reading.specs.Huffman.{Table, bitsOf, codeOf}
-use Rattle.reading.specs.Layout.{Shape, channelOf, restartDue, restartCode}
+use Rattle.reading.specs.Huffman.{bitsOf, codeOf}
+use Rattle.reading.specs.Layout.{channelOf, restartDue, restartCode}
 use Rattle.reading.specs.Scan.{Plan, Channel, planOf, noPredictors, scanOf}
 use Rattle.reading.specs.Tests.{_and_, _or_, isNone, over}
 

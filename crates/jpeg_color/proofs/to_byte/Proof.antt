@@ -1,6 +1,6 @@
 -- `jpeg_color::to_byte` meets its contract: the smaller of 255 and the larger of 0 and a number is a byte, the definition's, whatever the
 -- number's sign. Assumes nothing.
-use mathlib.Core.Path.{_≡_, refl, sym, _∙_, ap}
+use mathlib.Core.Path.{_≡_, refl, _∙_, ap}
 use mathlib.Core.Bool.{Bool, true, false, cond}
 use native.Mathlib.Omega.{arith}
 use borrow.Author.Needs.{needs, sfits-of}

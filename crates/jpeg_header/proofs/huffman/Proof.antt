@@ -3,9 +3,9 @@ use Prim.Native.Nat.{_+_, _/_, _%_}
 use mathlib.Core.Path.{sym, ap, _∙_}
 use native.Mathlib.Omega.{arith}
 use lib.ListN.{set}
-use Rattle.reading.specs.Header.{more}
+use Rattle.reading.specs.Header.{more, tableFits, withTable}
 use Rattle.reading.proofs.Fits.{so, TableKnown, table-known}
-use Rattle.jpeg_header.proofs.Rules.{huffman-end, huffman-bad, huffman-in, with-dc, with-ac}
+use Rattle.jpeg_header.proofs.Rules.{entry-end, entry-bad, entry-in, with-dc, with-ac}
 use Rattle.jpeg_header.proofs.huffman.Statement.{statement}
 use Rattle.jpeg_header.proofs.huffman.Tie as tie
 
@@ -19,7 +19,7 @@ more-requires : tie.Need-more-requires
 more-requires c κs = tt
 
 returns : tie.Need-returns
-returns c = c .more .ensures ∙ ap more (c .before .moved .ensures) ∙ huffman-end (c .before .before .before .before .args .body .now) (c .before .before .before .before .args .state) (c .before .before .before .before .args .end) (c .before .before .if1 .taken)
+returns c = c .more .ensures ∙ ap more (c .before .moved .ensures) ∙ entry-end (c .before .before .before .before .args .state) (c .before .before .before .before .args .end) (tableFits (c .before .before .before .before .args .body .now)) (withTable (c .before .before .before .before .args .body .now) (c .before .before .before .before .args .state)) (c .before .before .if1 .taken)
 
 table-fits-requires : tie.Need-table-fits-requires
 table-fits-requires c κs = tt
@@ -28,7 +28,7 @@ stop-requires : tie.Need-stop-requires
 stop-requires c κs = tt
 
 returns-2 : tie.Need-returns-2
-returns-2 c = c .stop .ensures ∙ huffman-bad (c .before .before .before .before .before .args .body .now) (c .before .before .before .before .before .args .state) (c .before .before .before .before .before .args .end) (c .before .before .before .if1 .left) (sym (c .before .before .table-fits .ensures) ∙ not-true _ (c .before .if2 .taken))
+returns-2 c = c .stop .ensures ∙ entry-bad (c .before .before .before .before .before .args .state) (c .before .before .before .before .before .args .end) (tableFits (c .before .before .before .before .before .args .body .now)) (withTable (c .before .before .before .before .before .args .body .now) (c .before .before .before .before .before .args .state)) (c .before .before .before .if1 .left) (sym (c .before .before .table-fits .ensures) ∙ not-true _ (c .before .if2 .taken))
 
 byte-at-requires : tie.Need-byte-at-requires
 byte-at-requires c κs = tt
@@ -52,7 +52,7 @@ more-requires-2 : tie.Need-more-requires-2
 more-requires-2 c κs = tt
 
 returns-3 : tie.Need-returns-3
-returns-3 c = c .more2 .ensures ∙ ap more (with-dc (c .before .before .before .before .before .before .before .before .before .before .before .args .body .now) (c .before .before .before .before .before .before .before .before .before .before .before .args .state) (c .before .before .before .before .before .before .before .before .before .before .before .args .end) _ _ (c .before .before .before .before .before .symbols .ensures) (c .before .replaced .ensures ∙ ap (λ i. set (c .before .before .before .before .before .before .before .before .before .before .before .args .state .dcs) (i % 16) (c .before .before .before .before .before .before .before .before .before .before .before .args .state .at + 1)) (c .before .before .before .before .before .before .byte-at .ensures)) (sym (ap (λ k. k / 16) (c .before .before .before .before .before .before .byte-at .ensures)) ∙ c .before .before .if3 .taken)) ∙ huffman-in (c .before .before .before .before .before .before .before .before .before .before .before .args .body .now) (c .before .before .before .before .before .before .before .before .before .before .before .args .state) (c .before .before .before .before .before .before .before .before .before .before .before .args .end) (c .before .before .before .before .before .before .before .before .before .if1 .left) (sym (c .before .before .before .before .before .before .before .before .table-fits .ensures) ∙ not-false _ (c .before .before .before .before .before .before .before .if2 .left))
+returns-3 c = c .more2 .ensures ∙ ap more (with-dc (c .before .before .before .before .before .before .before .before .before .before .before .args .body .now) (c .before .before .before .before .before .before .before .before .before .before .before .args .state) _ _ (c .before .before .before .before .before .symbols .ensures) (c .before .replaced .ensures ∙ ap (λ i. set (c .before .before .before .before .before .before .before .before .before .before .before .args .state .dcs) (i % 16) (c .before .before .before .before .before .before .before .before .before .before .before .args .state .at + 1)) (c .before .before .before .before .before .before .byte-at .ensures)) (sym (ap (λ k. k / 16) (c .before .before .before .before .before .before .byte-at .ensures)) ∙ c .before .before .if3 .taken)) ∙ entry-in (c .before .before .before .before .before .before .before .before .before .before .before .args .state) (c .before .before .before .before .before .before .before .before .before .before .before .args .end) (tableFits (c .before .before .before .before .before .before .before .before .before .before .before .args .body .now)) (withTable (c .before .before .before .before .before .before .before .before .before .before .before .args .body .now) (c .before .before .before .before .before .before .before .before .before .before .before .args .state)) (c .before .before .before .before .before .before .before .before .before .if1 .left) (sym (c .before .before .before .before .before .before .before .before .table-fits .ensures) ∙ not-false _ (c .before .before .before .before .before .before .before .if2 .left))
 
 add-replaced-2 : tie.Need-add-replaced-2
 add-replaced-2 c = omega (arith, known (c .before .before .before .before .before), c .before .before .before .before .before .before .before .before .before .pre, c .before .before .before .before .before .before .before .before .before .fits .end)
@@ -64,7 +64,7 @@ more-requires-3 : tie.Need-more-requires-3
 more-requires-3 c κs = tt
 
 returns-4 : tie.Need-returns-4
-returns-4 c = c .more3 .ensures ∙ ap more (with-ac (c .before .before .before .before .before .before .before .before .before .before .before .args .body .now) (c .before .before .before .before .before .before .before .before .before .before .before .args .state) (c .before .before .before .before .before .before .before .before .before .before .before .args .end) _ _ (c .before .before .before .before .before .symbols .ensures) (c .before .replaced2 .ensures ∙ ap (λ i. set (c .before .before .before .before .before .before .before .before .before .before .before .args .state .acs) (i % 16) (c .before .before .before .before .before .before .before .before .before .before .before .args .state .at + 1)) (c .before .before .before .before .before .before .byte-at .ensures)) (omega (arith, known (c .before .before .before .before .before .before .before), c .before .before .if3 .left, c .before .before .before .before .before .before .byte-at .ensures))) ∙ huffman-in (c .before .before .before .before .before .before .before .before .before .before .before .args .body .now) (c .before .before .before .before .before .before .before .before .before .before .before .args .state) (c .before .before .before .before .before .before .before .before .before .before .before .args .end) (c .before .before .before .before .before .before .before .before .before .if1 .left) (sym (c .before .before .before .before .before .before .before .before .table-fits .ensures) ∙ not-false _ (c .before .before .before .before .before .before .before .if2 .left))
+returns-4 c = c .more3 .ensures ∙ ap more (with-ac (c .before .before .before .before .before .before .before .before .before .before .before .args .body .now) (c .before .before .before .before .before .before .before .before .before .before .before .args .state) _ _ (c .before .before .before .before .before .symbols .ensures) (c .before .replaced2 .ensures ∙ ap (λ i. set (c .before .before .before .before .before .before .before .before .before .before .before .args .state .acs) (i % 16) (c .before .before .before .before .before .before .before .before .before .before .before .args .state .at + 1)) (c .before .before .before .before .before .before .byte-at .ensures)) (omega (arith, known (c .before .before .before .before .before .before .before), c .before .before .if3 .left, c .before .before .before .before .before .before .byte-at .ensures))) ∙ entry-in (c .before .before .before .before .before .before .before .before .before .before .before .args .state) (c .before .before .before .before .before .before .before .before .before .before .before .args .end) (tableFits (c .before .before .before .before .before .before .before .before .before .before .before .args .body .now)) (withTable (c .before .before .before .before .before .before .before .before .before .before .before .args .body .now) (c .before .before .before .before .before .before .before .before .before .before .before .args .state)) (c .before .before .before .before .before .before .before .before .before .if1 .left) (sym (c .before .before .before .before .before .before .before .before .table-fits .ensures) ∙ not-false _ (c .before .before .before .before .before .before .before .if2 .left))
 
 pub huffman-spec : {M : Type 1} → statement M
 huffman-spec =

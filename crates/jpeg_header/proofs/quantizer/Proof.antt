@@ -3,9 +3,9 @@ use Prim.Native.Nat.{_+_, _≤_}
 use mathlib.Core.Path.{sym, ap, _∙_}
 use native.Mathlib.Omega.{arith}
 use lib.ListN.{length, set}
-use Rattle.reading.specs.Header.{more, byte}
+use Rattle.reading.specs.Header.{more, byte, quantizerFits, withQuantizer}
 use Rattle.reading.proofs.Fits.{so, quantizer-known}
-use Rattle.jpeg_header.proofs.Rules.{quantizer-end, quantizer-bad, quantizer-in, with-quantizer}
+use Rattle.jpeg_header.proofs.Rules.{entry-end, entry-bad, entry-in, with-quantizer}
 use Rattle.jpeg_header.proofs.quantizer.Statement.{statement}
 use Rattle.jpeg_header.proofs.quantizer.Tie as tie
 
@@ -19,7 +19,7 @@ more-requires : tie.Need-more-requires
 more-requires c κs = tt
 
 returns : tie.Need-returns
-returns c = c .more .ensures ∙ ap more (c .before .moved .ensures) ∙ quantizer-end (c .before .before .before .before .args .body .now) (c .before .before .before .before .args .state) (c .before .before .before .before .args .end) (c .before .before .if1 .taken)
+returns c = c .more .ensures ∙ ap more (c .before .moved .ensures) ∙ entry-end (c .before .before .before .before .args .state) (c .before .before .before .before .args .end) (quantizerFits (c .before .before .before .before .args .body .now)) (withQuantizer (c .before .before .before .before .args .body .now) (c .before .before .before .before .args .state)) (c .before .before .if1 .taken)
 
 quantizer-fits-requires : tie.Need-quantizer-fits-requires
 quantizer-fits-requires c κs = tt
@@ -28,7 +28,7 @@ stop-requires : tie.Need-stop-requires
 stop-requires c κs = tt
 
 returns-2 : tie.Need-returns-2
-returns-2 c = c .stop .ensures ∙ quantizer-bad (c .before .before .before .before .before .args .body .now) (c .before .before .before .before .before .args .state) (c .before .before .before .before .before .args .end) (c .before .before .before .if1 .left) (sym (c .before .before .quantizer-fits .ensures) ∙ not-true _ (c .before .if2 .taken))
+returns-2 c = c .stop .ensures ∙ entry-bad (c .before .before .before .before .before .args .state) (c .before .before .before .before .before .args .end) (quantizerFits (c .before .before .before .before .before .args .body .now)) (withQuantizer (c .before .before .before .before .before .args .body .now) (c .before .before .before .before .before .args .state)) (c .before .before .before .if1 .left) (sym (c .before .before .quantizer-fits .ensures) ∙ not-true _ (c .before .if2 .taken))
 
 byte-at-requires : tie.Need-byte-at-requires
 byte-at-requires c κs = tt
@@ -46,7 +46,7 @@ more-requires-2 : tie.Need-more-requires-2
 more-requires-2 c κs = tt
 
 returns-3 : tie.Need-returns-3
-returns-3 c = c .more2 .ensures ∙ ap more (with-quantizer (c .before .before .before .before .before .before .before .before .args .body .now) (c .before .before .before .before .before .before .before .before .args .state) (c .before .before .before .before .before .before .before .before .args .end) _ (c .before .replaced .ensures ∙ ap (λ i. set (c .before .before .before .before .before .before .before .before .args .state .quants) i (c .before .before .before .before .before .before .before .before .args .state .at + 1)) (c .before .before .before .byte-at .ensures))) ∙ quantizer-in (c .before .before .before .before .before .before .before .before .args .body .now) (c .before .before .before .before .before .before .before .before .args .state) (c .before .before .before .before .before .before .before .before .args .end) (c .before .before .before .before .before .before .if1 .left) (sym (c .before .before .before .before .before .quantizer-fits .ensures) ∙ not-false _ (c .before .before .before .before .if2 .left))
+returns-3 c = c .more2 .ensures ∙ ap more (with-quantizer (c .before .before .before .before .before .before .before .before .args .body .now) (c .before .before .before .before .before .before .before .before .args .state) _ (c .before .replaced .ensures ∙ ap (λ i. set (c .before .before .before .before .before .before .before .before .args .state .quants) i (c .before .before .before .before .before .before .before .before .args .state .at + 1)) (c .before .before .before .byte-at .ensures))) ∙ entry-in (c .before .before .before .before .before .before .before .before .args .state) (c .before .before .before .before .before .before .before .before .args .end) (quantizerFits (c .before .before .before .before .before .before .before .before .args .body .now)) (withQuantizer (c .before .before .before .before .before .before .before .before .args .body .now) (c .before .before .before .before .before .before .before .before .args .state)) (c .before .before .before .before .before .before .if1 .left) (sym (c .before .before .before .before .before .quantizer-fits .ensures) ∙ not-false _ (c .before .before .before .before .if2 .left))
 
 pub quantizer-spec : {M : Type 1} → statement M
 quantizer-spec =

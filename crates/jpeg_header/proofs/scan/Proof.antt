@@ -4,7 +4,6 @@ use mathlib.Core.Bool.{true}
 use native.Mathlib.Omega.{arith}
 use lib.ListN.{getD}
 use Rattle.reading.specs.Header.{done, complete, scanKnown, inOrder, selected}
-use Rattle.reading.proofs.Frames.{FrameOk}
 use Rattle.reading.proofs.Fits.{so, scan-few}
 use Rattle.jpeg_header.proofs.Rules.{scan-frameless, scan-unknown, scan-order, scan-selected, scan-incomplete, scan-in}
 use borrow.Author.Needs.{needs}

@@ -7,9 +7,6 @@ use Rattle.jpeg_scan.proofs.Marks.{ended-bare, ended-is, marked-inside}
 use borrow.Author.Needs.{needs}
 use Rattle.jpeg_scan.proofs.at_end.Statement.{statement}
 use Rattle.jpeg_scan.proofs.at_end.Tie as tie
-use Rattle.jpeg_scan.proofs.at_end.Reads as reads
-use Rattle.jpeg_scan.proofs.at_end.Lts as lts
-use Rattle.jpeg_scan.proofs.at_marker.Reads as at-marker-reads
 
 -- src/lib.rt:191:9
 at-marker-requires : tie.Need-at-marker-requires

@@ -8,9 +8,6 @@ use Rattle.jpeg_scan.proofs.Marks.{marked-bare, marked-out, marked-othe
 use borrow.Author.Needs.{needs}
 use Rattle.jpeg_scan.proofs.at_marker.Statement.{statement}
 use Rattle.jpeg_scan.proofs.at_marker.Tie as tie
-use Rattle.jpeg_scan.proofs.at_marker.Reads as reads
-use Rattle.jpeg_scan.proofs.at_marker.Lts as lts
-use Rattle.jpeg_scan.proofs.full.Reads as full-reads
 
 -- src/lib.rt:171:9
 full-requires : tie.Need-full-requires

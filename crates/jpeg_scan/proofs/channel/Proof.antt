@@ -1,8 +1,6 @@
 use Rattle.jpeg_scan.proofs.Standing.{chan-luma, chan-second, chan-third}
 use Rattle.jpeg_scan.proofs.channel.Statement.{statement}
 use Rattle.jpeg_scan.proofs.channel.Tie as tie
-use Rattle.jpeg_scan.proofs.channel.Reads as reads
-use Rattle.jpeg_scan.proofs.channel.Lts as lts
 
 -- src/lib.rt:147:9
 returns : tie.Need-returns

@@ -9,9 +9,6 @@ use Rattle.reading.proofs.ScanAnswers.{Accepted, accepted, refused, drawn-stop,
 use borrow.Author.Needs.{needs}
 use Rattle.jpeg_scan.proofs.draw.Statement.{statement}
 use Rattle.jpeg_scan.proofs.draw.Tie as tie
-use Rattle.jpeg_scan.proofs.draw.Reads as reads
-use Rattle.jpeg_scan.proofs.draw.Lts as lts
-use Rattle.jpeg_scan.proofs.run.Reads as run-reads
 
 -- src/lib.rt:382:11
 run-requires : tie.Need-run-requires

@@ -8,8 +8,6 @@ use Rattle.reading.proofs.Restarts.{padded-over, padded-is}
 use borrow.Author.Needs.{needs}
 use Rattle.jpeg_scan.proofs.full.Statement.{statement}
 use Rattle.jpeg_scan.proofs.full.Tie as tie
-use Rattle.jpeg_scan.proofs.full.Reads as reads
-use Rattle.jpeg_scan.proofs.full.Lts as lts
 
 -- src/lib.rt:160:9
 returns : tie.Need-returns

@@ -16,11 +16,6 @@ use Rattle.jpeg_scan.proofs.Onward.{blockBy}
 use Rattle.jpeg_scan.proofs.OneMcu.{head, Walk, begin, below, whole, out, broken, further}
 use Rattle.jpeg_scan.proofs.mcu.Statement.{statement}
 use Rattle.jpeg_scan.proofs.mcu.Tie as tie
-use Rattle.jpeg_scan.proofs.mcu.Reads as reads
-use Rattle.jpeg_scan.proofs.mcu.Lts as lts
-use Rattle.jpeg_block.proofs.block.Reads as block-reads
-use Rattle.jpeg_scan.proofs.channel.Reads as channel-reads
-use Rattle.jpeg_scan.proofs.paint.Reads as paint-reads
 
 abbrev Inv-walk : tie.InvT-walk
 Inv-walk s plan write scratch₀ start dcs acs quants levels₀ bits₀ predictors₀ done₀ j₀ scratch levels bits predictors done j =

@@ -6,10 +6,6 @@ use Rattle.jpeg_scan.proofs.Samples.{painted-part}
 use borrow.Author.Needs.{needs}
 use Rattle.jpeg_scan.proofs.paint.Statement.{statement}
 use Rattle.jpeg_scan.proofs.paint.Tie as tie
-use Rattle.jpeg_scan.proofs.paint.Reads as reads
-use Rattle.jpeg_scan.proofs.paint.Lts as lts
-use Rattle.jpeg_scan.proofs.quantizer.Reads as quantizer-reads
-use Rattle.jpeg_transform.proofs.samples.Reads as samples-reads
 
 -- src/lib.rt:284:9
 returns : tie.Need-returns

@@ -4,8 +4,6 @@ use lib.ListN.{length, List·getD-eq-default}
 use borrow.Author.Needs.{needs}
 use Rattle.jpeg_scan.proofs.place_of.Statement.{statement}
 use Rattle.jpeg_scan.proofs.place_of.Tie as tie
-use Rattle.jpeg_scan.proofs.place_of.Reads as reads
-use Rattle.jpeg_scan.proofs.place_of.Lts as lts
 
 -- src/lib.rt:79:16
 mul-result : tie.Need-mul-result

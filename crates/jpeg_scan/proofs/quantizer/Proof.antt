@@ -6,8 +6,6 @@ use lib.Seq.{take-all}
 use borrow.Author.Needs.{needs}
 use Rattle.jpeg_scan.proofs.quantizer.Statement.{statement}
 use Rattle.jpeg_scan.proofs.quantizer.Tie as tie
-use Rattle.jpeg_scan.proofs.quantizer.Reads as reads
-use Rattle.jpeg_scan.proofs.quantizer.Lts as lts
 
 -- src/lib.rt:246:9
 slice-aggregate-result : tie.Need-slice-aggregate-result

@@ -4,9 +4,6 @@ use Rattle.reading.specs.Scan.{readable}
 use borrow.Author.Needs.{needs}
 use Rattle.jpeg_scan.proofs.readable.Statement.{statement}
 use Rattle.jpeg_scan.proofs.readable.Tie as tie
-use Rattle.jpeg_scan.proofs.readable.Reads as reads
-use Rattle.jpeg_scan.proofs.readable.Lts as lts
-use Rattle.jpeg_scan.proofs.within.Reads as within-reads
 
 -- src/lib.rt:63:9
 returns : tie.Need-returns

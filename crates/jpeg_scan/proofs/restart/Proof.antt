@@ -8,11 +8,6 @@ use Rattle.jpeg_scan.proofs.Marks.{restart-not, restart-broken, restart
 use borrow.Author.Needs.{needs}
 use Rattle.jpeg_scan.proofs.restart.Statement.{statement}
 use Rattle.jpeg_scan.proofs.restart.Tie as tie
-use Rattle.jpeg_scan.proofs.restart.Reads as reads
-use Rattle.jpeg_scan.proofs.restart.Lts as lts
-use Rattle.jpeg_scan.proofs.at_marker.Reads as at-marker-reads
-use Rattle.jpeg_scan.proofs.restart_code.Reads as restart-code-reads
-use Rattle.jpeg_scan.proofs.restart_due.Reads as restart-due-reads
 
 -- src/lib.rt:228:9
 restart-due-requires : tie.Need-restart-due-requires

@@ -2,8 +2,6 @@ use Rattle.reading.proofs.Restarts.{code-early, code-none, code-some}
 use borrow.Author.Needs.{needs}
 use Rattle.jpeg_scan.proofs.restart_code.Statement.{statement}
 use Rattle.jpeg_scan.proofs.restart_code.Tie as tie
-use Rattle.jpeg_scan.proofs.restart_code.Reads as reads
-use Rattle.jpeg_scan.proofs.restart_code.Lts as lts
 
 -- src/lib.rt:216:9
 returns : tie.Need-returns

@@ -2,8 +2,6 @@ use Rattle.reading.proofs.Restarts.{due-first, due-none, due-is}
 use borrow.Author.Needs.{needs}
 use Rattle.jpeg_scan.proofs.restart_due.Statement.{statement}
 use Rattle.jpeg_scan.proofs.restart_due.Tie as tie
-use Rattle.jpeg_scan.proofs.restart_due.Reads as reads
-use Rattle.jpeg_scan.proofs.restart_due.Lts as lts
 
 -- src/lib.rt:203:9
 returns : tie.Need-returns

@@ -19,13 +19,6 @@ use Rattle.reading.proofs.ScanAnswers.{answer-done, answer-stop}
 use Rattle.jpeg_scan.proofs.Ends.{scan-stop, scan-done, scan-open, left-done, left-stop}
 use Rattle.jpeg_scan.proofs.run.Statement.{statement}
 use Rattle.jpeg_scan.proofs.run.Tie as tie
-use Rattle.jpeg_scan.proofs.run.Reads as reads
-use Rattle.jpeg_scan.proofs.run.Lts as lts
-use Rattle.jpeg_scan.proofs.Plan.of.Reads as of-reads
-use Rattle.jpeg_scan.proofs.at_end.Reads as at-end-reads
-use Rattle.jpeg_scan.proofs.mcu.Reads as mcu-reads
-use Rattle.jpeg_scan.proofs.restart.Reads as restart-reads
-use Rattle.reading.proofs.ScanCursor.fresh.Reads as fresh-reads
 
 abbrev Inv-mcus : tie.InvT-mcus
 Inv-mcus s write scratch₀ plan interval blocks cursor₀ m₀ scratch cursor m =

@@ -3,9 +3,6 @@ use mathlib.Core.Path.{sym}
 use borrow.Author.Needs.{needs}
 use Rattle.jpeg_scan.proofs.validate.Statement.{statement}
 use Rattle.jpeg_scan.proofs.validate.Tie as tie
-use Rattle.jpeg_scan.proofs.validate.Reads as reads
-use Rattle.jpeg_scan.proofs.validate.Lts as lts
-use Rattle.jpeg_scan.proofs.run.Reads as run-reads
 
 -- src/lib.rt:373:26
 slice-aggregate-run : tie.Need-slice-aggregate-run

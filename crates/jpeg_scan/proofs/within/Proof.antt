@@ -1,8 +1,6 @@
 use borrow.Author.Tests.{le-leb, lt-leb}
 use Rattle.jpeg_scan.proofs.within.Statement.{statement}
 use Rattle.jpeg_scan.proofs.within.Tie as tie
-use Rattle.jpeg_scan.proofs.within.Reads as reads
-use Rattle.jpeg_scan.proofs.within.Lts as lts
 
 -- src/lib.rt:53:9
 returns : tie.Need-returns

@@ -1,7 +1,3 @@
-use mathlib.Core.Path.{ap, _∙_}
-use mathlib.Core.List.{List, [], _∷_}
-use mathlib.Core.Bool.{cond}
-use lib.Dec.{ltb}
 use Rattle.jpeg_segments.proofs.Rules.{three-made}
 use Rattle.jpeg_segments.proofs.each.Statement.{statement}
 use Rattle.jpeg_segments.proofs.each.Tie as tie

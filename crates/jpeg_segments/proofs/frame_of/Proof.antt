@@ -1,7 +1,5 @@
-use lib.Dec.{eqb}
 use mathlib.Core.Path.{_∙_}
-use mathlib.Core.Bool.{cond}
-use Prim.Native.Nat.{_+_, _*_, _/_, _%_}
+use Prim.Native.Nat.{_+_, _*_}
 use Rattle.reading.specs.Header.{byte}
 use Rattle.reading.proofs.Fits.{each-made}
 use Rattle.jpeg_segments.proofs.Rules.{frame-made}

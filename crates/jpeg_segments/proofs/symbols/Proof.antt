@@ -1,5 +1,5 @@
 use Prim.Native.Nat.{_≤_, _*_, _+_, _-_}
-use mathlib.Core.Path.{_≡_, sym}
+use mathlib.Core.Path.{_≡_}
 use native.Mathlib.Omega.{arith}
 use Rattle.reading.specs.Huffman.{sum}
 use Rattle.reading.specs.Header.{countsOf}

@@ -6,11 +6,6 @@ use Rattle.jpeg_scan.proofs.Standing.{Readable, readable-says, lumas-fe
 use borrow.Author.Needs.{needs}
 use Rattle.jpeg_scan.proofs.Plan.of.Statement.{statement}
 use Rattle.jpeg_scan.proofs.Plan.of.Tie as tie
-use Rattle.jpeg_scan.proofs.Plan.of.Reads as reads
-use Rattle.jpeg_scan.proofs.Plan.of.Lts as lts
-use Rattle.jpeg_scan.proofs.Plan.none.Reads as none-reads
-use Rattle.jpeg_scan.proofs.chosen.Reads as chosen-reads
-use Rattle.jpeg_scan.proofs.readable.Reads as readable-reads
 
 -- src/lib.rt:115:13
 readable-requires : tie.Need-readable-requires
