@@ -9,7 +9,7 @@ use native.Mathlib.Nat.{not-suc-le-zero, le-trans}
 use native.Mathlib.Omega.{arith}
 use lib.Dec.{eqb, ltb}
 use lib.IntN.{ℤ}
-use lib.ListN.{length, getD, take, drop}
+use lib.ListN.{length, getD, take}
 use borrow.Author.Tests.{lt-ltb, le-ltb, ltb-false, eqb-false, eq-eqb, ne-eqb}
 use Rattle.whole.specs.Lists.{getD-from}
 use Rattle.reading.specs.declared.Bits.{Bits}
@@ -20,11 +20,11 @@ use Rattle.reading.specs.declared.ScanRead.the-variants as reads
 use Rattle.reading.specs.declared.ScanSettled.{ScanSettled}
 use Rattle.reading.specs.declared.ScanSettled.the-variants as answer
 use Rattle.reading.specs.Answers.{scanRead}
-use Rattle.reading.specs.Huffman.{Table, tableAt, codeOf}
+use Rattle.reading.specs.Huffman.{Table, codeOf}
 use Rattle.reading.specs.Layout.{channelOf}
 use Rattle.reading.specs.Reader.{Read, got, fault}
 use Rattle.reading.specs.Scan as scan
-use Rattle.reading.specs.Settled.{Written, settledScan, settledRead, settledOf, scanSettled, laidOver}
+use Rattle.reading.specs.Settled.{Written, settledRead, settledOf, scanSettled, laidOver}
 use Rattle.reading.specs.Tables.{shapeIn}
 use Rattle.reading.specs.Tests.{isNone}
 use Rattle.reading.proofs.Counted.{scan-levels}

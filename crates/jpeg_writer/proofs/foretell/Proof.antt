@@ -1,5 +1,4 @@
 -- `foretell`: what measuring or reading says of a scan that is yet to be written (SureScans).
-use Prim.Native.Nat.{_<_, _^_}
 use mathlib.Core.Path.{_≡_, sym, _∙_, ap}
 use mathlib.Core.Bool.{Bool, true, false}
 use native.Mathlib.Omega.{arith}
