@@ -20,8 +20,7 @@ use Rattle.reading.specs.Layout.{channelOf, restartDue, restartCode}
 use Rattle.reading.specs.Scan.{Plan, planOf, noPredictors, levels}
 use Rattle.reading.specs.Settled.{Written, Coder, _then_, size, fieldOf, valueBits, firstBits, skips, levelBits, restBits, blockBy, blockBits, stuffed, padding, packNext, packFrom, Coded, bytesOf, onto, cut, predictors, written, scanBytes, settledScan}
 use Rattle.reading.specs.Tables.{dcAt, acAt}
-use Rattle.reading.proofs.FineRead.{levels-fine}
-use Rattle.reading.proofs.ScanWritten.{FineBlocks}
+use Rattle.reading.proofs.Counted.{Whole, blocks-counted, blocks-whole}
 use Rattle.jpeg_writer.specs.Steps.{categoryOf}
 use Rattle.jpeg_writer.specs.Page.{spot, bytesAt}
 use Rattle.jpeg_writer.proofs.Coders.{Code, is-code, code-of-table}
@@ -153,24 +152,14 @@ plan-short s r =
       acs = λ c. record { each = λ x. code-of-table (take (r .start) s) (acAt r c) x };
     }
 
--- blocks of 64 levels
-pub data Whole : List (List ℤ) → Type 0 where
-  none-left : Whole []
-  one-more : {l : List ℤ} {ls : List (List ℤ)} → length l ≡ 64 → Whole ls → Whole (l ∷ ls)
-
-pub fine-whole : (p : Plan) (k : ℕ) (ps : List ℤ) (ls : List (List ℤ)) → FineBlocks p k ps ls → Whole ls
-fine-whole p k ps [] f = none-left
-fine-whole p k ps ([] ∷ ls) f = absurd (f .0)
-fine-whole p k ps ((v ∷ l) ∷ ls) f = one-more (ap suc (f .0 .whole)) (fine-whole p (suc k) _ ls (f .1))
-
 written-weight : (p : Plan) → ShortPlan p → (ls : List (List ℤ)) → Whole ls → (k : ℕ) (ps : List ℤ) → Weighs (8 + 1823 * length ls) (written p k ps ls)
-written-weight p s [] none-left k ps = omega arith
-written-weight p s (l ∷ ls) (one-more h w) k ps =
+written-weight p s [] h k ps = omega arith
+written-weight p s (l ∷ ls) h k ps =
     weighs-wide (1808 + (8 + 1823 * length ls) + 15) (8 + 1823 * suc (length ls)) (written p k ps (l ∷ ls)) (omega arith)
     (weighs-cut (1808 + (8 + 1823 * length ls)) due (restartCode (p .shape) (p .interval) k) (onto bits rest)
     (weighs-onto 1808 (8 + 1823 * length ls) bits rest
-    (up-wide (28 * length l + 16) 1808 bits (omega (arith, h)) (up-block (s .dcs c) (s .acs c) (getD qs c (pos 0)) l))
-    (written-weight p s ls w (suc k) (set qs c (getD l 0 (pos 0))))))
+    (up-wide (28 * length l + 16) 1808 bits (omega (arith, h .0)) (up-block (s .dcs c) (s .acs c) (getD qs c (pos 0)) l))
+    (written-weight p s ls (h .1) (suc k) (set qs c (getD l 0 (pos 0))))))
   where
     due : Bool
     due = restartDue (p .shape) (p .interval) k
@@ -202,9 +191,7 @@ scan-length p ls t s w e = go (written p 0 noPredictors ls) (written-weight p s 
 
 module _ (s : List ℕ) (r : Record) (ls : List (List ℤ)) (b : Bits) (t : List ℕ) (e : levels s r ≡ got ls b) (f : settledScan (planOf s r) ls ≡ some t) where
   pub settled-length : length t ≤ 512 * r .blocks + 4
-  settled-length =
-      let fine = levels-fine s r ls b e in
-      subst (λ n. length t ≤ 512 * n + 4) (fine .1) (scan-length (planOf s r) ls t (plan-short s r) (fine-whole (planOf s r) 0 noPredictors ls (fine .0)) f)
+  settled-length = subst (λ n. length t ≤ 512 * n + 4) (blocks-counted s r e) (scan-length (planOf s r) ls t (plan-short s r) (blocks-whole s r e) f)
 
   -- behind a head below 2^62 no place reaches 2^64 - 1, so all bytes are laid one after the other, and counted
   pub settled-laid : (out : List ℕ) (at : ℕ) → at < 2 ^ 62 → r .blocks ≤ 2 ^ 37 → bytesAt (spot out at) t ≡ spot (sets out at t) (at + length t)

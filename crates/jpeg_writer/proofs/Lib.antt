@@ -16,3 +16,4 @@ pub mod Comings
 pub mod McuPassed
 pub mod ScanPassed
 pub mod SettledAnswers
+pub mod SureScans

@@ -96,7 +96,7 @@ module _ {s : List ℕ} {r : Record} {n : Plan} (u : Ready s r n) (few : r .bloc
       go (got ls b) e h = whole ls b e (settledScan (scan.planOf s r) ls) refl h
       go (fault f) e h = record { says = h; fills = tt }
 
-  settled-is : settledOf s r ≡ settledRead plan (scan.scanOf s r)
+  pub settled-is : settledOf s r ≡ settledRead plan (scan.scanOf s r)
   unfolding settledOf
   settled-is = rw (lt-ltb (r .blocks) (2 ^ 32) few) refl
 

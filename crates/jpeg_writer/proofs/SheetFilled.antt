@@ -89,12 +89,12 @@ base-ac n (suc (suc zero)) h = refl
 base-ac n (suc (suc (suc c))) h = absurd (not-suc-le-zero (le-of-suc-le-suc (le-of-suc-le-suc (le-of-suc-le-suc h))))
 
 module _ {t : List ℕ} {n : Plan} {p : scan.Plan} {ws : List ℕ} (st : Stands t n p) (w : Sheet t (basesOf n) 6 ws) (c : ℕ) (h : c < 3) where
-  words-dc : wordsIn (512 * c) ws ≡ codeWords (tableAt t (getD (n .dcs) c 0)) 256
+  pub words-dc : wordsIn (512 * c) ws ≡ codeWords (tableAt t (getD (n .dcs) c 0)) 256
   words-dc =
       let place : 512 * c ≡ 256 * (2 * c) = omega arith in
       ap (λ (a : ℕ). wordsIn a ws) place ∙ w .each (2 * c) (omega arith) ∙ ap (λ (b : ℕ). codeWords (tableAt t b) 256) (base-dc n c h)
 
-  words-ac : wordsIn (512 * c + 256) ws ≡ codeWords (tableAt t (getD (n .acs) c 0)) 256
+  pub words-ac : wordsIn (512 * c + 256) ws ≡ codeWords (tableAt t (getD (n .acs) c 0)) 256
   words-ac =
       let place : 512 * c + 256 ≡ 256 * (2 * c + 1) = omega arith in
       ap (λ (a : ℕ). wordsIn a ws) place ∙ w .each (2 * c + 1) (omega arith) ∙ ap (λ (b : ℕ). codeWords (tableAt t b) 256) (base-ac n c h)

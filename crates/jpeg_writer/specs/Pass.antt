@@ -1,13 +1,15 @@
 -- A pass over a scan: it is read from a cursor on, and what is read is written from a pen on, until a code is wanting.
 use Prim.Native.Nat.{ℕ, suc, _+_, _*_, _-_, min}
 use mathlib.Core.Path.{_≡_}
-use mathlib.Core.Bool.{cond}
+use mathlib.Core.Bool.{Bool, true, false, cond}
 use mathlib.Core.List.{List, [], _∷_}
 use mathlib.Core.Option.{Option, none, some}
+use lib.Dec.{ltb}
 use lib.IntN.{ℤ, pos}
 use lib.ListN.{length, getD, set, take}
 use Rattle.reading.specs.declared.Bits.{Bits}
 use Rattle.reading.specs.declared.Fault.the-variants.{Broken}
+use Rattle.reading.specs.declared.Record.{Record}
 use Rattle.reading.specs.declared.ScanCursor.{ScanCursor}
 use Rattle.reading.specs.declared.ScanSettled.{ScanSettled}
 use Rattle.reading.specs.declared.ScanSettled.the-variants as answer
@@ -15,7 +17,7 @@ use Rattle.reading.specs.Reader.{Read, got, fault}
 use Rattle.reading.specs.Bits.{ended}
 use Rattle.reading.specs.Layout.{channelOf}
 use Rattle.reading.specs.Scan as scan
-use Rattle.reading.specs.Settled.{Coded, onto, blockBits, written}
+use Rattle.reading.specs.Settled.{Coded, onto, blockBits, written, scanSettled}
 use Rattle.jpeg_scan.specs.declared.Plan.{Plan}
 use Rattle.jpeg_scan.specs.declared.Halt.{Halt}
 use Rattle.jpeg_scan.specs.declared.Halt.the-variants.{No, Yes}
@@ -26,6 +28,7 @@ use Rattle.jpeg_writer.specs.declared.Outcome.{Outcome}
 use Rattle.jpeg_writer.specs.declared.Outcome.the-variants.{Done, NoCode}
 use Rattle.jpeg_writer.specs.Page.{Spot, page, fresh, Proper}
 use Rattle.jpeg_writer.specs.Join.{finalAt}
+use Rattle.jpeg_writer.specs.Sheets.{zerosCoded}
 
 -- ---- what is written
 
@@ -114,3 +117,18 @@ pub record Measures (s : List ℕ) (n : Plan) (r : ScanSettled) : Type 0 where
   pub old : List ℕ
   pub new : List ℕ
   pub ran : Ran s n old r new
+
+-- ---- what is known before a scan is written
+
+-- whatever its levels, a record's scan has room and lacks no code: n blocks make at most 512 n + 4 bytes, and each channel's two
+-- tables have a code for the symbol 0
+unfoldable pub sure : Record → List ℕ → ℕ → Bool
+unfolding zerosCoded
+sure r ws room = cond (ltb room (512 * r .blocks + 4)) false (zerosCoded ws (2 * r .channels))
+
+-- of such a scan, where it was accepted, that it fits; of any other what it comes to
+unfoldable pub foretold : Bool → ℕ → Read Bits (Option (List ℕ)) → ScanSettled
+unfolding scanSettled
+foretold true room (got w b) = answer.Done room
+foretold true room (fault f) = answer.Stop f
+foretold false room o = scanSettled o

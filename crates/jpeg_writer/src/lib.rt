@@ -13,14 +13,16 @@ ghost use Rattle.reading.specs.Settled.{fieldOf, blockBy, onto, cut, settledOf,
 ghost use Rattle.jpeg_writer.specs.Page.{spot, byteAt, stuffedAt, bytesAt, page, fresh, Proper, Grown, Puts, closedAt, restarted};
 ghost use Rattle.jpeg_writer.specs.Words.{codeWords, wordCode, coderOf, kept};
 ghost use Rattle.jpeg_writer.specs.Steps.{categoryOf, zerosAt, Quiet, over, valueAt, turnAt, wordAt};
-ghost use Rattle.jpeg_writer.specs.Sheets.{wordsIn, basesOf, Sheet};
-ghost use Rattle.jpeg_writer.specs.Pass.{finalBy, Fit, Moves, lastPart, Closes, Went, Ran, Measures};
+ghost use Rattle.jpeg_scan.specs.Plans.{planFor};
+ghost use Rattle.jpeg_writer.specs.Sheets.{wordsIn, basesOf, Sheet, zerosCoded};
+ghost use Rattle.jpeg_writer.specs.Pass.{finalBy, Fit, Moves, lastPart, Closes, Went, Ran, Measures, sure, foretold};
 use jpeg_scan::Halt;
 use jpeg_scan::Plan;
 use reading::BlockRead;
 use reading::Fault;
 use reading::Record;
 use reading::ScanCursor;
+use reading::ScanRead;
 use reading::ScanSettled;
 
 // Where the next byte goes, the value of the bits that wait for it, and how many bits it still wants, 1 to 8.
@@ -613,8 +615,50 @@ fn measure(s: &[u8], plan: Plan, words: &[u32]) -> ScanSettled
     run(s, plan, words, &mut none)
 }
 
-// The scan of a record is read and measured, and then, where it was accepted, lacks no code and the buffer has room for all of it,
-// read again and written: so a refusal writes nothing.
+// In each of the first tables of the sheet the symbol 0 has a word.
+fn zeros_coded(words: &[u32], tables: usize) -> bool
+    requires { ⌜ (tables ≤ 6) × (length (now words) ≡ 1536) ⌝ }
+    ensures { λ r. ⌜ r ≡ zerosCoded (now (words .entry)) tables ⌝ }
+{
+    let mut i = tables;
+    while 0 < i {
+        i -= 1;
+        if words[256 * i] == 0 {
+            return false;
+        }
+    }
+    true
+}
+
+// Whether a scan, if it can be read, can be written too. A code can be wanting only for the symbol 0: it ends a block, and a place
+// behind a table's symbols reads as it.
+fn sure(found: Record, words: &[u32], room: usize) -> bool
+    requires { ⌜ (found .blocks < 2 ^ 32) × (found .channels ≤ 3) × (length (now words) ≡ 1536) ⌝ }
+    ensures { λ r. ⌜ r ≡ sure found (now (words .entry)) room ⌝ }
+{
+    if room < 512 * found.blocks + 4 {
+        return false;
+    }
+    zeros_coded(words, 2 * found.channels)
+}
+
+// What is known of a scan before it is written. Measuring it takes longer than reading it, so it is measured only where reading
+// alone does not tell.
+fn foretell(s: &[u8], found: Record, plan: Plan, words: &[u32], room: usize) -> ScanSettled
+    requires { ⌜ (plan ≡ planFor (now s) found) × (0 < plan .per) × (found .blocks < 2 ^ 32) × Sheet (take (plan .start) (now s)) (basesOf plan) 6 (now words) ⌝ }
+    ensures { λ r. ⌜ r ≡ foretold (sure found (now (words .entry)) room) room (settledOf (now (s .entry)) found) ⌝ }
+{
+    if !sure(found, words, room) {
+        return measure(s, plan, words);
+    }
+    match jpeg_scan::validate(s, found) {
+        ScanRead::Stop(f) => ScanSettled::Stop(f),
+        ScanRead::Done => ScanSettled::Done(room),
+    }
+}
+
+// The scan of a record is read, and then, where it was accepted, lacks no code and the buffer has room for all of it, read again
+// and written: so a refusal writes nothing.
 pub fn settled(s: &[u8], found: Record, out: &mut [u8]) -> ScanSettled
     ensures { λ r. ⌜ (r ≡ scanSettled (settledOf (now (s .entry)) found)) × (now (out .exit) ≡ laidOver (settledOf (now (s .entry)) found) (now (out .entry))) ⌝ }
 {
@@ -628,7 +672,7 @@ pub fn settled(s: &[u8], found: Record, out: &mut [u8]) -> ScanSettled
     let start = plan.start;
     let mut words = [0u32; 1536];
     fill_sheet(&s[..start], bases(plan), &mut words);
-    match measure(s, plan, &words) {
+    match foretell(s, found, plan, &words, out.len()) {
         ScanSettled::Stop(f) => ScanSettled::Stop(f),
         ScanSettled::NoCode => ScanSettled::NoCode,
         ScanSettled::Done(n) => {

@@ -1,14 +1,16 @@
--- `settled`: what the first pass says is the answer, and what the second leaves is the settled scan (SettledAnswers).
+-- `settled`: what is foretold is the answer, or that the scan fits; what is then written is the settled scan (SureScans).
 use Prim.Native.Nat.{_<_, _^_}
-use mathlib.Core.Path.{sym, _∙_, ap}
+use mathlib.Core.Path.{sym, ap}
 use native.Mathlib.Omega.{arith}
+use lib.ListN.{length}
 use lib.Seq.{length-take-le}
 use borrow.Author.Needs.{needs}
-use Rattle.reading.specs.Settled.{settledOf}
+use Rattle.reading.proofs.FileBytes.{all-bytes}
 use Rattle.jpeg_scan.specs.declared.Plan.{Plan}
 use Rattle.jpeg_scan.proofs.Standing.{Ready, ready, unready}
 use Rattle.jpeg_writer.proofs.SheetFilled.{sheet-as}
-use Rattle.jpeg_writer.proofs.SettledAnswers.{passed-settled, measured-settled, says-stop, stays-stop, stays-lacking, stays-short, writes-all, settled-many, settled-unread}
+use Rattle.jpeg_writer.proofs.SettledAnswers.{passed-settled, says-stop, settled-many, settled-unread}
+use Rattle.jpeg_writer.proofs.SureScans.{sure-fits, told-stop, told-lacking, told-short, told-fits}
 use borrow.Author.Needs.{needs}
 use Rattle.jpeg_writer.proofs.settled.Statement.{statement}
 use Rattle.jpeg_writer.proofs.settled.Tie as tie
@@ -43,11 +45,11 @@ slice-aggregate-fill-sheet-2 c = search needs
 fill-sheet-requires : tie.Need-fill-sheet-requires
 fill-sheet-requires c κs = search needs
 
-slice-aggregate-measure : tie.Need-slice-aggregate-measure
-slice-aggregate-measure c = search needs
+slice-aggregate-foretell : tie.Need-slice-aggregate-foretell
+slice-aggregate-foretell c = search needs
 
-measure-requires : tie.Need-measure-requires
-measure-requires c κs = (set-up (c .before .before .before .before .before .before) .inside, set-up (c .before .before .before .before .before .before) .numbers .some, blocks-few (c .before .before .before .before .before .before), sheet-as (c .before .before .before .before .bases .ensures) (c .before .before .fill-sheet .ensures))
+foretell-requires : tie.Need-foretell-requires
+foretell-requires c κs = (c .before .before .before .before .before .before .before .before .of .ensures, set-up (c .before .before .before .before .before .before) .numbers .some, few (c .before .before .before .before .before .before .before .before .before), sheet-as (c .before .before .before .before .bases .ensures) (c .before .before .fill-sheet .ensures))
 
 enum-known-f : tie.Need-enum-known-f
 enum-known-f c = search needs
@@ -59,9 +61,7 @@ enum-known-n : tie.Need-enum-known-n
 enum-known-n c = search needs
 
 returns-3 : tie.Need-returns-3
-returns-3 c =
-    let e = measured-settled (set-up (c .before .before .before .before .before .before .before .before .before .before .before)) (few (c .before .before .before .before .before .before .before .before .before .before .before .before .before .before)) (c .before .before .before .before .measure .ensures) in
-    (sym (c .before .before .n .given .1) ∙ e, stays-short (settledOf (c .before .before .before .before .before .before .before .before .before .before .before .before .before .before .before .before .before .before .args .s .now) (c .before .before .before .before .before .before .before .before .before .before .before .before .before .before .before .before .before .before .args .found)) (c .before .before .before .before .before .before .before .before .before .before .before .before .before .before .before .before .before .before .args .out .now) e (c .before .before .n .given .1) (omega (arith, c .if3 .taken)))
+returns-3 c = told-short (c .before .before .before .before .before .before .before .before .before .before .before .before .before .before .before .before .before .before .args .out .now) _ _ (c .before .before .before .before .foretell .ensures) (c .before .before .n .given .1) (omega (arith, c .if3 .taken))
 
 slice-aggregate-run : tie.Need-slice-aggregate-run
 slice-aggregate-run c = search needs
@@ -70,23 +70,20 @@ run-requires : tie.Need-run-requires
 run-requires c κs = (set-up (c .before .before .before .before .before .before .before .before .before .before .before .before .before) .inside, set-up (c .before .before .before .before .before .before .before .before .before .before .before .before .before) .numbers .some, blocks-few (c .before .before .before .before .before .before .before .before .before .before .before .before .before), sheet-as (c .before .before .before .before .before .before .before .before .before .before .before .bases .ensures) (c .before .before .before .before .before .before .before .before .before .fill-sheet .ensures))
 
 returns-4 : tie.Need-returns-4
-returns-4 c =
-    let e = measured-settled (set-up (c .before .before .before .before .before .before .before .before .before .before)) (few (c .before .before .before .before .before .before .before .before .before .before .before .before .before)) (c .before .before .before .measure .ensures) in
-    (sym (c .before .f .given .1) ∙ e, stays-stop (settledOf (c .before .before .before .before .before .before .before .before .before .before .before .before .before .before .before .before .before .args .s .now) (c .before .before .before .before .before .before .before .before .before .before .before .before .before .before .before .before .before .args .found)) (c .before .before .before .before .before .before .before .before .before .before .before .before .before .before .before .before .before .args .out .now) e (c .before .f .given .1))
+returns-4 c = told-stop (c .before .before .before .before .before .before .before .before .before .before .before .before .before .before .before .before .before .args .out .now) _ _ (c .before .before .before .foretell .ensures) (c .before .f .given .1)
 
 returns-5 : tie.Need-returns-5
-returns-5 c =
-    let e = measured-settled (set-up (c .before .before .before .before .before .before .before .before .before)) (few (c .before .before .before .before .before .before .before .before .before .before .before .before)) (c .before .before .measure .ensures) in
-    (sym (c .enum-told .given .1) ∙ e, stays-lacking (settledOf (c .before .before .before .before .before .before .before .before .before .before .before .before .before .before .before .before .args .s .now) (c .before .before .before .before .before .before .before .before .before .before .before .before .before .before .before .before .args .found)) (c .before .before .before .before .before .before .before .before .before .before .before .before .before .before .before .before .args .out .now) e (c .enum-told .given .1))
+returns-5 c = told-lacking (c .before .before .before .before .before .before .before .before .before .before .before .before .before .before .before .before .args .out .now) _ _ (c .before .before .foretell .ensures) (c .enum-told .given .1)
 
 same-length : tie.Need-same-length
 same-length c = search needs
 
 returns-6 : tie.Need-returns-6
 returns-6 c =
-    let e = measured-settled (set-up (c .before .before .before .before .before .before .before .before .before .before .before .before .before .before .before .before)) (few (c .before .before .before .before .before .before .before .before .before .before .before .before .before .before .before .before .before .before .before)) (c .before .before .before .before .before .before .before .before .before .measure .ensures) in
     let a = passed-settled (set-up (c .before .before .before .before .before .before .before .before .before .before .before .before .before .before .before .before)) (few (c .before .before .before .before .before .before .before .before .before .before .before .before .before .before .before .before .before .before .before)) (c .before .before .run .ensures) in
-    (a .says, writes-all (settledOf (c .before .before .before .before .before .before .before .before .before .before .before .before .before .before .before .before .before .before .before .before .before .before .before .args .s .now) (c .before .before .before .before .before .before .before .before .before .before .before .before .before .before .before .before .before .before .before .before .before .before .before .args .found)) (c .before .before .before .before .before .before .before .before .before .before .before .before .before .before .before .before .before .before .before .before .before .before .before .args .out .now) e (c .before .before .before .before .before .before .before .n .given .1) (omega (arith, c .before .before .before .before .before .if3 .left)) a)
+    let sheet = sheet-as (c .before .before .before .before .before .before .before .before .before .before .before .before .before .before .bases .ensures) (c .before .before .before .before .before .before .before .before .before .before .before .before .fill-sheet .ensures) in
+    let bytes = all-bytes (c .before .before .before .before .before .before .before .before .before .before .before .before .before .before .before .before .before .before .before .before .before .before .before .args .s .now) (λ i. omega (arith, c .before .before .before .before .before .before .before .before .before .before .before .before .before .before .before .before .before .before .before .before .before .before .shared-slice-known .given i)) in
+    (a .says, told-fits (c .before .before .before .before .before .before .before .before .before .before .before .before .before .before .before .before .before .before .before .before .before .before .before .args .out .now) _ _ (c .before .before .before .before .before .before .before .before .before .foretell .ensures) (c .before .before .before .before .before .before .before .n .given .1) (omega (arith, c .before .before .before .before .before .if3 .left)) (sure-fits (set-up (c .before .before .before .before .before .before .before .before .before .before .before .before .before .before .before .before)) sheet (few (c .before .before .before .before .before .before .before .before .before .before .before .before .before .before .before .before .before .before .before)) bytes (length (c .before .before .before .before .before .before .before .before .before .before .before .before .before .before .before .before .before .before .before .before .before .before .before .args .out .now))) a)
 
 pub settled-spec : {M : Type 1} → statement M
 settled-spec =
@@ -99,8 +96,8 @@ settled-spec =
     bases-requires
     slice-aggregate-fill-sheet-2
     fill-sheet-requires
-    slice-aggregate-measure
-    measure-requires
+    slice-aggregate-foretell
+    foretell-requires
     enum-known-f
     enum-told
     enum-known-n
