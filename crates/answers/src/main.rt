@@ -12,12 +12,6 @@ use reading::Settling;
 
 // ---- numbers of a case
 
-fn wide(x: u8) -> u64
-    ensures { λ r. ⌜ r < 256 ⌝ }
-{
-    x as u64
-}
-
 // Two bytes, high byte first.
 fn pair(list: &[u8], at: usize) -> u64
     requires { ⌜ at < 1000 ⌝ }
@@ -26,8 +20,8 @@ fn pair(list: &[u8], at: usize) -> u64
     if list.len() <= at + 1 {
         return 0;
     }
-    let high = wide(list[at]);
-    let low = wide(list[at + 1]);
+    let high = streams::wide(list[at]);
+    let low = streams::wide(list[at + 1]);
     256 * high + low
 }
 
@@ -129,7 +123,7 @@ fn adler(bytes: &[u8]) -> u64 {
     let mut high = 0u64;
     let mut i = 0usize;
     while i < bytes.len() {
-        low = (low + wide(bytes[i])) % 65521;
+        low = (low + streams::wide(bytes[i])) % 65521;
         high = (high + low) % 65521;
         i += 1;
     }
@@ -184,60 +178,11 @@ fn open(line: &mut [u8], job: u8, number: u8, left: u64) -> usize {
 // The line is written, with its end: whether it could be.
 fn close(line: &mut [u8], at: usize) -> bool {
     let n = put_byte(line, at, b'\n');
-    if line.len() < n {
-        return false;
-    }
-    io::write_all(STDOUT_FILENO, &line[..n])
+    streams::write_first(line, n)
 }
 
-// A record's 36 numbers in their order.
 fn put_record(line: &mut [u8], at: usize, found: Record) -> usize {
-    let i = found.ids;
-    let q = found.qids;
-    let d = found.dcids;
-    let a = found.acids;
-    let quants = found.quants;
-    let dcs = found.dcs;
-    let acs = found.acs;
-    let colour = if found.colour { 1usize } else { 0usize };
-    let numbers = [
-        found.width,
-        found.height,
-        found.channels,
-        found.hs,
-        found.vs,
-        i[0],
-        i[1],
-        i[2],
-        q[0],
-        q[1],
-        q[2],
-        d[0],
-        d[1],
-        d[2],
-        a[0],
-        a[1],
-        a[2],
-        quants[0],
-        quants[1],
-        quants[2],
-        quants[3],
-        dcs[0],
-        dcs[1],
-        dcs[2],
-        dcs[3],
-        acs[0],
-        acs[1],
-        acs[2],
-        acs[3],
-        found.interval,
-        found.start,
-        found.blocks,
-        found.scratch,
-        found.output,
-        found.work as usize,
-        colour,
-    ];
+    let numbers = streams::numbers(found);
     put_numbers(line, at, &numbers)
 }
 
@@ -264,12 +209,8 @@ fn inspected(head: &[u8], s: &[u8]) -> bool {
 
 // What inspect finds with no limit and a budget that always suffices; all zero where it refuses.
 fn own_record(head: &[u8], s: &[u8]) -> Record {
-    let none = Limits {
-        input: usize::MAX,
-        side: usize::MAX,
-        output: usize::MAX,
-    };
-    let answer = jpeg::inspect(s, number(head, 1) == 1, none, Budget::fresh(u64::MAX));
+    let unlimited = streams::no_limits();
+    let answer = jpeg::inspect(s, number(head, 1) == 1, unlimited, Budget::fresh(u64::MAX));
     answer.found
 }
 

@@ -1,16 +1,9 @@
 // Runs the header over a list of vectors and writes a line for each: its place in the list, its number, and for an accepted one the
 // record, field by field. The list stands on standard input and the lines that must come in `stdout`; tests/header/vectors.py makes
 // both from the rules alone, and says how the list is laid out. Behind the list's end every byte counts as 0.
-ghost use Prim.Native.Nat.{_<_, _≤_};
+ghost use Prim.Native.Nat.{_<_};
 use reading::Head;
-use reading::Record;
 use reading::Refusal;
-
-fn wide(x: u8) -> usize
-    ensures { λ r. ⌜ r < 256 ⌝ }
-{
-    x as usize
-}
 
 fn byte(list: &[u8], place: usize) -> u8 {
     if place < list.len() { list[place] } else { 0 }
@@ -21,8 +14,8 @@ fn number(list: &[u8], place: usize) -> usize
     ensures { λ r. ⌜ r < 65536 ⌝ }
 {
     if place < list.len() {
-        let high = wide(byte(list, place));
-        let low = wide(byte(list, place + 1));
+        let high = streams::wide(byte(list, place)) as usize;
+        let low = streams::wide(byte(list, place + 1)) as usize;
         256 * high + low
     } else {
         0
@@ -87,32 +80,6 @@ fn fields(entries: &[usize]) {
     }
 }
 
-fn record_fields(found: Record) {
-    field(found.width as u64);
-    field(found.height as u64);
-    field(found.channels as u64);
-    field(found.hs as u64);
-    field(found.vs as u64);
-    fields(&found.ids);
-    fields(&found.qids);
-    fields(&found.dcids);
-    fields(&found.acids);
-    fields(&found.quants);
-    fields(&found.dcs);
-    fields(&found.acs);
-    field(found.interval as u64);
-    field(found.start as u64);
-    field(found.blocks as u64);
-    field(found.scratch as u64);
-    field(found.output as u64);
-    field(found.work);
-    if found.colour {
-        field(1);
-    } else {
-        field(0);
-    }
-}
-
 // a file that has no room is refused as too long, which no line of the list expects
 fn head_of(file: &[u8], length: usize, colour: bool) -> Head {
     if file.len() < length {
@@ -128,7 +95,8 @@ fn line(index: u64, file: &[u8; 1024], length: usize, colour: bool) {
     io::print_decimal(1, index);
     field(number as u64);
     if number == 0 {
-        record_fields(head.found);
+        let numbers = streams::numbers(head.found);
+        fields(&numbers);
     }
     io::write_all(1, b"\n");
 }
@@ -141,11 +109,11 @@ fn vector(list: &[u8], at: usize, index: u64) -> usize
     ensures { λ r. ⌜ at < r ⌝ }
 {
     let mut file = [0u8; 1024];
-    let parts = wide(byte(list, at));
+    let parts = streams::wide(byte(list, at)) as usize;
     let length = joined(list, at + 1, parts, &mut file);
     let behind = at + 1 + 4 * parts;
     let colour = byte(list, behind) != 0;
-    let patches = wide(byte(list, behind + 1));
+    let patches = streams::wide(byte(list, behind + 1)) as usize;
     patched(list, behind + 2, patches, &mut file);
     line(index, &file, length, colour);
     behind + 2 + 3 * patches

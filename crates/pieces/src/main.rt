@@ -3,7 +3,6 @@
 use libc::STDOUT_FILENO;
 use reading::Budget;
 use reading::Limits;
-use reading::Verdict;
 
 // a file of one channel with two tables of one code each, 8 x 8: its scan is one byte
 const F: [u8; 141] = [
@@ -913,22 +912,6 @@ fn inspect(name: &[u8], s: &[u8], limits: Limits, budget: u64) {
     end_line();
 }
 
-fn wide() -> Limits {
-    Limits {
-        input: Limits::BUFFER,
-        side: Limits::SIDE,
-        output: Limits::BUFFER,
-    }
-}
-
-fn unlimited() -> Limits {
-    Limits {
-        input: usize::MAX,
-        side: usize::MAX,
-        output: usize::MAX,
-    }
-}
-
 // the numbers of a record: blocks, scratch, output, work
 fn header(name: &[u8], s: &[u8]) {
     let answer = jpeg_header::header(s, true);
@@ -946,26 +929,37 @@ fn header(name: &[u8], s: &[u8]) {
 fn largest() {
     let s = LARGEST;
     header(b"largest picture, header", &s);
-    inspect(b"largest picture, limits", &s, wide(), u64::MAX);
-    inspect(b"largest picture, budget 302", &s, unlimited(), 302);
-    inspect(b"largest picture, budget 303", &s, unlimited(), 303);
+    inspect(b"largest picture, limits", &s, streams::limits(), u64::MAX);
+    inspect(
+        b"largest picture, budget 302",
+        &s,
+        streams::no_limits(),
+        302,
+    );
+    inspect(
+        b"largest picture, budget 303",
+        &s,
+        streams::no_limits(),
+        303,
+    );
     inspect(
         b"largest picture, one short of work",
         &s,
-        unlimited(),
+        streams::no_limits(),
         644244701489,
     );
-    inspect(b"largest picture, work", &s, unlimited(), 644244701490);
-}
-
-fn value(byte: u8) -> u64 {
-    byte as u64
+    inspect(
+        b"largest picture, work",
+        &s,
+        streams::no_limits(),
+        644244701490,
+    );
 }
 
 // a piece's name, its number, what is left of the budget, the settled length, and the byte at a place of the buffer
 fn settle(name: &[u8], s: &[u8], at: usize) {
     let mut out = [0u8; 150];
-    let answer = jpeg::settle(s, wide(), Budget::fresh(10000), &mut out);
+    let answer = jpeg::settle(s, streams::limits(), Budget::fresh(10000), &mut out);
     let verdict = answer.verdict;
     let left = answer.budget;
     io::write_all(STDOUT_FILENO, name);
@@ -973,7 +967,7 @@ fn settle(name: &[u8], s: &[u8], at: usize) {
     write_number(left.left);
     write_number(answer.length as u64);
     if at < out.len() {
-        write_number(value(out[at]));
+        write_number(streams::wide(out[at]));
     }
     end_line();
 }
@@ -997,19 +991,19 @@ fn settled() {
 
 fn main() {
     let f = F;
-    inspect(b"F at 3483", &f, wide(), 3483);
-    inspect(b"F at 3482", &f, wide(), 3482);
-    inspect(b"F at 283", &f, wide(), 283);
-    inspect(b"F at 282", &f, wide(), 282);
+    inspect(b"F at 3483", &f, streams::limits(), 3483);
+    inspect(b"F at 3482", &f, streams::limits(), 3482);
+    inspect(b"F at 283", &f, streams::limits(), 283);
+    inspect(b"F at 282", &f, streams::limits(), 282);
     header(b"F, header", &f);
     let none = [0u8; 0];
-    inspect(b"empty at 0", &none, wide(), 0);
-    inspect(b"empty at 1", &none, wide(), 1);
+    inspect(b"empty at 0", &none, streams::limits(), 0);
+    inspect(b"empty at 1", &none, streams::limits(), 1);
     let mut falling = FALLING;
-    inspect(b"prediction -2048", &falling, wide(), 10000);
+    inspect(b"prediction -2048", &falling, streams::limits(), 10000);
     falling[141] = 6;
     falling[142] = 95;
-    inspect(b"prediction -2049", &falling, wide(), 10000);
+    inspect(b"prediction -2049", &falling, streams::limits(), 10000);
     largest();
     settled();
 }

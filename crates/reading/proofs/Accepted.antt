@@ -171,9 +171,6 @@ module _ (colour : Bool) (r : Record) (a : Accepted colour r) where
   pub blocks-below : r .blocks < 2 ^ 29
   blocks-below = omega (arith, a .blocks, blocks-are (frameIn r) (a .frame), count-small (frameIn r) (a .frame))
 
-  pub scratch-below : r .scratch < 2 ^ 35
-  scratch-below = omega (arith, a .scratch, blocks-below)
-
   pub output-below : r .output < 2 ^ 34
   output-below = omega (arith, a .output, output-small (frameIn r) (a .frame))
 

@@ -1,20 +1,19 @@
 -- The levels of a block that was read: 64 of them, each in -2048..2047.
 use Prim.Native.Nat.{ℕ, zero, suc, _<_, _≤_}
-use mathlib.Core.Path.{_≡_, refl, ap}
+use mathlib.Core.Path.{_≡_, ap}
 use mathlib.Core.List.{List, [], _∷_}
 use native.Mathlib.Omega.{arith}
 use lib.Dec.{T, leb, leb→le}
-use lib.ListN.{length, getD, length-replicate}
+use lib.ListN.{length, getD}
 use lib.IntN.{ℤ, pos, negsuc, natAbs}
 use lib.Signed.{mag}
 use Rattle.whole.specs.Ring.{mag-natAbs}
 use Rattle.whole.specs.Expressions.{Within}
 use Rattle.reading.specs.declared.Bits.{Bits}
-use Rattle.reading.specs.Reader.{Read, got, fault}
+use Rattle.reading.specs.Reader.{got}
 use Rattle.reading.specs.Bits.{one}
 use Rattle.reading.specs.Huffman.{Table}
 use Rattle.reading.specs.Block.{block, zeros, predictable}
-use Rattle.reading.specs.Answers.{levelsOr, levelsOf}
 use Rattle.reading.proofs.Plain.{and-left}
 use Rattle.reading.proofs.BlockWritten.{AllSmall}
 use Rattle.reading.proofs.ScanWritten.{FineBlock}
@@ -73,12 +72,3 @@ module _ (s : List ℕ) (dc ac : Table) (p : ℤ) (b : Bits) where
 
   pub block-long : {l : List ℤ} {q : Bits} → block (one s) dc ac p b ≡ got l q → length l ≡ 64
   block-long e = block-whole e .long
-
-  -- the levels that are left behind, also where the block was refused
-  pub levels-whole : Whole (levelsOf (block (one s) dc ac p b))
-  unfolding levelsOf levelsOr
-  levels-whole = go (block (one s) dc ac p b) refl
-    where
-      go : (r : Read Bits (List ℤ)) → block (one s) dc ac p b ≡ r → Whole (levelsOr r (zeros 64))
-      go (got l q) e = block-whole e
-      go (fault f) e = record { long = length-replicate 64 (pos 0); small = small-zeros 64 }

@@ -133,15 +133,8 @@ module _ (l : List ℤ) where
   unfolding places
   places-some = omega arith
 
-  pub places-length : 0 < length l → places l ≤ length l
-  unfolding places
-  places-length h = omega (arith, last-length l)
-
   pub places-zero : (k : ℕ) → places l ≤ k → getD l k (pos 0) ≡ pos 0
   places-zero k h = last-zero l k (omega (arith, within))
-
-  pub places-all : take (places l) l ++ zeros (length l - places l) ≡ l
-  places-all = reach-all l (places l) within
 
   places-at : (k : ℕ) → getD (take (places l) l) k (pos 0) ≡ getD l k (pos 0)
   places-at k = go (ltb k (places l)) refl

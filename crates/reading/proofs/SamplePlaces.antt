@@ -5,7 +5,6 @@ use Prim.Native.Nat.{ℕ, zero, suc, _+_, _*_, _-_, _/_, _%_, _<_, _≤_}
 use mathlib.Core.Path.{_≡_, ap, ap₂, _∙_}
 use native.Mathlib.Omega.{arith}
 use native.Mathlib.Nat.{dvd-mul-right, mod-lt, mod-mod-of-dvd, mul-div-cancel, mul-one, div-add-mod', div-lt-iff-lt-mul, mul-le-mul-right, not-suc-le-zero}
-use lib.Arith.{digits-lt}
 use lib.ListN.{replicate}
 use Rattle.reading.specs.Layout.{oneByOne, factorsOf, ceiling, perMcu, blockCount, scaled, placeIn, placeOfChannel, sampleAt}
 use Rattle.reading.proofs.Places.{shape, per-is, widest-is, highest-is, count-is}
@@ -87,9 +86,3 @@ module _ (w h hs vs ch : ℕ) (hp : 0 < hs) (vp : 0 < vs) where
       let all : (y / (8 * vs) * ceiling w (8 * hs) + x / (8 * hs) + 1) * (hs * vs + (ch - 1)) ≤ ceiling w (8 * hs) * ceiling h (8 * vs) * (hs * vs + (ch - 1))
       = mul-le-mul-right (hs * vs + (ch - 1)) (omega arith) in
       omega (arith, all, count-is w h hs vs ch hp vp)
-
-  pub place-below : (x y c : ℕ) → x < w → y < h → c < ch → sampleAt (shape w h hs vs ch) x y c < 64 * blockCount (shape w h hs vs ch)
-  place-below x y zero l m k =
-      omega (arith, first-channel-place x y, digits-lt (block-below y vs vp) (block-below x hs hp), mcu-below x y l m)
-  place-below x y (suc c) l m k =
-      omega (arith, chroma-place x y c (omega arith), chroma-below x hs hp, chroma-below y vs vp, mcu-below x y l m)

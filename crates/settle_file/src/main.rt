@@ -3,32 +3,19 @@
 use libc::STDERR_FILENO;
 use libc::STDOUT_FILENO;
 use reading::Budget;
-use reading::Limits;
 use reading::Verdict;
 use streams::Filled;
 
-fn write_file(output: &[u8], n: usize) -> bool {
-    if output.len() < n {
-        return false;
-    }
-    io::write_all(STDOUT_FILENO, &output[..n])
-}
-
 // The limits are those of the other program; the budget always suffices.
 fn convert(s: &[u8], output: &mut [u8]) -> bool {
-    let limits = Limits {
-        input: Limits::BUFFER,
-        side: Limits::SIDE,
-        output: Limits::BUFFER,
-    };
-    let settling = jpeg::settle(s, limits, Budget::fresh(u64::MAX), output);
+    let settling = jpeg::settle(s, streams::limits(), Budget::fresh(u64::MAX), output);
     let verdict = settling.verdict;
     match verdict {
         Verdict::Refused(x) => {
             let line = streams::refusal(x.number());
             io::write_all(STDOUT_FILENO, &line)
         }
-        Verdict::Accepted => write_file(output, settling.length),
+        Verdict::Accepted => streams::write_first(output, settling.length),
     }
 }
 

@@ -1,3 +1,4 @@
 -- What the functions that the programs share say.
 pub mod Read
 pub mod Lines
+pub mod Numbers

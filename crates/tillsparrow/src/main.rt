@@ -3,7 +3,6 @@
 use libc::STDERR_FILENO;
 use libc::STDOUT_FILENO;
 use reading::Budget;
-use reading::Limits;
 use reading::Record;
 use reading::Verdict;
 use streams::Filled;
@@ -38,24 +37,15 @@ fn write_head(found: Record) -> bool {
 }
 
 fn write_picture(found: Record, output: &[u8]) -> bool {
-    let n = found.output;
-    if output.len() < n {
-        return false;
-    }
     if !write_head(found) {
         return false;
     }
-    io::write_all(STDOUT_FILENO, &output[..n])
+    streams::write_first(output, found.output)
 }
 
 // The limits are the buffers'; colour is chosen, and the budget always suffices.
 fn convert(s: &[u8], output: &mut [u8], scratch: &mut [u8]) -> bool {
-    let limits = Limits {
-        input: Limits::BUFFER,
-        side: Limits::SIDE,
-        output: Limits::BUFFER,
-    };
-    let inspection = jpeg::inspect(s, true, limits, Budget::fresh(u64::MAX));
+    let inspection = jpeg::inspect(s, true, streams::limits(), Budget::fresh(u64::MAX));
     let seen = inspection.verdict;
     let found = inspection.found;
     match seen {

@@ -1,15 +1,9 @@
 use Prim.Native.Nat.{_≤_, _<_, _-_}
 use native.Mathlib.Omega.{arith}
 use lib.ListN.{length}
-use Prim.Native.Nat.{_≤_, _<_, _-_}
-use native.Mathlib.Omega.{arith}
-use lib.ListN.{length}
 use borrow.Author.Needs.{needs}
 use Rattle.answers.proofs.adler.Statement.{statement}
 use Rattle.answers.proofs.adler.Tie as tie
-use Rattle.answers.proofs.adler.Reads as reads
-use Rattle.answers.proofs.adler.Lts as lts
-use Rattle.answers.proofs.wide.Reads as wide-reads
 
 abbrev Inv-loop : tie.InvT-loop
 Inv-loop bytes low₀ high₀ i₀ low high i = (i ≤ length bytes) × (low < 65521) × (high < 65521)

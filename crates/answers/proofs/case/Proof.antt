@@ -1,17 +1,9 @@
 use mathlib.Core.Path.{sym}
 use Prim.Native.Nat.{_-_}
-use lib.ListN.{length}
 use lib.Seq.{length-take-le}
 use borrow.Author.Needs.{needs}
 use Rattle.answers.proofs.case.Statement.{statement}
 use Rattle.answers.proofs.case.Tie as tie
-use Rattle.answers.proofs.case.Reads as reads
-use Rattle.answers.proofs.case.Lts as lts
-use Rattle.answers.proofs.bad.Reads as bad-reads
-use Rattle.answers.proofs.body.Reads as body-reads
-use Rattle.answers.proofs.number.Reads as number-reads
-use Rattle.answers.proofs.size.Reads as size-reads
-use Rattle.io.proofs.read_full.Reads as read-full-reads
 
 slice-aggregate-read-full : tie.Need-slice-aggregate-read-full
 slice-aggregate-read-full c = search needs

@@ -5,9 +5,6 @@ use lib.ListN.{length}
 use borrow.Author.Needs.{needs}
 use Rattle.answers.proofs.put_numbers.Statement.{statement}
 use Rattle.answers.proofs.put_numbers.Tie as tie
-use Rattle.answers.proofs.put_numbers.Reads as reads
-use Rattle.answers.proofs.put_numbers.Lts as lts
-use Rattle.answers.proofs.put_number.Reads as put-number-reads
 
 abbrev Inv-loop : tie.InvT-loop
 Inv-loop line₀ at entries next₀ i₀ line next i = (i ≤ length entries) × (length line ≡ length line₀)

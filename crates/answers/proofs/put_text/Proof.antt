@@ -5,9 +5,6 @@ use lib.ListN.{length}
 use borrow.Author.Needs.{needs}
 use Rattle.answers.proofs.put_text.Statement.{statement}
 use Rattle.answers.proofs.put_text.Tie as tie
-use Rattle.answers.proofs.put_text.Reads as reads
-use Rattle.answers.proofs.put_text.Lts as lts
-use Rattle.answers.proofs.put_byte.Reads as put-byte-reads
 
 abbrev Inv-loop : tie.InvT-loop
 Inv-loop line₀ at text next₀ i₀ line next i = (i ≤ length text) × (length line ≡ length line₀)

@@ -5,9 +5,6 @@ use lib.ListN.{length}
 use borrow.Author.Needs.{needs}
 use Rattle.answers.proofs.run.Statement.{statement}
 use Rattle.answers.proofs.run.Tie as tie
-use Rattle.answers.proofs.run.Reads as reads
-use Rattle.answers.proofs.run.Lts as lts
-use Rattle.answers.proofs.case.Reads as case-reads
 
 abbrev Inv-loop : tie.InvT-loop
 Inv-loop input₀ output₀ scratch₀ turns₀ input output scratch turns = (length input ≡ length input₀) × (length output ≡ length output₀) × (length scratch ≡ length scratch₀)

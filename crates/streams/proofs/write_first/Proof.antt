@@ -1,11 +1,12 @@
-use mathlib.Core.Path.{sym}
+use mathlib.Core.Path.{sym, subst⁻¹}
+use lib.Dec.{T}
 use lib.Seq.{length-take-le}
 use borrow.Author.Needs.{needs}
-use Rattle.settle_file.proofs.write_file.Statement.{statement}
-use Rattle.settle_file.proofs.write_file.Tie as tie
+use Rattle.streams.proofs.write_first.Statement.{statement}
+use Rattle.streams.proofs.write_first.Tie as tie
 
 returns : tie.Need-returns
-returns c = search needs
+returns c e = absurd (subst⁻¹ T e tt)
 
 slice-aggregate-write-all : tie.Need-slice-aggregate-write-all
 slice-aggregate-write-all c = sym (length-take-le _ _ (c .before .if1 .left))
@@ -16,6 +17,6 @@ write-all-requires c κs = search needs
 returns-2 : tie.Need-returns-2
 returns-2 c = search needs
 
-pub write-file-spec : {M : Type 1} → statement M
-write-file-spec =
+pub write-first-spec : {M : Type 1} → statement M
+write-first-spec =
     tie.close (tie.spec returns slice-aggregate-write-all write-all-requires returns-2)
