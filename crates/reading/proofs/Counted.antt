@@ -13,7 +13,7 @@ use Rattle.reading.specs.Reader.{got, fault}
 use Rattle.reading.specs.Layout.{channelOf}
 use Rattle.reading.specs.Transform.{coefficients, samples, samplesTo}
 use Rattle.reading.specs.Reading.{dequantized, blockSamples, allSamples}
-use Rattle.reading.specs.Scan.{Plan, planOf, levels, readable, scanOf}
+use Rattle.reading.specs.Scan.{Plan, planOf, noPredictors, levels, readable, scanOf}
 use Rattle.reading.proofs.DoubleSum.{length-samples}
 use Rattle.reading.proofs.FineRead.{levels-fine, no-fault}
 use Rattle.reading.proofs.ScanWritten.{FineBlocks}
@@ -71,6 +71,9 @@ scan-levels s r {ls} {b} e = go (readable s r) e
 module _ (s : List ℕ) (r : Record) {ls : List (List ℤ)} {b : Bits} (e : levels s r ≡ got ls b) where
   pub blocks-counted : length ls ≡ r .blocks
   blocks-counted = levels-fine s r ls b e .1
+
+  pub blocks-whole : Whole ls
+  blocks-whole = fine-whole (planOf s r) 0 noPredictors ls (levels-fine s r ls b e .0)
 
   pub samples-counted : length (allSamples s r ls) ≡ 64 * r .blocks
   samples-counted = samplesOf-length (planOf s r) 0 ls ∙ ap (λ (k : ℕ). 64 * k) blocks-counted
