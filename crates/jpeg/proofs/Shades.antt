@@ -1,5 +1,5 @@
 -- The channels of a pixel, in colour or as the samples are.
-use Prim.Native.Nat.{ℕ, zero, suc, _+_, _*_, _%_, _<_}
+use Prim.Native.Nat.{ℕ, zero, suc, _+_, _*_, _<_}
 use mathlib.Core.Path.{_≡_, refl, ap, ap₂}
 use mathlib.Core.Bool.{Bool, true, false}
 use mathlib.Core.List.{List}
@@ -8,7 +8,7 @@ use lib.ListN.{getD, set}
 use Rattle.reading.specs.Tests.{_and_}
 use Rattle.reading.specs.Colour.{red, green, blue}
 use Rattle.jpeg.specs.Drawn.{written}
-use Rattle.jpeg.specs.Rows.{three, shown, lumaAt, inRun, inRuns, inMcu, Spread}
+use Rattle.jpeg.specs.Rows.{three, shown, lumaAt, inRun, inRuns, inMcu, Spread, Gathered}
 use Rattle.jpeg.proofs.Drawing.{three-channels}
 
 pub and-true : (b : Bool) → b and true ≡ b
@@ -40,15 +40,11 @@ pub shown-one : (b : Bool) (v w : ℕ → ℕ) → b ≡ false → v 0 ≡ w 0 �
 shown-one b v w e p zero h = rw e p
 shown-one b v w e p (suc c) h = let z : ⊥ = omega arith in absurd z
 
--- a run is a part of its row of blocks
-pub run-in-runs : (s : List ℕ) (a : ℕ) (cb cr : List ℕ) (x : ℕ) (b : Bool) → x % 8 ≡ 0 → (i c : ℕ) → i < 8
-    → inRun s (a + 8 * x) cb cr x b i c ≡ inRuns s a cb cr b (x + i) c
+-- the luma samples of a run are those that were gathered
+pub run-in-runs : (s : List ℕ) (a n : ℕ) (luma cb cr : List ℕ) (b : Bool) → Gathered s a n luma → (i c : ℕ) → i < n
+    → inRun luma cb cr b i c ≡ inRuns s a cb cr b i c
 unfolding inRun inRuns
-run-in-runs s a cb cr x b aligned i c h =
-    ap (λ k. shown b (three (getD s k 0) (getD cb (x + i) 0) (getD cr (x + i) 0)) c) place
-  where
-    place : a + 8 * x + i ≡ lumaAt a (x + i)
-    place = omega arith
+run-in-runs s a n luma cb cr b g i c h = ap (λ k. shown b (three k (getD cb i 0) (getD cr i 0)) c) (g i h)
 
 -- the chroma samples of an MCU are those that were spread
 pub runs-in-mcu : (s : List ℕ) (a b hs : ℕ) (cb cr : List ℕ) (coloured : Bool) → Spread s b hs cb → Spread s (b + 64) hs cr

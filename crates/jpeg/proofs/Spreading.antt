@@ -1,5 +1,6 @@
--- Chroma samples spread over the pixels of an MCU: what holds after j samples, whatever number of times each is written.
-use Prim.Native.Nat.{ℕ, _+_, _*_, _-_, _/_, _<_, _≤_}
+-- Chroma samples spread over the pixels of an MCU: what holds after j samples, whatever number of times each is written; and luma samples
+-- gathered, 8 of each block.
+use Prim.Native.Nat.{ℕ, _+_, _*_, _-_, _/_, _%_, _<_, _≤_}
 use mathlib.Core.Path.{_≡_, sym, ap, _∙_, subst}
 use mathlib.Core.List.{List}
 use native.Mathlib.Omega.{arith}
@@ -7,7 +8,7 @@ use native.Mathlib.Decide.{decLt}
 use lib.Arith.{digits-div}
 use lib.ListN.{getD, length}
 use Rattle.jpeg.specs.Drawn.{written}
-use Rattle.jpeg.specs.Rows.{Spread}
+use Rattle.jpeg.specs.Rows.{Spread, Gathered, lumaAt}
 use Rattle.jpeg.proofs.Drawing.{length-written, written-in, written-before}
 
 pub record SpreadTo (s : List ℕ) (b hs j : ℕ) (u : List ℕ) : Type 0 where
@@ -41,3 +42,51 @@ module _ (s : List ℕ) (b hs : ℕ) where
   spread-all j u all over i h =
       let e : j ≡ 8 = omega arith in
       all .has i (rw e (omega arith))
+
+-- ---- luma
+
+pub record GatheredTo (s : List ℕ) (a n x : ℕ) (u : List ℕ) : Type 0 where
+  pub whole : x % 8 ≡ 0
+  pub within : x < n + 8
+  pub size : length u ≡ 32
+  pub has : Gathered s a x u
+
+-- a block that begins among the samples has its 8 within the lists
+pub block-room : (x n : ℕ) → x % 8 ≡ 0 → x < n → n ≤ 32 → x + 8 ≤ 32
+block-room x n whole more most =
+    let blocks : x / 8 ≤ 3 = omega arith in
+    omega (arith, blocks)
+
+pub block-read : (x n : ℕ) → x % 8 ≡ 0 → x < n → 8 * x ≤ 64 * ((n - 1) / 8)
+block-read x n whole more =
+    let blocks : x / 8 ≤ (n - 1) / 8 = omega arith in
+    omega (arith, blocks)
+
+module _ (s : List ℕ) (a n : ℕ) where
+  pub gathered-none : (u : List ℕ) → length u ≡ 32 → GatheredTo s a n 0 u
+  gathered-none u e = record { whole = omega arith; within = omega arith; size = e; has = λ i h. let z : ⊥ = omega arith in absurd z }
+
+  -- one block more
+  pub gathered-next : (x : ℕ) (u v : List ℕ) → GatheredTo s a n x u → x < n → n ≤ 32 → v ≡ written (λ j. getD s (a + 8 * x + j) 0) x 8 u
+      → GatheredTo s a n (x + 8) v
+  gathered-next x u v before more most e =
+      record {
+        whole = omega (arith, before .whole);
+        within = omega arith;
+        size = ap length e ∙ length-written f x 8 u ∙ before .size;
+        has = λ i h. ap (λ l. getD l i 0) e ∙ go i h (decLt i x);
+      }
+    where
+      f : ℕ → ℕ
+      f j = getD s (a + 8 * x + j) 0
+
+      go : (i : ℕ) → i < x + 8 → Dec (i < x) → getD (written f x 8 u) i 0 ≡ getD s (lumaAt a i) 0
+      go i h (yes l) = written-before f x 8 u i l ∙ before .has i l
+      go i h (no l) =
+          let here : x + (i - x) ≡ i = omega arith in
+          let place : a + 8 * x + (i - x) ≡ lumaAt a i = omega (arith, before .whole) in
+          subst (λ k. getD (written f x 8 u) k 0 ≡ f (i - x)) here (written-in f x 8 u (i - x) (omega arith) (omega (arith, block-room x n (before .whole) more most, before .size)))
+          ∙ ap (λ k. getD s k 0) place
+
+  pub gathered-all : (x : ℕ) (u : List ℕ) → GatheredTo s a n x u → n ≤ x → Gathered s a n u
+  gathered-all x u all over i h = all .has i (omega arith)

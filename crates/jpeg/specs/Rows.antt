@@ -60,9 +60,9 @@ three y cb cr (suc (suc c)) = cr
 abbrev pub shown : Bool → (ℕ → ℕ) → ℕ → ℕ
 shown coloured v c = cond coloured (colourOf c (v 0) (v 1) (v 2)) (v c)
 
--- pixel i of a run: one luma sample after another, and what stands in two lists of chroma samples from x on
-unfoldable pub inRun : List ℕ → ℕ → List ℕ → List ℕ → ℕ → Bool → ℕ → ℕ → ℕ
-inRun s a cb cr x coloured i = shown coloured (three (getD s (a + i) 0) (getD cb (x + i) 0) (getD cr (x + i) 0))
+-- pixel i of a run: what stands in three lists of samples
+unfoldable pub inRun : List ℕ → List ℕ → List ℕ → Bool → ℕ → ℕ → ℕ
+inRun luma cb cr coloured i = shown coloured (three (getD luma i 0) (getD cb i 0) (getD cr i 0))
 
 -- the place of luma sample i in a row of blocks side by side whose first sample is at a: 8 of each block
 abbrev pub lumaAt : ℕ → ℕ → ℕ
@@ -80,13 +80,11 @@ inMcu s a b hs coloured i = shown coloured (three (getD s (lumaAt a i) 0) (getD 
 abbrev pub Spread : List ℕ → ℕ → ℕ → List ℕ → Type 0
 Spread s b hs u = (i : ℕ) → i < 8 * hs → getD u i 0 ≡ getD s (b + i / hs) 0
 
--- ---- what is read and written lies within the lists
+-- a list that has the first n luma samples of a row of blocks side by side
+abbrev pub Gathered : List ℕ → ℕ → ℕ → List ℕ → Type 0
+Gathered s a n u = (i : ℕ) → i < n → getD u i 0 ≡ getD s (lumaAt a i) 0
 
--- a run: luma samples side by side, chroma samples from x on in a list of 32
-pub record RunFits (s out : List ℕ) (luma x n at : ℕ) : Type 0 where
-  pub read : luma + n ≤ length s
-  pub spread : x + n ≤ 32
-  pub room : at + n * 3 ≤ length out
+-- ---- what is read and written lies within the lists
 
 -- runs: 8 luma samples of each block
 pub record RunsFit (s out : List ℕ) (luma n at : ℕ) : Type 0 where

@@ -1,17 +1,17 @@
 // The picture from its block samples (the rules' 'Samples, places, colour'): row by row, channels interleaved, in colour where it is
 // chosen and there are three channels. A row's first places are found once and then counted on, from MCU to MCU and from block to
-// block, so that no pixel and no run of pixels costs a division. An MCU's chroma samples are spread over its pixels before the
-// loop over pixels; nearly all files have sampling 1 or 2 across, which are spread by loops of their own.
+// block, so that no pixel and no run of pixels costs a division. An MCU's luma samples are gathered and its chroma samples spread
+// over its pixels before the loop over pixels; nearly all files have sampling 1 or 2 across, which are spread by loops of their own.
 use crate::layout;
 use reading::Record;
 ghost use mathlib.Core.Path.{_≡_};
-ghost use Prim.Native.Nat.{_+_, _*_, _≤_, _<_, min};
+ghost use Prim.Native.Nat.{_+_, _*_, _-_, _/_, _≤_, _<_, min};
 ghost use lib.Dec.{eqb};
 ghost use lib.ListN.{length, getD};
 ghost use Rattle.reading.specs.Tests.{_and_, over};
 ghost use Rattle.reading.specs.Reading.{pixel, picture};
 ghost use Rattle.jpeg.specs.Drawn.{written, pixels};
-ghost use Rattle.jpeg.specs.Rows.{Drawable, RunFits, RunsFit, ColourFits, McuFits, three, shown, inRun, inRuns, inMcu, Spread};
+ghost use Rattle.jpeg.specs.Rows.{Drawable, RunsFit, ColourFits, McuFits, three, shown, inRun, inRuns, inMcu, Spread, Gathered};
 
 // The smaller of two numbers.
 fn least(a: usize, b: usize) -> usize
@@ -82,32 +82,54 @@ fn pixel(y: u8, b: u8, r: u8, colour: bool, out: &mut [u8], at: usize)
     }
 }
 
-// At most 8 pixels of three channels: luma samples side by side in one block, and their chroma samples from x on.
+// The 8 luma samples of a block's row, side by side from x on.
+fn gather_8(samples: &[u8], from: usize, x: usize, gathered: &mut [u8; 32])
+    requires { ⌜ (from + 8 ≤ length (now samples)) × (x + 8 ≤ 32) × (length (now gathered) ≡ 32) ⌝ }
+    ensures { λ _. ⌜ now (gathered .exit) ≡ written (λ j. getD (now (samples .entry)) (from + j) 0) x 8 (now (gathered .entry)) ⌝ }
+{
+    let mut j = 0usize;
+    while j < 8 {
+        gathered[x + j] = samples[from + j];
+        j += 1;
+    }
+}
+
+// The luma samples of an MCU in one row, block by block: each has 8 of them.
+fn gather(samples: &[u8], luma: usize, n: usize, gathered: &mut [u8; 32])
+    requires { ⌜ (luma + (64 * ((n - 1) / 8) + 8) ≤ length (now samples)) × (n ≤ 32) × (length (now gathered) ≡ 32) ⌝ }
+    ensures { λ _. ⌜ Gathered (now (samples .entry)) luma n (now (gathered .exit)) ⌝ }
+{
+    let mut x = 0usize;
+    while x < n {
+        gather_8(samples, luma + 8 * x, x, gathered);
+        x += 8;
+    }
+}
+
+// Pixels of three channels, whose samples stand in three lists.
 fn run(
-    samples: &[u8],
-    luma: usize,
+    luma: &[u8; 32],
     cb: &[u8; 32],
     cr: &[u8; 32],
-    x: usize,
     n: usize,
     colour: bool,
     out: &mut [u8],
     at: usize,
 )
-    requires { ⌜ RunFits (now samples) (now out) luma x n at ⌝ }
-    ensures { λ _. ⌜ now (out .exit) ≡ pixels (inRun (now (samples .entry)) luma (now (cb .entry)) (now (cr .entry)) x colour) 3 at n (now (out .entry)) ⌝ }
+    requires { ⌜ (n ≤ 32) × (at + n * 3 ≤ length (now out)) ⌝ }
+    ensures { λ _. ⌜ now (out .exit) ≡ pixels (inRun (now (luma .entry)) (now (cb .entry)) (now (cr .entry)) colour) 3 at n (now (out .entry)) ⌝ }
 {
     let mut i = 0usize;
     while i < n {
-        let y = samples[luma + i];
-        let b = cb[x + i];
-        let r = cr[x + i];
+        let y = luma[i];
+        let b = cb[i];
+        let r = cr[i];
         pixel(y, b, r, colour, out, at + i * 3);
         i += 1;
     }
 }
 
-// The pixels of an MCU in one row, run by run: each block has 8 of them.
+// The pixels of an MCU in one row. Its luma samples are gathered before the loop over pixels, which is then one loop and quick.
 fn runs(
     samples: &[u8],
     luma: usize,
@@ -121,12 +143,9 @@ fn runs(
     requires { ⌜ RunsFit (now samples) (now out) luma n at ⌝ }
     ensures { λ _. ⌜ now (out .exit) ≡ pixels (inRuns (now (samples .entry)) luma (now (cb .entry)) (now (cr .entry)) colour) 3 at n (now (out .entry)) ⌝ }
 {
-    let mut x = 0usize;
-    while x < n {
-        let m = least(n - x, 8);
-        run(samples, luma + 8 * x, cb, cr, x, m, colour, out, at + x * 3);
-        x += m;
-    }
+    let mut gathered = [0u8; 32];
+    gather(samples, luma, n, &mut gathered);
+    run(&gathered, cb, cr, n, colour, out, at);
 }
 
 // An MCU of three channels in one row, sampling 1 across. This and the next two are three functions, and not one with a choice in

@@ -7,43 +7,34 @@ use Rattle.jpeg.proofs.render.run.Statement.{statement}
 use Rattle.jpeg.proofs.render.run.Tie as tie
 
 abbrev Inv-loop : tie.InvT-loop
-Inv-loop samples luma cb cr x n colour out₀ at i₀ out i = DrawnTo (inRun samples luma cb cr x colour) 3 at n out₀ i out
+Inv-loop luma cb cr n colour out₀ at i₀ out i = DrawnTo (inRun luma cb cr colour) 3 at n out₀ i out
 
 abbrev μ-loop : tie.MeasureT-loop
-μ-loop samples luma cb cr x n colour out₀ at i₀ out i = n - i
+μ-loop luma cb cr n colour out₀ at i₀ out i = n - i
 
 loop-holds : tie.Need-loop-holds Inv-loop μ-loop
 loop-holds c = drawn-none _ _ _ _ _
 
-add-y : tie.Need-add-y Inv-loop μ-loop
-add-y c = omega (arith, c .before .before .before .before .pre)
-
-shared-slice-read-y : tie.Need-shared-slice-read-y Inv-loop μ-loop
-shared-slice-read-y c = omega (arith, c .before .before .before .before .before .pre)
-
-add-b : tie.Need-add-b Inv-loop μ-loop
-add-b c = omega (arith, c .before .before .before .before .before .pre)
+element-copy-out-y : tie.Need-element-copy-out-y Inv-loop μ-loop
+element-copy-out-y c = omega (arith, c .before .before .before .pre)
 
 element-copy-out-b : tie.Need-element-copy-out-b Inv-loop μ-loop
-element-copy-out-b c = omega (arith, c .before .before .before .before .before .pre)
-
-add-r : tie.Need-add-r Inv-loop μ-loop
-add-r c = omega (arith, c .before .before .before .before .before .before .pre)
+element-copy-out-b c = omega (arith, c .before .before .before .before .pre)
 
 element-copy-out-r : tie.Need-element-copy-out-r Inv-loop μ-loop
-element-copy-out-r c = omega (arith, c .before .before .before .before .before .before .pre)
+element-copy-out-r c = omega (arith, c .before .before .before .before .before .pre)
 
 mul-pixel : tie.Need-mul-pixel Inv-loop μ-loop
-mul-pixel c = omega (arith, c .before .before .before .before .before .before .before .before .pre, c .before .before .before .before .before .before .before .before .good)
+mul-pixel c = omega (arith, c .before .before .before .before .before .before .before .pre)
 
 add-pixel : tie.Need-add-pixel Inv-loop μ-loop
-add-pixel c = omega (arith, c .before .before .before .before .before .before .before .before .pre)
+add-pixel c = omega (arith, c .before .before .before .before .before .before .before .pre, c .before .before .before .before .before .before .before .good)
 
 pixel-requires : tie.Need-pixel-requires Inv-loop μ-loop
-pixel-requires c κs = omega (arith, c .before .before .before .before .before .before .before .before .pre, c .before .before .before .before .before .loop .inv)
+pixel-requires c κs = omega (arith, c .before .before .before .before .before .before .before .pre, c .before .before .before .before .before .loop .inv)
 
 add-i : tie.Need-add-i Inv-loop μ-loop
-add-i c = omega (arith, c .before .before .before .before .before .before .before .before .before .before .before .pre)
+add-i c = omega (arith, c .before .before .before .before .before .before .before .before .before .before .pre)
 
 loop-less : tie.Need-loop-less Inv-loop μ-loop
 loop-less c = omega (arith, c .before .before .before .before .before .before .before .loop-test .taken)
@@ -65,11 +56,8 @@ run-spec =
     Inv-loop
     μ-loop
     loop-holds
-    add-y
-    shared-slice-read-y
-    add-b
+    element-copy-out-y
     element-copy-out-b
-    add-r
     element-copy-out-r
     mul-pixel
     add-pixel
