@@ -1,4 +1,3 @@
-pub mod Numbers
 pub mod Meanings
 pub mod Steps
 pub mod Remaining

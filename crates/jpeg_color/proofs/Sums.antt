@@ -4,7 +4,7 @@ use mathlib.Core.Path.{_≡_, refl, sym, _∙_, ap, ap₂}
 use mathlib.Core.Bool.{Bool, true, false, cond}
 use mathlib.Core.List.{List, _∷_}
 use Prim.Native.Nat.{ℕ, suc, _+_, _-_, _*_, _/_, _^_, _≤_, _<_}
-use native.Mathlib.Nat.{le-trans, le-refl}
+use native.Mathlib.Nat.{le-trans}
 use native.Mathlib.Omega.{arith}
 use borrow.Author.Tests.{ltb-true, ltb-false}
 use lib.Dec.{T, ltb, leb, leb→le}
@@ -14,8 +14,9 @@ use lib.Signed.{shrZ}
 use mir.Syntax.{w8, w32}
 use mir.Val.{Fits, SFits, toZ, ofZ}
 use mir.Facts.{toZ-ofZ}
-use Rattle.whole.specs.Expressions.{Exp, at, Under, under-cons, value, bitsOf, safe, Fine, fine, exact, abs-add, abs-sub, abs-mul, fits-abs}
+use Rattle.whole.specs.Expressions.{Exp, at, Under, under-cons, value, bitsOf, safe, Fine, fine, exact, abs-sub, fits-abs}
 use Rattle.whole.specs.Signs.{shifted}
+use Rattle.whole.specs.Held.{Held, held-small, number, plain, less}
 
 -- ---- the division
 
@@ -77,58 +78,25 @@ module _ {bs : List ℕ} {l : List ℤ} (small : Under bs l) (e : Exp) (t : T (s
 
 -- ---- numbers as the machine reads them
 
--- what the machine reads as x is the whole number z, at most b in magnitude
-pub record Held (x z : ℤ) (b : ℕ) : Type 0 where
-  pub is : x ≡ z
-  pub small : natAbs z ≤ b
-
-pub number : (k : ℕ) → Held (pos k) (pos k) k
-number k = record { is = refl; small = le-refl k }
-
-pub byte : {n : ℕ} → Fits w8 n → Held (toZ w32 n) (pos n) 255
-byte {n} h = record { is = toZ-ofZ {w = w32} {z = pos n} (fits-abs {n = 255} (omega arith) tt); small = omega arith }
-
-module _ {x y z v : ℤ} {m n : ℕ} (h : Held x z m) (k : Held y v n) where
-  pub plus-fits : T (ltb (m + n) (2 ^ 31)) → SFits w32 (x +ℤ y)
-  plus-fits t = rw (h .is, k .is) (fits-abs (abs-add z v (h .small) (k .small)) t)
-
-  pub plus : T (ltb (m + n) (2 ^ 31)) → Held (toZ w32 (ofZ w32 (x +ℤ y))) (z +ℤ v) (m + n)
-  plus t = record { is = toZ-ofZ (plus-fits t) ∙ ap₂ (λ a b. a +ℤ b) (h .is) (k .is); small = abs-add z v (h .small) (k .small) }
-
-  pub less-fits : T (ltb (m + n) (2 ^ 31)) → SFits w32 (x -ℤ y)
-  less-fits t = rw (h .is, k .is) (fits-abs (abs-sub z v (h .small) (k .small)) t)
-
-  pub less : T (ltb (m + n) (2 ^ 31)) → Held (toZ w32 (ofZ w32 (x -ℤ y))) (z -ℤ v) (m + n)
-  less t = record { is = toZ-ofZ (less-fits t) ∙ ap₂ (λ a b. a -ℤ b) (h .is) (k .is); small = abs-sub z v (h .small) (k .small) }
-
-  pub times-fits : T (ltb (m * n) (2 ^ 31)) → SFits w32 (x *ℤ y)
-  times-fits t = rw (h .is, k .is) (fits-abs (abs-mul z v (h .small) (k .small)) t)
-
-  pub times : T (ltb (m * n) (2 ^ 31)) → Held (toZ w32 (ofZ w32 (x *ℤ y))) (z *ℤ v) (m * n)
-  times t = record { is = toZ-ofZ (times-fits t) ∙ ap₂ (λ a b. a *ℤ b) (h .is) (k .is); small = abs-mul z v (h .small) (k .small) }
+pub byte : {n : ℕ} → Fits w8 n → Held w32 (toZ w32 n) (pos n) 255
+byte h = plain 255 (omega arith) tt
 
 -- a chroma sample's difference from 128
-pub difference : {n : ℕ} → Fits w8 n → Held (toZ w32 (ofZ w32 (toZ w32 n -ℤ pos 128))) (pos n -ℤ pos 128) 383
+pub difference : {n : ℕ} → Fits w8 n → Held w32 (toZ w32 (ofZ w32 (toZ w32 n -ℤ pos 128))) (pos n -ℤ pos 128) 383
 difference h = less (byte h) (number 128) tt
 
-pub held-small : {x z : ℤ} {b m : ℕ} → Held x z b → T (leb b m) → natAbs x ≤ m
-held-small {x} {z} {b} {m} h t = rw (h .is) (le-trans (h .small) (leb→le b m t))
-
-pub floor : {x z : ℤ} {m : ℕ} → Held x z m → (k : ℕ) → T (leb m (65536 * k)) → T (ltb (65536 * k) (2 ^ 31)) → Held (toZ w32 (ofZ w32 (shrZ x 65536))) (shrZ z 65536) k
+pub floor : {x z : ℤ} {m : ℕ} → Held w32 x z m → (k : ℕ) → T (leb m (65536 * k)) → T (ltb (65536 * k) (2 ^ 31)) → Held w32 (toZ w32 (ofZ w32 (shrZ x 65536))) (shrZ z 65536) k
 floor {x} {z} {m} h k t u = record {
   is = shifted w32 65536 (h .is) (fits-abs (le-trans (h .small) (leb→le m (65536 * k) t)) u);
   small = shift-small z k (le-trans (h .small) (leb→le m (65536 * k) t));
 }
 
 -- what `divided` answers
-pub called : {r x y z v : ℤ} {m n : ℕ} → Held x z m → Held y v n → (k : ℕ) → T (leb (m + n) (65536 * k)) → T (ltb (65536 * k) (2 ^ 31))
-    → r ≡ shrZ (x -ℤ y) 65536 → Held (toZ w32 (ofZ w32 r)) (shrZ (z -ℤ v) 65536) k
+pub called : {r x y z v : ℤ} {m n : ℕ} → Held w32 x z m → Held w32 y v n → (k : ℕ) → T (leb (m + n) (65536 * k)) → T (ltb (65536 * k) (2 ^ 31))
+    → r ≡ shrZ (x -ℤ y) 65536 → Held w32 (toZ w32 (ofZ w32 r)) (shrZ (z -ℤ v) 65536) k
 called {r} {x} {y} {z} {v} {m} {n} g h k t u e =
-    let w : Held (toZ w32 (ofZ w32 (shrZ (z -ℤ v) 65536))) (shrZ (z -ℤ v) 65536) k = floor {x = z -ℤ v} (record { is = refl; small = abs-sub z v (g .small) (h .small) }) k t u in
+    let w : Held w32 (toZ w32 (ofZ w32 (shrZ (z -ℤ v) 65536))) (shrZ (z -ℤ v) 65536) k = floor {x = z -ℤ v} (record { is = refl; small = abs-sub z v (g .small) (h .small) }) k t u in
     record { is = ap (λ a. toZ w32 (ofZ w32 a)) (e ∙ ap₂ (λ a b. shrZ (a -ℤ b) 65536) (g .is) (h .is)) ∙ w .is; small = w .small }
-
-pub input : {z : ℤ} {m : ℕ} → SFits w32 z → natAbs z ≤ m → Held (toZ w32 (ofZ w32 z)) z m
-input h k = record { is = toZ-ofZ h; small = k }
 
 -- the bits n are those of a number of at most 2 ^ 24 in magnitude: a parameter so bounded is one, one divided is, and the difference of two
 -- fits

@@ -1,4 +1,4 @@
--- Signed numbers as the code meets them: the distance from 0, the field of a value, a level made wider, a difference.
+-- Signed numbers as the code meets them: the distance from 0, the field of a value, a level that is zero.
 use Prim.Native.Nat.{ℕ, zero, suc, _-_, _^_, _<_, _≤_}
 use mathlib.Core.Path.{_≡_, refl, sym, ap, _∙_, subst, subst⁻¹}
 use mathlib.Core.Bool.{Bool, true, false}
@@ -74,47 +74,6 @@ module _ (z : ℤ) (f : SFits w64 z) where
 
     pub field-pos : ltZ (toZ w64 (ofZ w64 z)) (pos 0) ≡ false → m ≡ fieldOf n z
     field-pos e = a ∙ ap natAbs back ∙ sym (field-above n z (under e))
-
--- ---- a level and a prediction, made wider, and their difference
-
-pub record Widened (w : Width) (z : ℤ) : Type 0 where
-  pub fits : SFits w64 (toZ w (ofZ w z))
-  pub is : toZ w64 (ofZ w64 (toZ w (ofZ w z))) ≡ z
-  pub small : natAbs z ≤ 2147483648
-
-pub widened : (w : Width) (z : ℤ) → 2 ^ hbits w ≤ 2147483648 → mag z < 2 ^ hbits w → Widened w z
-widened w z l h = record { fits = fits; is = toZ-ofZ fits ∙ there; small = small }
-  where
-    there : toZ w (ofZ w z) ≡ z
-    there = toZ-ofZ (sfits-of h)
-
-    small : natAbs z ≤ 2147483648
-    small = le-trans (natAbs-le z h) l
-
-    fits : SFits w64 (toZ w (ofZ w z))
-    fits = subst⁻¹ (λ (x : ℤ). SFits w64 x) there (fits-abs {n = 2147483648} small tt)
-
-pub level : (z : ℤ) → mag z < 2 ^ hbits w16 → Widened w16 z
-level z h = widened w16 z (lit≤ tt) h
-
-pub prediction : (z : ℤ) → mag z < 2 ^ hbits w32 → Widened w32 z
-prediction z h = widened w32 z (lit≤ tt) h
-
-module _ {w v : Width} {z p : ℤ} (a : Widened w z) (b : Widened v p) where
-  wide : toZ w64 (ofZ w64 (toZ w (ofZ w z))) -ℤ toZ w64 (ofZ w64 (toZ v (ofZ v p))) ≡ z -ℤ p
-  wide = ap (λ (x : ℤ). x -ℤ toZ w64 (ofZ w64 (toZ v (ofZ v p)))) (a .is) ∙ ap (λ (x : ℤ). z -ℤ x) (b .is)
-
-  close : natAbs (z -ℤ p) ≤ 4294967296
-  close = abs-sub z p (a .small) (b .small)
-
-  pub difference-fits : SFits w64 (toZ w64 (ofZ w64 (toZ w (ofZ w z))) -ℤ toZ w64 (ofZ w64 (toZ v (ofZ v p))))
-  difference-fits = subst⁻¹ (λ (x : ℤ). SFits w64 x) wide (fits-abs {n = 4294967296} close tt)
-
-  pub difference-is : toZ w64 (ofZ w64 (toZ w64 (ofZ w64 (toZ w (ofZ w z))) -ℤ toZ w64 (ofZ w64 (toZ v (ofZ v p))))) ≡ z -ℤ p
-  difference-is = toZ-ofZ difference-fits ∙ wide
-
-  pub difference-small : natAbs (z -ℤ p) < 2 ^ 62
-  difference-small = omega (arith, close)
 
 -- ---- a level that is zero
 

@@ -4,3 +4,4 @@ pub mod Lists
 pub mod Signs
 pub mod Expressions
 pub mod Powers
+pub mod Held

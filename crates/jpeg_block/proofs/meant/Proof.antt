@@ -5,10 +5,11 @@ use native.Mathlib.Omega.{arith}
 use lib.Pow.{pow-mono}
 use lib.IntN.{pos, _-ℤ_}
 use mir.Syntax.{w32}
+use mir.Val.{toZ}
 use mir.Facts.{toZ-pos}
 use borrow.Author.Needs.{needs}
 use Rattle.whole.specs.Powers.{power-is}
-use Rattle.jpeg_block.proofs.Numbers.{difference-fits, difference-is}
+use Rattle.whole.specs.Held.{Held, plain, less-fits, less}
 use Rattle.jpeg_block.proofs.Meanings.{meaning-low, meaning-high}
 use Rattle.jpeg_block.proofs.meant.Statement.{statement}
 use Rattle.jpeg_block.proofs.meant.Tie as tie
@@ -26,6 +27,12 @@ module _ (c : tie.Start) where
   small : 2 ^ c .args .n ≤ 65536
   small = pow-mono {j = 16} (c .pre .0)
 
+  next : Held w32 (toZ w32 (c .args .v + 1)) (pos (c .args .v + 1)) 65536
+  next = plain 65536 (omega (arith, small)) tt
+
+  spanned : Held w32 (toZ w32 shifted) (pos shifted) 65536
+  spanned = plain 65536 (rw span small) tt
+
 mul-if1 : tie.Need-mul-if1
 mul-if1 c = omega (arith, small c)
 
@@ -39,12 +46,11 @@ cast-result-2 : tie.Need-cast-result-2
 cast-result-2 c = rw (span (c .before)) (record { sfits = omega (arith, small (c .before)) })
 
 sub-result : tie.Need-sub-result
-sub-result c =
-    difference-fits (c .before .args .v + 1) (shifted (c .before)) (omega (arith, small (c .before))) (rw (span (c .before)) (small (c .before)))
+sub-result c = less-fits (next (c .before)) (spanned (c .before)) tt
 
 returns : tie.Need-returns
 returns c =
-    difference-is (c .before .args .v + 1) (shifted (c .before)) (omega (arith, small (c .before))) (rw (span (c .before)) (small (c .before)))
+    less (next (c .before)) (spanned (c .before)) tt .is
     ∙ ap (λ (k : ℕ). pos (c .before .args .v + 1) -ℤ pos k) (span (c .before))
     ∙ sym (meaning-low _ _ (c .before .pre .1) (rw (span (c .before)) at (c .if1 .taken)))
 

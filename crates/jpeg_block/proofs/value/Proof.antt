@@ -2,18 +2,19 @@
 use Prim.Native.Nat.{_<_}
 use mathlib.Core.Path.{_≡_, sym, _∙_, ap, subst⁻¹}
 use native.Mathlib.Nat.{le-of-lt}
+use native.Mathlib.Omega.{arith}
 use lib.Dec.{T}
 use lib.IntN.{ℤ, natAbs, _+ℤ_}
 use mir.Syntax.{w16, w32, w64}
 use mir.Val.{SFits, toZ, ofZ}
-use mir.Facts.{toZ-ofZ, sfits-widen}
+use mir.Facts.{toZ-ofZ}
 use borrow.Author.Needs.{needs}
 use Rattle.whole.specs.Expressions.{fits-abs}
+use Rattle.whole.specs.Held.{widened-fits, widened, plus-fits, plus}
 use Rattle.reading.specs.Reader.{got}
 use Rattle.reading.specs.Block.{predictable}
 use Rattle.jpeg_block.specs.Step.{puts}
 use Rattle.reading.proofs.BlockLevels.{predictable-small}
-use Rattle.jpeg_block.proofs.Numbers.{sum-fits, sum-is, level-fits}
 use Rattle.jpeg_block.proofs.Steps.{value-cut, value-small, value-later, value-first, value-far}
 use Rattle.jpeg_block.proofs.value.Statement.{statement}
 use Rattle.jpeg_block.proofs.value.Tie as tie
@@ -46,26 +47,26 @@ returns c =
     ∙ sym (value-later _ _ _ _ _ (c .before .before .before .before .before .before .pre) (c .before .before .before .before .amplitude .ensures) (c .before .before .v .given .1) (c .if1 .taken))
 
 cast-sum : tie.Need-cast-sum
-cast-sum c = rw (toZ-ofZ (c .before .before .before .before .before .before .fits .pred)) (sfits-widen {w = w32} tt (c .before .before .before .before .before .before .fits .pred))
+cast-sum c = widened-fits tt (c .before .before .before .before .before .before .fits .pred)
 
 cast-sum-2 : tie.Need-cast-sum-2
-cast-sum-2 c = rw (toZ-ofZ (fits (c .before))) (sfits-widen {w = w32} tt (fits (c .before)))
+cast-sum-2 c = widened-fits tt (fits (c .before))
 
 add-sum : tie.Need-add-sum
-add-sum c = sum-fits (c .before .before .before .before .before .before .args .pred) (c .before .before .v .given .0 .0) (c .before .before .before .before .before .before .fits .pred) (fits (c .before))
+add-sum c = plus-fits (widened tt (c .before .before .before .before .before .before .fits .pred)) (widened tt (fits (c .before))) tt
 
 predictable-requires : tie.Need-predictable-requires
 predictable-requires c κs = search needs
 
 module _ (c : tie.After-predictable) where
   is : toZ w64 (ofZ w64 (toZ w64 (ofZ w64 (toZ w32 (ofZ w32 (c .before .before .before .before .before .before .before .args .pred)))) +ℤ toZ w64 (ofZ w64 (toZ w32 (ofZ w32 (c .before .before .before .v .given .0 .0)))))) ≡ c .before .before .before .before .before .before .before .args .pred +ℤ c .before .before .before .v .given .0 .0
-  is = sum-is (c .before .before .before .before .before .before .before .args .pred) (c .before .before .before .v .given .0 .0) (c .before .before .before .before .before .before .before .fits .pred) (fits (c .before .before))
+  is = plus (widened tt (c .before .before .before .before .before .before .before .fits .pred)) (widened tt (fits (c .before .before))) tt .is
 
   tested : c .predictable .result ≡ predictable (c .before .before .before .before .before .before .before .args .pred +ℤ c .before .before .before .v .given .0 .0)
   tested = c .predictable .ensures ∙ ap predictable is
 
 sum-level : (c : tie.Then2) → SFits w16 (c .before .before .before .before .before .before .before .before .args .pred +ℤ c .before .before .before .before .v .given .0 .0)
-sum-level c = level-fits (c .before .before .before .before .before .before .before .before .args .pred +ℤ c .before .before .before .before .v .given .0 .0) (predictable-small (c .before .before .before .before .before .before .before .before .args .pred +ℤ c .before .before .before .before .v .given .0 .0) (subst⁻¹ T (sym (tested (c .before)) ∙ c .if2 .taken) tt))
+sum-level c = record { sfits = omega (arith, predictable-small (c .before .before .before .before .before .before .before .before .args .pred +ℤ c .before .before .before .before .v .given .0 .0) (subst⁻¹ T (sym (tested (c .before)) ∙ c .if2 .taken) tt)) }
 
 cast-t17 : tie.Need-cast-t17
 cast-t17 c = rw (is (c .before)) (sum-level c)

@@ -9,12 +9,12 @@ use mir.Syntax.{w16, w32}
 use mir.Val.{SFits, toZ, ofZ}
 use mir.Facts.{toZ-ofZ}
 use borrow.Author.Needs.{needs, sfits-of}
+use Rattle.whole.specs.Held.{widened-fits, widened}
 use Rattle.reading.specs.declared.Bits.{Bits}
 use Rattle.reading.specs.Bits.{one}
 use Rattle.reading.specs.Huffman.{tableAt}
 use Rattle.reading.specs.Block.{block}
 use Rattle.reading.specs.Reader.{Read}
-use Rattle.jpeg_block.proofs.Numbers.{widened-fits, widened-is}
 use Rattle.jpeg_block.proofs.Steps.{Puts}
 use Rattle.jpeg_block.proofs.Remaining.{Walk, begun, at-64, stopped, ended, skipped, put-room, put}
 use Rattle.reading.proofs.BlockAnswers.{said-got, said-fault, levels-got, levels-fault}
@@ -35,7 +35,7 @@ element-copy-out-t22 : tie.Need-element-copy-out-t22 Inv-walk μ-walk
 element-copy-out-t22 c = search needs
 
 cast-t23 : tie.Need-cast-t23 Inv-walk μ-walk
-cast-t23 c = widened-fits (getD (c .before .before .walk .levels) 0 (pos 0)) (sfits-of (c .t22 .given))
+cast-t23 c = widened-fits tt (sfits-of {w = w16} {z = getD (c .before .before .walk .levels) 0 (pos 0)} (c .t22 .given))
 
 table-requires : tie.Need-table-requires Inv-walk μ-walk
 table-requires c κs = search needs
@@ -53,7 +53,7 @@ element-copy-out-t27 : tie.Need-element-copy-out-t27 Inv-walk μ-walk
 element-copy-out-t27 c = search needs
 
 cast-t28 : tie.Need-cast-t28 Inv-walk μ-walk
-cast-t28 c = widened-fits (getD (c .before .before .before .before .before .before .before .walk .levels) 0 (pos 0)) (sfits-of (c .t27 .given))
+cast-t28 c = widened-fits tt (sfits-of {w = w16} {z = getD (c .before .before .before .before .before .before .before .walk .levels) 0 (pos 0)} (c .t27 .given))
 
 enum-known-q-2 : tie.Need-enum-known-q-2 Inv-walk μ-walk
 enum-known-q-2 c = search needs
@@ -103,7 +103,7 @@ held c = ap (read c) (sym (toZ-ofZ (c .fits .pred)))
 returns : tie.Need-returns Inv-walk μ-walk
 returns c =
     let e = held (c .before .before .before .before .before) ∙ at-64 (c .before .before .walk .inv) (c .before .if1 .taken) in
-    (said-got e _ _ (widened-is (getD (c .before .before .walk .levels) 0 (pos 0)) (sfits-of (c .t22 .given))) (c .before .before .walk .inv .many), levels-got e _)
+    (said-got e _ _ (widened tt (sfits-of {w = w16} {z = getD (c .before .before .walk .levels) 0 (pos 0)} (c .t22 .given)) .is) (c .before .before .walk .inv .many), levels-got e _)
 
 returns-2 : tie.Need-returns-2 Inv-walk μ-walk
 returns-2 c =
@@ -113,7 +113,7 @@ returns-2 c =
 returns-3 : tie.Need-returns-3 Inv-walk μ-walk
 returns-3 c =
     let e = held (c .before .before .before .before .before .before .before .before .before .before) ∙ ended (c .before .before .before .before .before .before .before .walk .inv) (c .before .before .before .before .before .before .if1 .left) (c .before .before .before .before .before .table .ensures) (c .before .before .before .before .step .ensures) (c .before .before .q .given .1) in
-    (said-got e _ _ (widened-is (getD (c .before .before .before .before .before .before .before .walk .levels) 0 (pos 0)) (sfits-of (c .t27 .given))) (c .before .before .before .before .before .before .before .walk .inv .many), levels-got e _)
+    (said-got e _ _ (widened tt (sfits-of {w = w16} {z = getD (c .before .before .before .before .before .before .before .walk .levels) 0 (pos 0)} (c .t27 .given)) .is) (c .before .before .before .before .before .before .before .walk .inv .many), levels-got e _)
 
 pub walk-spec : {M : Type 1} → statement M
 walk-spec =

@@ -8,10 +8,12 @@ use borrow.Author.Needs.{needs}
 use lib.Dec.{T, leb}
 use lib.IntN.{ℤ, pos, natAbs, _+ℤ_, _-ℤ_, _*ℤ_}
 use lib.Signed.{shrZ}
+use mir.Syntax.{w32}
 use Rattle.whole.specs.Expressions.{Exp, var, lit, add, sub, mul, at, value, same}
 use Rattle.reading.specs.Colour.{chroma}
 use Rattle.jpeg_color.specs.Parts.{bluePart}
-use Rattle.jpeg_color.proofs.Sums.{passes, Held, held-small, number, byte, difference, plus-fits, plus, less-fits, less, times-fits, times, floor}
+use Rattle.whole.specs.Held.{Held, held-small, number, plus-fits, plus, less-fits, less, times-fits, times}
+use Rattle.jpeg_color.proofs.Sums.{passes, byte, difference, floor}
 use Rattle.jpeg_color.proofs.blue_part.Statement.{statement}
 use Rattle.jpeg_color.proofs.blue_part.Tie as tie
 
@@ -27,7 +29,7 @@ sum cb j k r o p q =
     rw (o, p, q) (sym (passes (value f E) (value f S)) ∙ ap (λ z. shrZ z 65536) (same f (add (mul (lit 65536) E) S) (add (mul (lit 116130) D) (lit 32768)) tt tt refl refl))
 
 -- what the code returns with any factors j and k and any number r that is added before the division
-part : {x : ℤ} {b : ℕ} (cb j k r : ℕ) → Held x (pos j *ℤ chroma cb +ℤ shrZ (pos r -ℤ pos k *ℤ chroma cb) 65536) b → j ≡ 2 → 116130 + k ≡ 131072 → r ≡ 32768
+part : {x : ℤ} {b : ℕ} (cb j k r : ℕ) → Held w32 x (pos j *ℤ chroma cb +ℤ shrZ (pos r -ℤ pos k *ℤ chroma cb) 65536) b → j ≡ 2 → 116130 + k ≡ 131072 → r ≡ 32768
     → T (leb b 1024) → (x ≡ bluePart cb) × (natAbs x ≤ 1024)
 part cb j k r h o p q t = (h .is ∙ sum cb j k r o (omega (arith, p)) q, held-small h t)
 

@@ -1,5 +1,6 @@
 -- `jpeg_color::divided` meets its contract: the difference of two small numbers fits, and the shift rounds it down. Assumes nothing.
-use Rattle.jpeg_color.proofs.Sums.{input, less, floor, small}
+use Rattle.whole.specs.Held.{input, less}
+use Rattle.jpeg_color.proofs.Sums.{floor, small}
 use Rattle.jpeg_color.proofs.divided.Statement.{statement}
 use Rattle.jpeg_color.proofs.divided.Tie as tie
 

@@ -8,10 +8,12 @@ use borrow.Author.Needs.{needs}
 use lib.Dec.{T, leb}
 use lib.IntN.{ℤ, pos, negℤ, natAbs, _+ℤ_, _-ℤ_, _*ℤ_, +ℤ-idl}
 use lib.Signed.{shrZ}
+use mir.Syntax.{w32}
 use Rattle.whole.specs.Expressions.{Exp, var, lit, add, sub, mul, at, value, same}
 use Rattle.reading.specs.Colour.{chroma}
 use Rattle.jpeg_color.specs.Parts.{greenPart}
-use Rattle.jpeg_color.proofs.Sums.{passes, Held, held-small, number, byte, difference, plus-fits, plus, less-fits, less, times-fits, times, called}
+use Rattle.whole.specs.Held.{Held, held-small, number, plus-fits, plus, less-fits, less, times-fits, times}
+use Rattle.jpeg_color.proofs.Sums.{passes, byte, difference, called}
 use Rattle.jpeg_color.proofs.green_part.Statement.{statement}
 use Rattle.jpeg_color.proofs.green_part.Tie as tie
 
@@ -34,7 +36,7 @@ sum cb cr j k r p q o =
     ∙ ap (λ z. z -ℤ pos 46802 *ℤ chroma cr +ℤ pos 32768) (+ℤ-idl (negℤ (pos 22554 *ℤ chroma cb)))))
 
 -- what the code returns with any factors j and k and any number r that is added before the division
-part : {x : ℤ} {b : ℕ} (cb cr j k r : ℕ) → Held x ((pos 0 -ℤ chroma cr) +ℤ shrZ ((pos k *ℤ chroma cr +ℤ pos r) -ℤ pos j *ℤ chroma cb) 65536) b
+part : {x : ℤ} {b : ℕ} (cb cr j k r : ℕ) → Held w32 x ((pos 0 -ℤ chroma cr) +ℤ shrZ ((pos k *ℤ chroma cr +ℤ pos r) -ℤ pos j *ℤ chroma cb) 65536) b
     → 46802 + k ≡ 65536 → r ≡ 32768 → j ≡ 22554 → T (leb b 1024) → (x ≡ greenPart cb cr) × (natAbs x ≤ 1024)
 part cb cr j k r h p q o t = (h .is ∙ sum cb cr j k r (omega (arith, p)) q o, held-small h t)
 

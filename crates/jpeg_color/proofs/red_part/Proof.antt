@@ -8,10 +8,12 @@ use borrow.Author.Needs.{needs}
 use lib.Dec.{T, leb}
 use lib.IntN.{ℤ, pos, natAbs, _+ℤ_, _*ℤ_}
 use lib.Signed.{shrZ}
+use mir.Syntax.{w32}
 use Rattle.whole.specs.Expressions.{Exp, var, lit, add, sub, mul, at, value, same}
 use Rattle.reading.specs.Colour.{chroma}
 use Rattle.jpeg_color.specs.Parts.{redPart}
-use Rattle.jpeg_color.proofs.Sums.{passes, Held, held-small, number, byte, difference, plus-fits, plus, less-fits, times-fits, times, floor}
+use Rattle.whole.specs.Held.{Held, held-small, number, plus-fits, plus, less-fits, times-fits, times}
+use Rattle.jpeg_color.proofs.Sums.{passes, byte, difference, floor}
 use Rattle.jpeg_color.proofs.red_part.Statement.{statement}
 use Rattle.jpeg_color.proofs.red_part.Tie as tie
 
@@ -26,7 +28,7 @@ sum cr k r p q =
     rw (p, q) (sym (passes (value f D) (value f S)) ∙ ap (λ z. shrZ z 65536) (same f (add (mul (lit 65536) D) S) (add (mul (lit 91881) D) (lit 32768)) tt tt refl refl))
 
 -- what the code returns with any factor k and any number r that is added before the division
-part : {x : ℤ} {b : ℕ} (cr k r : ℕ) → Held x (chroma cr +ℤ shrZ (pos k *ℤ chroma cr +ℤ pos r) 65536) b → 65536 + k ≡ 91881 → r ≡ 32768 → T (leb b 1024)
+part : {x : ℤ} {b : ℕ} (cr k r : ℕ) → Held w32 x (chroma cr +ℤ shrZ (pos k *ℤ chroma cr +ℤ pos r) 65536) b → 65536 + k ≡ 91881 → r ≡ 32768 → T (leb b 1024)
     → (x ≡ redPart cr) × (natAbs x ≤ 1024)
 part cr k r h p q t = (h .is ∙ sum cr k r (omega (arith, p)) q, held-small h t)
 
