@@ -73,7 +73,7 @@ module _ {s : List ℕ} {n : Plan} {write : Bool} {old : List ℕ} {q₀ : ScanC
       module _ (g : a .halt ≡ No) {b : CursorRead} {new′ : List ℕ} (v : Went s n (a .cursor) write new b new′) where
         module _ (p : scan.Plan) (st : Stands (take (n .start) s) n p) where
           done-same : a .cursor .done ≡ q .done
-          done-same = ap (λ (x : CursorRead). x .cursor .done) e ∙ restart-done st s m (n .blocks) q at-mcu i
+          done-same = restart-done s (n .interval) m q e
 
           behind : {h : Halt} → b .halt ≡ h → Behind s p n (a .cursor) write new h (b .cursor) new′
           behind k = subst (λ (h : Halt). Behind s p n (a .cursor) write new h (b .cursor) new′) k (v .each p m st (done-same ∙ at-mcu))

@@ -15,7 +15,7 @@ use Rattle.reading.specs.declared.BlockRead.{BlockRead}
 use Rattle.reading.specs.declared.BlockRead.the-variants.{Got, Stop}
 use Rattle.reading.specs.declared.Fault.{Fault}
 use Rattle.reading.specs.declared.ScanCursor.{ScanCursor}
-use Rattle.reading.specs.Reader.{Read, fault}
+use Rattle.reading.specs.Reader.{fault}
 use Rattle.reading.specs.Block.{places}
 use Rattle.reading.specs.Answers.{said, levelsOf}
 use Rattle.reading.specs.Transform.{samplesTo}
@@ -36,38 +36,79 @@ abbrev pub paintedAt : Plan → List ℕ → ℕ → ScanCursor → Bool → Lis
 paintedAt n s c q write l k old =
     cond write (placed (64 * q .done) (samplesTo (take 64 (drop (getD (n .quants) c 0) (head n s))) l k) old) old
 
--- the blocks from block j of an MCU on: the restart before its first block is done
-abbrev entered : List ℕ → scan.Plan → ℕ → ℕ → ScanCursor → Read Bits (List (List ℤ))
-entered s p N j q = cond (ltb 0 j) (ahead s p N q) (resumed s p N q)
+-- ---- the place in an MCU
+
+-- the cursor q stands before block j of the MCU that begins at `from`
+pub record Along (n : Plan) (from q : ScanCursor) (j : ℕ) : Type 0 where
+  pub place : q .done ≡ from .done + j
+  pub few : j ≤ n .per
+  pub left : j ≤ n .blocks - from .done
+
+pub along-none : (n : Plan) (q : ScanCursor) → Along n q q 0
+along-none n q = record { place = omega arith; few = omega arith; left = omega arith }
+
+pub below : (lumas j : ℕ) {c : ℕ} → c ≡ chan lumas j → c < 3
+below lumas j {c} u = subst⁻¹ (λ (k : ℕ). k < 3) u (chan-below lumas j)
+
+module _ {n : Plan} {from q : ScanCursor} {j : ℕ} (a : Along n from q j) where
+  pub along-at : (m : ℕ) → from .done ≡ m * n .per → q .done ≡ m * n .per + j
+  along-at m e = a .place ∙ ap (λ (k : ℕ). k + j) e
+
+  pub along-more : j < n .per → q .done < n .blocks → (c : ℕ) (z : ℤ) (b : Bits) → Along n from (past q c z b) (j + 1)
+  along-more h i c z b = record { place = omega (arith, a .place); few = omega arith; left = omega (arith, a .left, a .place) }
+
+  -- behind the last block of the MCU, or of the scan
+  pub along-whole : n .per ≤ j → j ≡ min (n .per) (n .blocks - from .done)
+  along-whole h = omega (arith, a .few, a .left)
+
+  pub along-out : n .blocks ≤ q .done → j ≡ min (n .per) (n .blocks - from .done)
+  along-out h = omega (arith, a .few, a .left, a .place)
+
+-- what is to come from block j of an MCU on: x, and before its first block y, where the restart is done
+abbrev pub entered : {A : Type 0} → ℕ → A → A → A
+entered j x y = cond (ltb 0 j) x y
+
+module _ {A : Type 0} (j : ℕ) (x y : A) where
+  pub entered-later : 0 < j → entered j x y ≡ x
+  entered-later h = rw (lt-ltb 0 j h) refl
+
+  pub entered-out : y ≡ x → entered j x y ≡ x
+  entered-out e = go (ltb 0 j)
+    where
+      go : (t : Bool) → cond t x y ≡ x
+      go true = refl
+      go false = e
+
+  pub entered-here : (0 < j → x ≡ y) → entered j x y ≡ y
+  entered-here f = go (ltb 0 j) refl
+    where
+      go : (t : Bool) → ltb 0 j ≡ t → cond t x y ≡ y
+      go true l = f (ltb-true 0 j l)
+      go false l = refl
+
+-- ---- the blocks and their samples
 
 -- what was read of the MCU before its block j, for a plan of the rules
 pub record On (s : List ℕ) (p : scan.Plan) (n : Plan) (write : Bool) (old : List ℕ) (from : ScanCursor) (new : List ℕ) (q : ScanCursor) (j : ℕ) : Type 0 where
   pub levels : List (List ℤ)
   pub count : length levels ≡ j
-  pub same : resumed s p (n .blocks) from ≡ before levels (entered s p (n .blocks) j q)
+  pub same : resumed s p (n .blocks) from ≡ before levels (entered j (ahead s p (n .blocks) q) (resumed s p (n .blocks) q))
   pub here : new ≡ inked write p (from .done) levels old
 
 -- before block j: `from` is the cursor and `old` the scratch at the start of the MCU, q and `new` are those now
 pub record Walk (s : List ℕ) (n : Plan) (write : Bool) (old : List ℕ) (from : ScanCursor) (new : List ℕ) (q : ScanCursor) (j : ℕ) : Type 0 where
   pub size : length new ≡ length old
-  pub place : q .done ≡ from .done + j
-  pub few : j ≤ n .per
-  pub left : j ≤ n .blocks - from .done
+  pub along : Along n from q j
   pub on : (p : scan.Plan) (m : ℕ) → Stands (head n s) n p → from .done ≡ m * n .per → On s p n write old from new q j
 
 pub begin : (s : List ℕ) (n : Plan) (write : Bool) (old : List ℕ) (q : ScanCursor) → Walk s n write old q old q 0
 begin s n write old q =
     record {
       size = refl;
-      place = omega arith;
-      few = omega arith;
-      left = omega arith;
+      along = along-none n q;
       on = λ p m st e.
           record { levels = []; count = refl; same = sym (before-none (resumed s p (n .blocks) q)); here = sym (inked-none write p (q .done) old) };
     }
-
-pub below : (lumas j : ℕ) {c : ℕ} → c ≡ chan lumas j → c < 3
-below lumas j {c} u = subst⁻¹ (λ (k : ℕ). k < 3) u (chan-below lumas j)
 
 module _ {s : List ℕ} {n : Plan} {write : Bool} {old : List ℕ} {from : ScanCursor} {new : List ℕ} {q : ScanCursor} {j : ℕ} (w : Walk s n write old from new q j) where
   module _ (p : scan.Plan) (m : ℕ) (st : Stands (head n s) n p) (e : from .done ≡ m * n .per) where
@@ -75,40 +116,32 @@ module _ {s : List ℕ} {n : Plan} {write : Bool} {old : List ℕ} {from : ScanC
     o = w .on p m st e
 
     at : q .done ≡ m * n .per + j
-    at = w .place ∙ ap (λ (k : ℕ). k + j) e
+    at = along-at (w .along) m e
 
     -- ---- the last block is read
 
-    finish : entered s p (n .blocks) j q ≡ ahead s p (n .blocks) q → length (o .levels) ≡ min (n .per) (n .blocks - from .done) → Passed s p n from q write old new
+    finish : entered j (ahead s p (n .blocks) q) (resumed s p (n .blocks) q) ≡ ahead s p (n .blocks) q → j ≡ min (n .per) (n .blocks - from .done) → Passed s p n from q write old new
     finish a c =
         record {
           levels = o .levels;
-          count = c;
-          place = w .place ∙ ap (λ (k : ℕ). from .done + k) (sym (o .count));
+          count = o .count ∙ c;
+          place = w .along .place ∙ ap (λ (k : ℕ). from .done + k) (sym (o .count));
           same = o .same ∙ ap (before (o .levels)) a;
           here = o .here;
         }
 
     -- of the MCU
     pub whole : n .per ≤ j → Passed s p n from q write old new
-    whole h = finish (rw (lt-ltb 0 j (omega (arith, st .some))) refl) (omega (arith, o .count, w .few, w .left))
+    whole h = finish (entered-later j _ _ (omega (arith, st .some))) (along-whole (w .along) h)
 
     -- of the scan
     pub out : n .blocks ≤ q .done → Passed s p n from q write old new
-    out h = finish (none (ltb 0 j)) (omega (arith, o .count, w .few, w .left, w .place))
-      where
-        none : (t : Bool) → cond t (ahead s p (n .blocks) q) (resumed s p (n .blocks) q) ≡ ahead s p (n .blocks) q
-        none true = refl
-        none false = resumed-none s p (n .blocks) q h ∙ sym (ahead-none s p (n .blocks) q h)
+    out h = finish (entered-out j _ _ (resumed-none s p (n .blocks) q h ∙ sym (ahead-none s p (n .blocks) q h))) (along-out (w .along) h)
 
     -- ---- block j is read
 
-    behind : j < n .per → entered s p (n .blocks) j q ≡ resumed s p (n .blocks) q
-    behind h = go (ltb 0 j) refl
-      where
-        go : (t : Bool) → ltb 0 j ≡ t → cond t (ahead s p (n .blocks) q) (resumed s p (n .blocks) q) ≡ resumed s p (n .blocks) q
-        go true l = inside st s m j (n .blocks) q at (ltb-true 0 j l) h
-        go false l = refl
+    behind : j < n .per → entered j (ahead s p (n .blocks) q) (resumed s p (n .blocks) q) ≡ resumed s p (n .blocks) q
+    behind h = entered-here j _ _ (λ (l : 0 < j). inside st s m j (n .blocks) q at l h)
 
     module _ (h : j < n .per) (i : q .done < n .blocks) {c : ℕ} (u : c ≡ chan (n .lumas) j) {x : BlockRead} (v : x ≡ said (blockAt (head n s) n s c q)) where
       few-c : c < 3
@@ -126,17 +159,17 @@ module _ {s : List ℕ} {n : Plan} {write : Bool} {old : List ℕ} {from : ScanC
           let next : resumed s p (n .blocks) q ≡ before (l ∷ []) (ahead s p (n .blocks) (past q c z b)) =
           block-next st s m j (n .blocks) q at h i c u few-c v g ∙ ap (λ (r : List ℤ). before (r ∷ []) (ahead s p (n .blocks) (past q c z b))) (sym y) in
           let reach : k ≡ places l = block-reach st s m j (n .blocks) q at h i c u few-c v g ∙ ap places (sym y) in
-          let place : q .done ≡ from .done + length (o .levels) = w .place ∙ ap (λ (a : ℕ). from .done + a) (sym (o .count)) in
+          let place : q .done ≡ from .done + length (o .levels) = w .along .place ∙ ap (λ (a : ℕ). from .done + a) (sym (o .count)) in
           record {
             levels = o .levels ++ (l ∷ []);
             count = length-append (o .levels) (l ∷ []) ∙ ap (λ (a : ℕ). a + 1) (o .count);
             same =
                 o .same ∙ ap (before (o .levels)) (behind h ∙ next) ∙ before-before (o .levels) (l ∷ []) (ahead s p (n .blocks) (past q c z b))
-                ∙ ap (before (o .levels ++ (l ∷ []))) (rw (lt-ltb 0 (j + 1) (omega arith)) refl);
+                ∙ ap (before (o .levels ++ (l ∷ []))) (sym (entered-later (j + 1) _ _ (omega arith)));
             here =
                 d ∙ inked-one write p (q .done) c (take 64 (drop (getD (n .quants) c 0) (head n s))) l k new (channel-here st s m j (q .done) at h ∙ sym u) (st .quant-is c few-c) reach
                 ∙ ap₂ (λ (a : ℕ) (x : List ℕ). inked write p a (l ∷ []) x) place (o .here)
-                ∙ inked-more write p (from .done) (o .levels) (l ∷ []) old (λ (t : write ≡ true). omega (arith, room t, w .place));
+                ∙ inked-more write p (from .done) (o .levels) (l ∷ []) old (λ (t : write ≡ true). omega (arith, room t, w .along .place));
           }
 
   pub further : j < n .per → q .done < n .blocks → {c : ℕ} → c ≡ chan (n .lumas) j → {x : BlockRead} → x ≡ said (blockAt (head n s) n s c q)
@@ -145,8 +178,6 @@ module _ {s : List ℕ} {n : Plan} {write : Bool} {old : List ℕ} {from : ScanC
   further h i {c} u v {k = k} g {l} y d room =
       record {
         size = ap length d ∙ painted-length write (q .done) (take 64 (drop (getD (n .quants) c 0) (head n s))) l k new (λ (t : write ≡ true). omega (arith, room t, w .size)) ∙ w .size;
-        place = omega (arith, w .place);
-        few = omega arith;
-        left = omega (arith, w .left, w .place);
+        along = along-more (w .along) h i c _ _;
         on = λ p m st e. more p m st e h i u v g y d room;
       }

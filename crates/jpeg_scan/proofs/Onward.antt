@@ -84,6 +84,16 @@ went x f = wentBy (x .halt) (x .cursor) f
 pub went-by : {x y : CursorRead} → y ≡ x → {h : Halt} → x .halt ≡ h → (f : ScanCursor → Read Bits (List (List ℤ))) → went y f ≡ wentBy h (x .cursor) f
 went-by {x} {y} e {h} g f = ap (λ (z : CursorRead). went z f) e ∙ ap (λ (k : Halt). wentBy k (x .cursor) f) g
 
+-- a restart counts no block
+pub restart-done : (s : List ℕ) (interval m : ℕ) (q : ScanCursor) {x : CursorRead} → x ≡ restarted s interval m q → x .cursor .done ≡ q .done
+unfolding restarted
+restart-done s interval m q e = ap (λ (x : CursorRead). x .cursor .done) e ∙ go (dueBefore interval m) (marked s (q .bits) (restartBefore interval m))
+  where
+    go : (t x : Bool) → (cond t (cond x (onTo (behindMarker q)) (record { halt = Yes Broken; cursor = q })) (onTo q)) .cursor .done ≡ q .done
+    go true true = refl
+    go true false = refl
+    go false x = refl
+
 -- ---- one block
 
 -- a block of channel c behind the prediction z; the tables stand in t
@@ -194,13 +204,3 @@ module _ {t : List ℕ} {n : Plan} {p : scan.Plan} (st : Stands t n p) (s : List
             ≡ went (cond t (cond (marked s (q .bits) code) (onTo (behindMarker q)) (record { halt = Yes Broken; cursor = q })) (onTo q)) (resumed s p N)
         go true = found (padded (q .bits) and isAt s (q .bits .at) 255 and isAt s (q .bits .at + 1) code)
         go false = refl
-
-    -- a restart counts no block
-    pub restart-done : restarted s (n .interval) m q .cursor .done ≡ q .done
-    unfolding restarted
-    restart-done = go (dueBefore (n .interval) m) (marked s (q .bits) (restartBefore (n .interval) m))
-      where
-        go : (t x : Bool) → (cond t (cond x (onTo (behindMarker q)) (record { halt = Yes Broken; cursor = q })) (onTo q)) .cursor .done ≡ q .done
-        go true true = refl
-        go true false = refl
-        go false x = refl

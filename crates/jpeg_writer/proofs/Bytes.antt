@@ -1,6 +1,6 @@
 -- Bits put into bytes: as many at once as a byte still wants, and what a byte then is.
 use Prim.Native.Nat.{ℕ, zero, suc, _+_, _*_, _-_, _/_, _%_, _^_, _<_, _≤_}
-use mathlib.Core.Path.{_≡_, refl, sym, ap, _∙_}
+use mathlib.Core.Path.{_≡_, refl, sym, ap, ap₂, _∙_}
 use mathlib.Core.Bool.{Bool, true, false}
 use mathlib.Core.List.{List, [], _∷_, _++_}
 use native.Mathlib.Omega.{arith}
@@ -11,9 +11,9 @@ use lib.ListN.{length, set}
 use lib.Seq.{set-out}
 use borrow.Author.Tests.{eq-eqb, ne-eqb, lt-ltb, le-ltb}
 use Rattle.reading.specs.Huffman.{bitsOf}
-pub use Rattle.whole.specs.Powers.{one-more}
+use Rattle.whole.specs.Powers.{one-more}
 use Rattle.jpeg_writer.specs.declared.Pen.{Pen}
-use Rattle.jpeg_writer.specs.Page.{Spot, spot, byteAt, stuffedAt, Page, page, fresh, paged, spotOf, putNext, putFrom, putAll, Proper, Grown}
+use Rattle.jpeg_writer.specs.Page.{Spot, spot, byteAt, stuffedAt, Page, page, paged, spotOf, putNext, putFrom, putAll, Proper, Grown}
 
 -- ---- a byte
 
@@ -62,18 +62,12 @@ all-none q = refl
 -- fewer bits than are missing
 from-part : (n x : ℕ) (s : Spot) (v m : ℕ) → n < m → putFrom (bitsOf n x) s v m ≡ paged s (v * 2 ^ n + x % 2 ^ n) (m - n)
 unfolding putFrom
-from-part zero x s v m h = both (omega arith) (omega arith)
-  where
-    both : {a b c d : ℕ} → a ≡ b → c ≡ d → paged s a c ≡ paged s b d
-    both p q = rw (p, q)
+from-part zero x s v m h = ap₂ (paged s) (omega arith) (omega arith)
 from-part (suc n) x s v m h =
-    rw (ne-eqb m 1 (λ e. apart e)) (from-part n x s (2 * v + x / 2 ^ n % 2) (m - 1) (omega arith) ∙ both (one-more n v x) (omega arith))
+    rw (ne-eqb m 1 (λ e. apart e)) (from-part n x s (2 * v + x / 2 ^ n % 2) (m - 1) (omega arith) ∙ ap₂ (paged s) (one-more n v x) (omega arith))
   where
     apart : m ≡ 1 → ⊥
     apart e = omega arith
-
-    both : {a b c d : ℕ} → a ≡ b → c ≡ d → paged s a c ≡ paged s b d
-    both p q = rw (p, q)
 
 -- as many bits as are missing
 from-full : (m k x : ℕ) (s : Spot) (v : ℕ) → putFrom (bitsOf (suc (k + m)) x) s v (suc m) ≡ putFrom (bitsOf k x) (stuffedAt s (v * 2 ^ suc m + x / 2 ^ k % 2 ^ suc m)) 0 8
@@ -148,6 +142,3 @@ module _ {t : Page} (k x : ℕ) (s : Spot) (v m : ℕ) (same : t ≡ putFrom (bi
 pub put-grown : (out : List ℕ) (p : Pen) (bs : List ℕ) (q′ : Page) → q′ ≡ putFrom bs (spot out (p .at)) (p .value) (p .missing) → Proper (q′ .pen) → Grown (page out p) bs q′
 unfolding putAll
 put-grown out p bs q′ e h = record { same = e; proper = h }
-
-pub fresh-proper : (at : ℕ) → Proper (fresh at)
-fresh-proper at = record { some = omega arith; few = omega arith; low = omega arith }

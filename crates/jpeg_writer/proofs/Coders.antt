@@ -13,11 +13,8 @@ use lib.ListN.{length, take, drop, length-take}
 use lib.Pow.{pow-pos, pow-mono}
 use borrow.Author.Tests.{le-leb, ltb-false}
 use Rattle.whole.specs.Lists.{getD-from}
-use Rattle.reading.specs.declared.Record.{Record}
 use Rattle.reading.specs.Huffman.{bitsOf, sum, tableAt, codeAt, codeAtPlace, codeOf}
-use Rattle.reading.specs.Scan.{channelAt}
-use Rattle.reading.specs.Settled.{Written, Coder, _then_, size, valueBits, skips, levelBits, restBits, blockBy, blockBits}
-use Rattle.reading.specs.Tables.{dcAt, acAt}
+use Rattle.reading.specs.Settled.{Written, Coder, _then_, size, valueBits, skips, levelBits, restBits, blockBy}
 use Rattle.reading.specs.Tests.{placeOf}
 use Rattle.reading.proofs.Written.{found}
 use Rattle.jpeg_writer.specs.Words.{wordOf, codeWords, wordBits, coderOf}
@@ -128,8 +125,3 @@ block-alike a b p (v ∷ l) =
 
 pub words-alike : (s : List ℕ) (base n : ℕ) → 256 ≤ n → Alike (coderOf (codeWords (tableAt s base) n)) (codeOf (tableAt s base))
 words-alike s base n h = record { each = λ x l. coder-words s base n x (omega arith) }
-
--- by the words of its channel's tables a block is written as the settled scan has it
-pub block-words : (s : List ℕ) (r : Record) (c n : ℕ) → 256 ≤ n → (p : ℤ) (l : List ℤ)
-    → blockBy (coderOf (codeWords (tableAt s (dcAt r c)) n)) (coderOf (codeWords (tableAt s (acAt r c)) n)) p l ≡ blockBits (channelAt s r c) p l
-block-words s r c n h p l = block-alike (words-alike s (dcAt r c) n h) (words-alike s (acAt r c) n h) p l

@@ -28,7 +28,7 @@ use Rattle.jpeg_scan.specs.declared.Halt.the-variants.{No, Yes}
 use Rattle.jpeg_scan.specs.declared.CursorRead.{CursorRead}
 use Rattle.jpeg_scan.specs.Plans.{chan, Stands}
 use Rattle.jpeg_scan.specs.Steps.{marked, onTo, behindMarker, restarted, ahead, resumed, before}
-use Rattle.jpeg_scan.proofs.Onward.{ahead-none, resumed-none, wentBy, went-by, blockAt, past, resumed-block, channel-here, not-due, inside, block-stop, block-next, due-is, code-is, restart-next}
+use Rattle.jpeg_scan.proofs.Onward.{ahead-none, resumed-none, wentBy, went-by, blockAt, past, resumed-block, channel-here, not-due, inside, block-stop, block-next, due-is, code-is, restart-next, restart-done}
 use Rattle.jpeg_writer.specs.declared.Outcome.{Outcome}
 use Rattle.jpeg_writer.specs.Page.{Spot}
 use Rattle.jpeg_writer.specs.Pass.{finalBy, Moves, lastPart, settling, writtenOn, coming, resuming}
@@ -86,17 +86,6 @@ module _ (s : List ℕ) (p : scan.Plan) (N : ℕ) (q : ScanCursor) (ink : Outcom
   resuming-none =
       ap (settling (λ ls. finalBy ink out (writtenOn p (q .done) (q .predictors) ls))) (resumed-none s p N q h)
       ∙ sym (ap (settling (λ ls. finalBy ink out (written p (q .done) (q .predictors) ls))) (ahead-none s p N q h))
-
--- ---- a restart counts no block
-
-pub done-same : (s : List ℕ) (interval m : ℕ) (q : ScanCursor) {a : CursorRead} → a ≡ restarted s interval m q → a .cursor .done ≡ q .done
-unfolding restarted
-done-same s interval m q e = ap (λ (x : CursorRead). x .cursor .done) e ∙ go (dueBefore interval m) (marked s (q .bits) (restartBefore interval m))
-  where
-    go : (t x : Bool) → (cond t (cond x (onTo (behindMarker q)) (record { halt = Yes Broken; cursor = q })) (onTo q)) .cursor .done ≡ q .done
-    go true true = refl
-    go true false = refl
-    go false x = refl
 
 module _ {t : List ℕ} {n : Plan} {p : scan.Plan} (st : Stands t n p) (s : List ℕ) where
   -- ---- inside an MCU
@@ -168,12 +157,12 @@ module _ {t : List ℕ} {n : Plan} {p : scan.Plan} (st : Stands t n p) (s : List
         restart-on l ls =
             ap₂ (λ (d : Bool) (k : ℕ). finalBy ink out (cut d k (writtenOn p (q .done) (predictors d (q .predictors)) (l ∷ ls)))) (due-is st s m N q e i) (code-is st s m N q e i)
             ∙ o .same (writtenOn p (q .done) (predictors (dueBefore (n .interval) m) (q .predictors)) (l ∷ ls))
-            ∙ sym (ap₂ (λ (k : ℕ) (ps : List ℤ). finalBy r new (writtenOn p k ps (l ∷ ls))) (done-same s (n .interval) m q u) predicted)
+            ∙ sym (ap₂ (λ (k : ℕ) (ps : List ℤ). finalBy r new (writtenOn p k ps (l ∷ ls))) (restart-done s (n .interval) m q u) predicted)
 
         pub coming-restart : coming s p N q ink out ≡ resuming s p N (a .cursor) r new
         unfolding coming resuming
         coming-restart =
-            let less : a .cursor .done < N = omega (arith, done-same s (n .interval) m q u) in
+            let less : a .cursor .done < N = omega (arith, restart-done s (n .interval) m q u) in
             let c : ℕ = channelOf (p .shape) (a .cursor .done) in
             let blocks = resumed-block s p N (a .cursor) less c refl in
             ap (settling (λ ls. finalBy ink out (written p (q .done) (q .predictors) ls))) (went-on g ∙ blocks)

@@ -5,14 +5,9 @@ use mathlib.Core.List.{_∷_, _++_}
 use native.Mathlib.Omega.{arith}
 use native.Mathlib.Nat.{add-comm, mod-lt}
 use lib.Pow.{pow-pos, high, low, shr-shr, field, mod-mod-pow}
-use lib.ListN.{length}
+use Rattle.whole.specs.Powers.{one-more}
 use Rattle.reading.specs.Huffman.{bitsOf}
 use Rattle.jpeg_writer.specs.Words.{numberFrom}
-use Rattle.jpeg_writer.proofs.Bytes.{one-more}
-
-pub length-bits : (n x : ℕ) → length (bitsOf n x) ≡ n
-length-bits zero x = refl
-length-bits (suc n) x = ap suc (length-bits n x)
 
 -- a bit of the low k bits
 bit-mod : (i k x : ℕ) → i < k → x % 2 ^ k / 2 ^ i % 2 ≡ x / 2 ^ i % 2

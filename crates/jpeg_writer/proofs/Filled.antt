@@ -17,8 +17,9 @@ use Rattle.whole.specs.Lists.{stored, is-list-of}
 use Rattle.reading.specs.Huffman.{Table, bitsOf, sum, tableAt, codeAt, codeAtPlace, codeOf}
 use Rattle.reading.specs.Settled.{Written}
 use Rattle.reading.specs.Tests.{placeOf, placeFrom}
+use Rattle.reading.proofs.Unstuffed.{length-bitsOf}
 use Rattle.jpeg_writer.specs.Words.{wordOf, codeWords, kept}
-use Rattle.jpeg_writer.proofs.Digits.{length-bits, number-bits}
+use Rattle.jpeg_writer.proofs.Digits.{number-bits}
 
 -- ---- no symbol has a word yet
 
@@ -139,7 +140,7 @@ code-word len g = 65536 * len + g % 2 ^ len
 
 pub word-bits : (len g : ℕ) → wordOf (some (bitsOf len g)) ≡ code-word len g
 unfolding wordOf code-word
-word-bits len g = ap₂ (λ n v. 65536 * n + v) (length-bits len g) (number-bits len g 0 ∙ none)
+word-bits len g = ap₂ (λ n v. 65536 * n + v) (length-bitsOf len g) (number-bits len g 0 ∙ none)
   where
     none : 0 * 2 ^ len + g % 2 ^ len ≡ g % 2 ^ len
     none = omega arith

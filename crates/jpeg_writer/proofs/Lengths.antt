@@ -20,11 +20,11 @@ use Rattle.reading.specs.Layout.{channelOf, restartDue, restartCode}
 use Rattle.reading.specs.Scan.{Plan, planOf, noPredictors, levels}
 use Rattle.reading.specs.Settled.{Written, Coder, _then_, size, fieldOf, valueBits, firstBits, skips, levelBits, restBits, blockBy, blockBits, stuffed, padding, packNext, packFrom, Coded, bytesOf, onto, cut, predictors, written, scanBytes, settledScan}
 use Rattle.reading.specs.Tables.{dcAt, acAt}
+use Rattle.reading.proofs.Unstuffed.{length-bitsOf}
 use Rattle.reading.proofs.Counted.{Whole, blocks-counted, blocks-whole}
 use Rattle.jpeg_writer.specs.Steps.{categoryOf}
 use Rattle.jpeg_writer.specs.Page.{spot, bytesAt}
 use Rattle.jpeg_writer.proofs.Coders.{Code, is-code, code-of-table}
-use Rattle.jpeg_writer.proofs.Digits.{length-bits}
 use Rattle.jpeg_writer.proofs.Forwards.{bytes-laid}
 use Rattle.jpeg_writer.proofs.Turns.{category-few}
 
@@ -46,11 +46,11 @@ up-wide m n (some w) l h = le-trans h l
 
 up-code : (w : Written) → Code w → UpTo 16 w
 up-code none c = tt
-up-code (some w) (is-code n v a b) = omega (arith, length-bits n v)
+up-code (some w) (is-code n v a b) = omega (arith, length-bitsOf n v)
 
 up-value : (v : ℤ) → UpTo 12 (some (valueBits v))
 unfolding categoryOf
-up-value v = omega (arith, length-bits (size v) (fieldOf (size v) v), category-few (natAbs v))
+up-value v = omega (arith, length-bitsOf (size v) (fieldOf (size v) v), category-few (natAbs v))
 
 -- a coder whose codes have at most 16 bits
 pub record Short (c : Coder) : Type 0 where
@@ -82,10 +82,6 @@ up-block {dc} {ac} s t p (v ∷ l) =
     (up-then (16 + 12) (28 * length l + 0 + 16) (firstBits dc (v -ℤ p)) (restBits ac l 0)
     (up-then 16 12 (dc (size (v -ℤ p))) (some (valueBits (v -ℤ p))) (up-code (dc (size (v -ℤ p))) (s .each (size (v -ℤ p)))) (up-value (v -ℤ p)))
     (up-rest t l 0))
-
--- a block of 64 levels
-pub block-length : {dc ac : Coder} → Short dc → Short ac → (p : ℤ) (l : List ℤ) → length l ≡ 64 → (w : List ℕ) → blockBy dc ac p l ≡ some w → length w ≤ 1808
-block-length {dc} {ac} s t p l h w e = le-trans (subst (UpTo (28 * length l + 16)) e (up-block s t p l)) (omega arith)
 
 -- ---- bytes
 

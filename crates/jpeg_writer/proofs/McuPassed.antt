@@ -1,57 +1,41 @@
 -- The blocks of one MCU. Before its block j what is still to come is what was to come at the start. One block more keeps this
 -- (`further`), a fault is the scan's fault (`broken`), and behind the last block it is what the contract says (`whole`, `out`).
-use Prim.Native.Nat.{ℕ, _+_, _*_, _-_, _<_, _≤_}
-use mathlib.Core.Path.{_≡_, refl, _∙_, ap}
-use mathlib.Core.Bool.{Bool, true, false, cond}
+use Prim.Native.Nat.{ℕ, _+_, _*_, _<_, _≤_}
+use mathlib.Core.Path.{_≡_, refl, sym, _∙_, ap}
 use mathlib.Core.List.{List}
-use mathlib.Core.Option.{Option}
 use native.Mathlib.Omega.{arith}
-use lib.Dec.{ltb}
 use lib.IntN.{ℤ, pos}
-use lib.ListN.{length, getD, take}
-use borrow.Author.Tests.{lt-ltb, ltb-true}
+use lib.ListN.{length, getD}
 use Rattle.reading.specs.declared.Bits.{Bits}
 use Rattle.reading.specs.declared.BlockRead.{BlockRead}
 use Rattle.reading.specs.declared.BlockRead.the-variants.{Got, Stop}
 use Rattle.reading.specs.declared.Fault.{Fault}
 use Rattle.reading.specs.declared.ScanCursor.{ScanCursor}
 use Rattle.reading.specs.Answers.{said, levelsOf}
-use Rattle.reading.specs.Reader.{Read, fault}
 use Rattle.reading.specs.Scan as scan
 use Rattle.reading.specs.Settled.{Written, onto, blockBy}
 use Rattle.jpeg_scan.specs.declared.Plan.{Plan}
 use Rattle.jpeg_scan.specs.declared.Halt.the-variants.{No, Yes}
 use Rattle.jpeg_scan.specs.Plans.{chan, Stands}
 use Rattle.jpeg_scan.proofs.Onward.{blockAt, past}
-use Rattle.jpeg_scan.proofs.OneMcu.{below}
+use Rattle.jpeg_scan.proofs.OneMcu.{head, below, Along, along-none, along-at, along-more, along-whole, along-out, entered, entered-later, entered-out, entered-here}
 use Rattle.jpeg_writer.specs.declared.Outcome.{Outcome}
-use Rattle.jpeg_writer.specs.Page.{Spot}
 use Rattle.jpeg_writer.specs.Words.{coderOf}
 use Rattle.jpeg_writer.specs.Sheets.{wordsIn, basesOf, Sheet}
 use Rattle.jpeg_writer.specs.Pass.{Fit, Moves, coming, resuming, Went}
 use Rattle.jpeg_writer.proofs.SheetFilled.{sheet-block}
 use Rattle.jpeg_writer.proofs.Comings.{resuming-none, coming-inside, resuming-stop, resuming-next}
 
--- the bytes that have the tables
-abbrev pub head : Plan → List ℕ → List ℕ
-head n s = take (n .start) s
-
--- what is to come from block j of an MCU on: the restart before its first block is done
-abbrev entered : List ℕ → scan.Plan → ℕ → ℕ → ScanCursor → Outcome → List ℕ → Read Bits (Option Spot)
-entered s p N j q ink out = cond (ltb 0 j) (coming s p N q ink out) (resuming s p N q ink out)
-
 -- before block j: `from`, `pen` and `old` are the cursor, the ink and the bytes at the start of the MCU, q, `ink` and `new` those now
 pub record Walk (s : List ℕ) (n : Plan) (from : ScanCursor) (pen : Outcome) (old new : List ℕ) (q : ScanCursor) (ink : Outcome) (j : ℕ) : Type 0 where
   pub size : length new ≡ length old
   pub fit : Fit ink
-  pub place : q .done ≡ from .done + j
-  pub few : j ≤ n .per
-  pub left : j ≤ n .blocks - from .done
-  pub on : (p : scan.Plan) (m : ℕ) → Stands (head n s) n p → from .done ≡ m * n .per → resuming s p (n .blocks) from pen old ≡ entered s p (n .blocks) j q ink new
+  pub along : Along n from q j
+  pub on : (p : scan.Plan) (m : ℕ) → Stands (head n s) n p → from .done ≡ m * n .per → resuming s p (n .blocks) from pen old ≡ entered j (coming s p (n .blocks) q ink new) (resuming s p (n .blocks) q ink new)
 
 pub begin : (s : List ℕ) (n : Plan) (q : ScanCursor) (pen : Outcome) (old : List ℕ) → Fit pen → Walk s n q pen old old q pen 0
 begin s n q pen old f =
-    record { size = refl; fit = f; place = omega arith; few = omega arith; left = omega arith; on = λ p m st e. refl }
+    record { size = refl; fit = f; along = along-none n q; on = λ p m st e. refl }
 
 -- the block of channel c as it is written by the words
 abbrev pub blockIn : List ℕ → ℕ → ℤ → List ℤ → Written
@@ -66,8 +50,8 @@ module _ {s : List ℕ} {n : Plan} {from : ScanCursor} {pen : Outcome} {old new 
       record {
         size = w .size;
         fit = w .fit;
-        place = λ t. omega (arith, w .place, w .few, w .left);
-        each = λ p m st e. w .on p m st e ∙ rw (lt-ltb 0 j (omega (arith, st .some))) refl;
+        place = λ t. w .along .place ∙ ap (λ (k : ℕ). from .done + k) (along-whole (w .along) h);
+        each = λ p m st e. w .on p m st e ∙ entered-later j _ _ (omega (arith, st .some));
       }
 
   -- of the scan
@@ -76,13 +60,9 @@ module _ {s : List ℕ} {n : Plan} {from : ScanCursor} {pen : Outcome} {old new 
       record {
         size = w .size;
         fit = w .fit;
-        place = λ t. omega (arith, w .place, w .few, w .left);
-        each = λ p m st e. w .on p m st e ∙ none p (ltb 0 j);
+        place = λ t. w .along .place ∙ ap (λ (k : ℕ). from .done + k) (along-out (w .along) h);
+        each = λ p m st e. w .on p m st e ∙ entered-out j _ _ (resuming-none s p (n .blocks) q ink new h);
       }
-    where
-      none : (p : scan.Plan) (t : Bool) → cond t (coming s p (n .blocks) q ink new) (resuming s p (n .blocks) q ink new) ≡ coming s p (n .blocks) q ink new
-      none p true = refl
-      none p false = resuming-none s p (n .blocks) q ink new h
 
   -- ---- block j
 
@@ -92,14 +72,10 @@ module _ {s : List ℕ} {n : Plan} {from : ScanCursor} {pen : Outcome} {old new 
 
     module _ (p : scan.Plan) (m : ℕ) (st : Stands (head n s) n p) (e : from .done ≡ m * n .per) where
       at : q .done ≡ m * n .per + j
-      at = w .place ∙ ap (λ (k : ℕ). k + j) e
+      at = along-at (w .along) m e
 
       onto-block : resuming s p (n .blocks) from pen old ≡ resuming s p (n .blocks) q ink new
-      onto-block = w .on p m st e ∙ go (ltb 0 j) refl
-        where
-          go : (t : Bool) → ltb 0 j ≡ t → cond t (coming s p (n .blocks) q ink new) (resuming s p (n .blocks) q ink new) ≡ resuming s p (n .blocks) q ink new
-          go true l = coming-inside st s m j (n .blocks) q ink new at (ltb-true 0 j l) h
-          go false l = refl
+      onto-block = w .on p m st e ∙ entered-here j _ _ (λ (l : 0 < j). coming-inside st s m j (n .blocks) q ink new at l h)
 
     pub broken : {f : Fault} → x ≡ Stop f → Went s n from pen old (record { halt = Yes f; cursor = q; ink = ink }) new
     broken {f} g =
@@ -117,11 +93,9 @@ module _ {s : List ℕ} {n : Plan} {from : ScanCursor} {pen : Outcome} {old new 
         record {
           size = long ∙ w .size;
           fit = a .fit;
-          place = omega (arith, w .place);
-          few = omega arith;
-          left = omega (arith, w .left, w .place);
+          along = along-more (w .along) h i c _ _;
           on = λ p m st e.
               onto-block p m st e
               ∙ resuming-next st s m j (n .blocks) q ink new (at p m st e) h i c u few-c v g y (sheet-block st sheet c few-c (getD (q .predictors) c (pos 0)) l) a
-              ∙ rw (lt-ltb 0 (j + 1) (omega arith)) refl;
+              ∙ sym (entered-later (j + 1) _ _ (omega arith));
         }

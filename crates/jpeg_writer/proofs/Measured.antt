@@ -3,7 +3,6 @@ use Prim.Native.Nat.{ℕ}
 use mathlib.Core.Path.{_≡_, refl, sym, ap, _∙_}
 use mathlib.Core.List.{List, [], _∷_}
 use mathlib.Core.Option.{Option, none, some}
-use native.Mathlib.Omega.{arith}
 use Rattle.reading.specs.Settled.{Coded, packFrom}
 use Rattle.jpeg_writer.specs.declared.Pen.{Pen}
 use Rattle.jpeg_writer.specs.Page.{Spot, spot, byteAt, bytesAt, following, packAt, page}
@@ -35,19 +34,3 @@ pub measured : (w : Option Coded) (d d′ : List ℕ) (p : Pen) → ending (fina
 unfolding finalAt
 measured none d d′ p = refl
 measured (some c) d d′ p = ap some (coded-place d p c ∙ sym (coded-place d′ p c))
-
--- so a pass that was measured ends where the measure says
-module _ (w : Option Coded) (d d′ : List ℕ) (p : Pen) where
-  pub measured-end : {t t′ : List ℕ} {m n : ℕ} → finalAt w (page d p) ≡ some (spot t m) → finalAt w (page d′ p) ≡ some (spot t′ n) → m ≡ n
-  measured-end {t} {t′} {m} {n} e f =
-      let same : some m ≡ some n = ap ending (sym e) ∙ measured w d d′ p ∙ ap ending f in
-      let is : m ≡ n = cc in
-      is
-
-  -- and lacks no code that it did not lack
-  pub measured-never : {X : Type 0} {t : List ℕ} {m : ℕ} → finalAt w (page d p) ≡ some (spot t m) → finalAt w (page d′ p) ≡ none → X
-  measured-never {X} {t} {m} e f =
-      let same : some m ≡ none = ap ending (sym e) ∙ measured w d d′ p ∙ ap ending f in
-      let z : _≡_ {A = ℕ} 0 1 = cc in
-      let y : ⊥ = omega arith in
-      absurd y

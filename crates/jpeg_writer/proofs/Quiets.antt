@@ -11,7 +11,6 @@ use Rattle.reading.specs.declared.Bits.{Bits}
 use Rattle.reading.specs.declared.BlockRead.{BlockRead}
 use Rattle.reading.specs.declared.BlockRead.the-variants as read
 use Rattle.reading.specs.Answers.{said, levelsOf}
-use Rattle.reading.specs.Block.{places}
 use Rattle.reading.specs.Reader.{Read}
 use Rattle.reading.proofs.BlockAnswers.{Taken, told}
 use Rattle.reading.proofs.Reach.{places-some, places-zero}

@@ -25,12 +25,13 @@ use Rattle.jpeg_scan.specs.declared.Halt.the-variants.{No, Yes}
 use Rattle.jpeg_scan.specs.declared.CursorRead.{CursorRead}
 use Rattle.jpeg_scan.specs.Plans.{Stands}
 use Rattle.jpeg_scan.specs.Steps.{restarted}
+use Rattle.jpeg_scan.proofs.Onward.{restart-done}
 use Rattle.jpeg_writer.specs.declared.Moved.{Moved}
 use Rattle.jpeg_writer.specs.declared.Outcome.{Outcome}
 use Rattle.jpeg_writer.specs.declared.Outcome.the-variants.{Done}
 use Rattle.jpeg_writer.specs.Page.{Spot, fresh}
 use Rattle.jpeg_writer.specs.Pass.{finalBy, Fit, Moves, lastPart, Closes, coming, resuming, Behind, Went, closing, Answers, Ran}
-use Rattle.jpeg_writer.proofs.Comings.{coming-none, coming-stop, coming-restart, done-same}
+use Rattle.jpeg_writer.proofs.Comings.{coming-none, coming-stop, coming-restart}
 
 -- the bytes that have the tables
 abbrev head : Plan → List ℕ → List ℕ
@@ -105,7 +106,7 @@ module _ {s : List ℕ} {n : Plan} {old new : List ℕ} {q : ScanCursor} {ink : 
       module _ (g : a .halt ≡ No) {r : Outcome} {mid : List ℕ} (o : Moves (cut (dueBefore (n .interval) m) (restartBefore (n .interval) m)) ink new r mid)
           {b : Moved} {new′ : List ℕ} (v : Went s n (a .cursor) r mid b new′) where
         same-done : a .cursor .done ≡ q .done
-        same-done = done-same s (n .interval) m q e
+        same-done = restart-done s (n .interval) m q e
 
         pub gained : b .halt ≡ No → b .cursor .done ≡ q .done + min (n .per) (n .blocks - q .done)
         gained k = omega (arith, v .place k, same-done)

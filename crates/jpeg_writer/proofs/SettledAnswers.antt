@@ -20,7 +20,6 @@ use Rattle.reading.specs.Bits.{ended}
 use Rattle.reading.specs.Reader.{Read, got, fault}
 use Rattle.reading.specs.Scan as scan
 use Rattle.reading.specs.Settled.{written, settledScan, settledRead, settledOf, scanSettled, laidOver}
-use Rattle.reading.specs.Tests.{over}
 use Rattle.jpeg_scan.specs.declared.Plan.{Plan}
 use Rattle.jpeg_scan.specs.Steps.{ahead}
 use Rattle.jpeg_scan.proofs.Standing.{Ready}

@@ -1,18 +1,17 @@
 -- Signed numbers as the code meets them: the distance from 0, the field of a value, a level that is zero.
-use Prim.Native.Nat.{ℕ, zero, suc, _-_, _^_, _<_, _≤_}
+use Prim.Native.Nat.{ℕ, zero, suc, _-_, _^_, _<_}
 use mathlib.Core.Path.{_≡_, refl, sym, ap, _∙_, subst, subst⁻¹}
 use mathlib.Core.Bool.{Bool, true, false}
 use native.Mathlib.Omega.{arith}
-use native.Mathlib.Nat.{le-trans, le-of-lt}
+use native.Mathlib.Nat.{le-of-lt}
 use lib.Dec.{T, ltb, lit≤}
 use lib.IntN.{ℤ, pos, negsuc, natAbs, _-ℤ_}
 use lib.ListN.{getD}
-use lib.Signed.{mag, ltZ, nonNeg, natAbs-le}
+use lib.Signed.{mag, ltZ, nonNeg}
 use mathlib.Core.List.{List}
-use mir.Syntax.{Width, w16, w32, w64}
+use mir.Syntax.{w16, w64}
 use mir.Val.{SFits, Fits, toZ, ofZ, hbits}
 use mir.Facts.{toZ-ofZ}
-use borrow.Author.Needs.{sfits-of}
 use borrow.Author.Tests.{ltb-true}
 use Rattle.whole.specs.Signs.{true≢false, zero-bits}
 use Rattle.whole.specs.Expressions.{fits-abs, abs-sub}

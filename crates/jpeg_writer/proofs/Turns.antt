@@ -14,10 +14,10 @@ use lib.Pow.{pow-mono}
 use lib.Count.{leadingZeros, leading-length}
 use lib.Seq.{drop-cons, drop-drop, getD-drop}
 use borrow.Author.Tests.{eq-eqb, ne-eqb, le-ltb, le-leb, lt-leb, ltb-true, ltb-false, leb-true, leb-false, eqb-true, eqb-false}
+use Rattle.whole.specs.Powers.{twice-pow}
 use Rattle.reading.specs.Huffman.{bitsOf}
 use Rattle.whole.specs.Signs.{true≢false}
 use Rattle.reading.specs.Settled.{Written, Coder, _then_, sizeFrom, size, fieldOf, valueBits, skips, levelBits, restBits, blockBy}
-use Rattle.reading.proofs.Plain.{twice-pow}
 use Rattle.jpeg_writer.specs.declared.Turn.{Turn}
 use Rattle.jpeg_writer.specs.Words.{coderOf, wordBits, wordCode}
 use Rattle.jpeg_writer.specs.Steps.{categoryOf, onwards, zerosOf, zerosAt, over, valueAt, plainTurn, valueTurn, turnAt, wordsAt, wordAt}

@@ -81,8 +81,5 @@ module _ {t r : Written} {q₀ q : Page} (h : Onto t r q₀ q) where
   pub onto-lacks : r ≡ none → t ≡ none
   onto-lacks e = h .told ∙ ap (λ (r : Written). some (h .done) then r) e
 
-pub onto-as : {t r r′ : Written} {q₀ q : Page} → Onto t r q₀ q → r ≡ r′ → Onto t r′ q₀ q
-onto-as {t} {r} {r′} {q₀} {q} h e = subst (λ (w : Written). Onto t w q₀ q) e h
-
 pub puts-as : {a b : Written} {q : Page} {r : Outcome} {out : List ℕ} → b ≡ a → Puts a q r out → Puts b q r out
 puts-as {a} {b} {q} {r} {out} e h = subst (λ (w : Written). Puts w q r out) (sym e) h

@@ -13,7 +13,7 @@ use Rattle.reading.specs.declared.Bits.{Bits}
 use Rattle.reading.specs.Reader.{got}
 use Rattle.reading.specs.Bits.{one}
 use Rattle.reading.specs.Huffman.{Table}
-use Rattle.reading.specs.Block.{block, zeros, predictable}
+use Rattle.reading.specs.Block.{block, predictable}
 use Rattle.reading.proofs.Plain.{and-left}
 use Rattle.reading.proofs.BlockWritten.{AllSmall}
 use Rattle.reading.proofs.ScanWritten.{FineBlock}
@@ -36,10 +36,6 @@ small-cons z l h k = record { each = go }
 
 small-nil : Small []
 small-nil = record { each = λ i. omega arith }
-
-small-zeros : (n : ℕ) → Small (zeros n)
-small-zeros zero = small-nil
-small-zeros (suc n) = small-cons (pos 0) (zeros n) (omega arith) (small-zeros n)
 
 small-all : (l : List ℤ) → AllSmall l → Small l
 small-all [] h = small-nil

@@ -3,7 +3,7 @@
 --     decode-refused    both buffers are as they came
 --     decode-lengths    both buffers keep their lengths
 --     decode-taken      the whole price was taken, or nothing
-use Prim.Native.Nat.{ℕ, _+_, _-_, _/_, _%_, _≤_}
+use Prim.Native.Nat.{ℕ, _+_, _/_, _%_, _≤_}
 use mathlib.Core.Path.{_≡_, refl, sym, ap, _∙_, subst, subst⁻¹}
 use mathlib.Core.Logic.{_⊎_, inl, inr}
 use mathlib.Core.Bool.{Bool, true, false, cond}

@@ -7,7 +7,7 @@ use lib.Dec.{T, leb, eqb, leb→le, eqb→eq}
 use lib.ListN.{length, getD}
 use native.Mathlib.Omega.{arith}
 use borrow.Author.Tests.{eq-eqb}
-use Rattle.reading.specs.Tests.{_and_, within, allFrom}
+use Rattle.reading.specs.Tests.{within, allFrom}
 use Rattle.reading.specs.Huffman.{sum, codesFit}
 use Rattle.reading.specs.Header.{byte, each, quantizerFits, countsOf, tableFits, scanKnown}
 use Rattle.reading.proofs.Plain.{and-left, and-right}

@@ -11,7 +11,7 @@ use lib.ListN.{length, getD, set, getElem?}
 use Rattle.reading.specs.declared.Bits.{Bits}
 use Rattle.reading.specs.declared.Fault.{Fault}
 use Rattle.reading.specs.declared.Fault.the-variants.{Bare, Broken}
-use Rattle.reading.specs.Reader.{Read, got, fault, Reader, onward, _>>=_, _>>_, give, fail, rule}
+use Rattle.reading.specs.Reader.{Read, got, fault, Reader, onward, _>>=_, give, fail, rule}
 use Rattle.reading.specs.Bits.{opened, afterFull, freshFrom, oneAt, one, file, mark, padded, fieldFrom, meaning, amplitude}
 use Rattle.reading.specs.Huffman.{Table, codeFrom, symbol}
 use Rattle.reading.proofs.FileBytes.{element-there}

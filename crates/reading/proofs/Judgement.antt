@@ -1,7 +1,7 @@
 -- What the tests of inspect say once they are passed, and what they take.
 --     inspect-accepted   an accepted file: its record is the header's and fits, it is within the limits, its scan was read, its price was paid
 --     inspect-most       no outcome takes more than 2n + 1 and 50 x the output limit, nor more than there is
-use Prim.Native.Nat.{ℕ, _+_, _*_, _-_, _^_, _≤_}
+use Prim.Native.Nat.{ℕ, _+_, _*_, _^_, _≤_}
 use mathlib.Core.Path.{_≡_, refl, ap, subst}
 use mathlib.Core.Bool.{Bool, false}
 use mathlib.Core.List.{List}

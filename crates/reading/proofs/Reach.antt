@@ -115,15 +115,6 @@ reached-put l (suc i) z h q n =
 
 -- ---- the places of a block say all of its levels
 
-last-length : (l : List ℤ) → last l ≤ length l
-last-length [] = omega arith
-last-length (z ∷ l) = go (isZero z) (last l) (last-length l)
-  where
-    go : (t : Bool) (n : ℕ) → n ≤ length l → oneMore t n ≤ suc (length l)
-    go true zero h = omega arith
-    go true (suc n) h = omega arith
-    go false n h = omega arith
-
 module _ (l : List ℤ) where
   within : last l ≤ places l
   unfolding places

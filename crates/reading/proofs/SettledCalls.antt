@@ -28,7 +28,7 @@ use Rattle.reading.specs.Reading.{accepted, reading}
 use Rattle.reading.specs.Settled.{settledFile, someLacksEnd}
 use Rattle.reading.specs.Calls.{headerPrice, Outcome, takes, gives, Judged, judge, tooLarge, judgedScan, judgedRecord, judgedHeader, judged, remaining, inspection, inspect, Rewritten, unsettled, settledInto, settledFrom, settle}
 use Rattle.reading.proofs.HeaderEnds.{or-left, or-right}
-use Rattle.reading.proofs.WantOfCode.{AllBytes}
+use Rattle.reading.proofs.FileBytes.{AllBytes}
 use Rattle.reading.proofs.Demand3.{Settles, taken-apart}
 use Rattle.reading.proofs.Theorems as Th
 use Rattle.reading.proofs.Theorems.{coefficientsOf}

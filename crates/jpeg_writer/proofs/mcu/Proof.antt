@@ -15,11 +15,11 @@ use Rattle.reading.specs.Reader.{Read}
 use Rattle.reading.specs.Answers.{said, levelsOf}
 use Rattle.reading.specs.Settled.{onto}
 use Rattle.jpeg_scan.proofs.Onward.{blockBy}
-use Rattle.jpeg_scan.proofs.OneMcu.{below}
+use Rattle.jpeg_scan.proofs.OneMcu.{head, below}
 use Rattle.jpeg_writer.specs.declared.Outcome.{Outcome}
 use Rattle.jpeg_writer.specs.Pass.{Moves}
 use Rattle.jpeg_writer.proofs.Quiets.{quiet-block}
-use Rattle.jpeg_writer.proofs.McuPassed.{head, Walk, begin, blockIn, whole, out, broken, further}
+use Rattle.jpeg_writer.proofs.McuPassed.{Walk, begin, blockIn, whole, out, broken, further}
 use Rattle.jpeg_writer.proofs.mcu.Statement.{statement}
 use Rattle.jpeg_writer.proofs.mcu.Tie as tie
 

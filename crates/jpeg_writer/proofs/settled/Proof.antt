@@ -11,7 +11,6 @@ use Rattle.jpeg_scan.proofs.Standing.{Ready, ready, unready}
 use Rattle.jpeg_writer.proofs.SheetFilled.{sheet-as}
 use Rattle.jpeg_writer.proofs.SettledAnswers.{passed-settled, says-stop, settled-many, settled-unread}
 use Rattle.jpeg_writer.proofs.SureScans.{sure-fits, told-stop, told-lacking, told-short, told-fits}
-use borrow.Author.Needs.{needs}
 use Rattle.jpeg_writer.proofs.settled.Statement.{statement}
 use Rattle.jpeg_writer.proofs.settled.Tie as tie
 
