@@ -15,7 +15,8 @@ use Rattle.reading.specs.Reader.{got, fault, give}
 use Rattle.reading.specs.Bits.{one, meaning, field, amplitude, shortField, shortAmplitude}
 use Rattle.reading.specs.Settled.{size}
 use Rattle.reading.specs.Answers.{numberRead}
-use Rattle.reading.proofs.FineRead.{file-bits, fieldFrom-below, meaning-below, two, got-val}
+use Rattle.reading.proofs.Readings.{two, got-val}
+use Rattle.reading.proofs.FineRead.{file-bits, field-below, meaning-below}
 use Rattle.reading.proofs.WantOfCode.{size-meaning}
 
 -- ---- a field
@@ -57,7 +58,7 @@ unfolding amplitude field
 amplitude-meant s b n few {z} {q} e =
     let w = two (field (one s) n b) (λ v. give (meaning n v)) z q e in
     let is : meaning n (w .val) ≡ z = got-val (w .snd) in
-    let below : w .val < 2 ^ n = omega (arith, fieldFrom-below (one s) (file-bits s) n 0 b (w .at) (w .val) (w .fst)) in
+    let below : w .val < 2 ^ n = field-below (one s) (file-bits s) n b (w .at) (w .val) (w .fst) in
     let sized : size (meaning n (w .val)) ≡ n = size-meaning n (w .val) (omega arith) below in
     record {
       small = rw is at (meaning-below (one s) (file-bits s) n (w .val) below);

@@ -15,7 +15,7 @@ use Rattle.reading.specs.Reader.{got, fault, Reader, onward, give, rule}
 use Rattle.reading.specs.Bits.{file, ended}
 use Rattle.reading.specs.Reading.{allSamples}
 use Rattle.reading.specs.Scan.{planOf, blocks, opened, levels, readable, scanOf}
-use Rattle.reading.proofs.FineRead.{got-val, no-fault}
+use Rattle.reading.proofs.Readings.{got-val, no-fault}
 use Rattle.jpeg_scan.specs.Steps.{ahead, placed, inked, Left}
 use Rattle.jpeg_scan.proofs.Samples.{inked-not}
 

@@ -24,7 +24,7 @@ use Rattle.reading.specs.Block.{block, places}
 use Rattle.reading.specs.Layout.{channelIn, channelOf, perMcu, mcuOf, dueBefore, restartDue, restartBefore, restartCode}
 use Rattle.reading.specs.Answers.{said, levelsOf}
 use Rattle.reading.specs.Scan as scan
-use Rattle.reading.proofs.FineRead.{onward-same}
+use Rattle.reading.proofs.Readings.{onward-same}
 use Rattle.reading.proofs.BlockAnswers.{Taken, told}
 use Rattle.jpeg_scan.specs.declared.Plan.{Plan}
 use Rattle.jpeg_scan.specs.declared.Halt.{Halt}

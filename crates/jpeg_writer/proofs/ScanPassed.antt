@@ -7,7 +7,7 @@ use mathlib.Core.List.{List}
 use mathlib.Core.Option.{Option, some}
 use native.Mathlib.Nat.{add-mul}
 use native.Mathlib.Omega.{arith}
-use lib.ListN.{length, take}
+use lib.ListN.{length}
 use Rattle.reading.specs.declared.Bits.{Bits}
 use Rattle.reading.specs.declared.Fault.{Fault}
 use Rattle.reading.specs.declared.Fault.the-variants.{Broken}
@@ -26,16 +26,13 @@ use Rattle.jpeg_scan.specs.declared.CursorRead.{CursorRead}
 use Rattle.jpeg_scan.specs.Plans.{Stands}
 use Rattle.jpeg_scan.specs.Steps.{restarted}
 use Rattle.jpeg_scan.proofs.Onward.{restart-done}
+use Rattle.jpeg_scan.proofs.OneMcu.{head}
 use Rattle.jpeg_writer.specs.declared.Moved.{Moved}
 use Rattle.jpeg_writer.specs.declared.Outcome.{Outcome}
 use Rattle.jpeg_writer.specs.declared.Outcome.the-variants.{Done}
 use Rattle.jpeg_writer.specs.Page.{Spot, fresh}
 use Rattle.jpeg_writer.specs.Pass.{finalBy, Fit, Moves, lastPart, Closes, coming, resuming, Behind, Went, closing, Answers, Ran}
 use Rattle.jpeg_writer.proofs.Comings.{coming-none, coming-stop, coming-restart}
-
--- the bytes that have the tables
-abbrev head : Plan → List ℕ → List ℕ
-head n s = take (n .start) s
 
 -- a scan that is not begun
 abbrev whole : List ℕ → scan.Plan → Plan → List ℕ → Read Bits (Option Spot)

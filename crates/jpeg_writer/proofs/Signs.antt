@@ -1,7 +1,7 @@
 -- Signed numbers as the code meets them: the distance from 0, the field of a value, a level that is zero.
 use Prim.Native.Nat.{ℕ, zero, suc, _-_, _^_, _<_}
 use mathlib.Core.Path.{_≡_, refl, sym, ap, _∙_, subst, subst⁻¹}
-use mathlib.Core.Bool.{Bool, true, false}
+use mathlib.Core.Bool.{Bool, true, false, true≢false}
 use native.Mathlib.Omega.{arith}
 use native.Mathlib.Nat.{le-of-lt}
 use lib.Dec.{T, ltb, lit≤}
@@ -13,7 +13,7 @@ use mir.Syntax.{w16, w64}
 use mir.Val.{SFits, Fits, toZ, ofZ, hbits}
 use mir.Facts.{toZ-ofZ}
 use borrow.Author.Tests.{ltb-true}
-use Rattle.whole.specs.Signs.{true≢false, zero-bits}
+use Rattle.whole.specs.Signs.{zero-bits}
 use Rattle.whole.specs.Expressions.{fits-abs, abs-sub}
 use Rattle.reading.specs.Settled.{fieldOf}
 use Rattle.jpeg_writer.specs.Steps.{valueAt}
@@ -33,7 +33,7 @@ minus-abs (negsuc a) e = omega arith
 
 plain-cast : (z : ℤ) → natAbs z < 2 ^ 62 → ltZ z (pos 0) ≡ false → T (nonNeg z) × Fits w64 (natAbs z)
 plain-cast (pos a) h e = (tt, record { fits = omega arith })
-plain-cast (negsuc a) h e = true≢false e
+plain-cast (negsuc a) h e = absurd (true≢false e)
 
 field-below : (n : ℕ) (z : ℤ) → ltZ z (pos 0) ≡ true → fieldOf n z ≡ 2 ^ n - 1 - natAbs z
 field-below n (pos a) e = not-below a e
@@ -41,7 +41,7 @@ field-below n (negsuc a) e = refl
 
 field-above : (n : ℕ) (z : ℤ) → ltZ z (pos 0) ≡ false → fieldOf n z ≡ natAbs z
 field-above n (pos a) e = refl
-field-above n (negsuc a) e = true≢false e
+field-above n (negsuc a) e = absurd (true≢false e)
 
 -- the same with the number as it is held in bits
 module _ (z : ℤ) (f : SFits w64 z) where

@@ -1,7 +1,7 @@
 -- A block symbol by symbol: what stands next is a symbol and a field, and then the block from a later place on.
 use Prim.Native.Nat.{ℕ, zero, suc, _+_, _*_, _-_, _/_, _%_, _^_, _<_, _≤_}
 use mathlib.Core.Path.{_≡_, refl, sym, ap, _∙_, subst}
-use mathlib.Core.Bool.{Bool, true, false, cond}
+use mathlib.Core.Bool.{Bool, true, false, cond, true≢false}
 use mathlib.Core.List.{List, [], _∷_}
 use mathlib.Core.Option.{none, some}
 use native.Mathlib.Omega.{arith}
@@ -16,7 +16,6 @@ use lib.Seq.{drop-cons, drop-drop, getD-drop}
 use borrow.Author.Tests.{eq-eqb, ne-eqb, le-ltb, le-leb, lt-leb, ltb-true, ltb-false, leb-true, leb-false, eqb-true, eqb-false}
 use Rattle.whole.specs.Powers.{twice-pow}
 use Rattle.reading.specs.Huffman.{bitsOf}
-use Rattle.whole.specs.Signs.{true≢false}
 use Rattle.reading.specs.Settled.{Written, Coder, _then_, sizeFrom, size, fieldOf, valueBits, skips, levelBits, restBits, blockBy}
 use Rattle.jpeg_writer.specs.declared.Turn.{Turn}
 use Rattle.jpeg_writer.specs.Words.{coderOf, wordBits, wordCode}
@@ -136,7 +135,7 @@ module _ (n k run : ℕ) where
     where
       go : (t : Bool) → leb n k ≡ t → cond t (eqb run 0) false ≡ true → (n ≤ k) × (run ≡ 0)
       go true f e = (leb-true n k f, eqb-true run 0 e)
-      go false f e = true≢false (sym e)
+      go false f e = absurd (true≢false (sym e))
 
   over-not : over n k run ≡ false → n ≤ k → 0 < run
   unfolding over

@@ -2,7 +2,6 @@
 use Prim.Native.Nat.{ℕ, _^_, _<_, _≤_}
 use mathlib.Core.Path.{_≡_, sym, _∙_, ap}
 use mathlib.Core.List.{List}
-use native.Mathlib.Omega.{arith}
 use lib.Dec.{leb, leb→le}
 use Rattle.reading.specs.declared.Bits.{Bits}
 use Rattle.reading.specs.declared.BitRead.{BitRead}
@@ -12,7 +11,8 @@ use Rattle.reading.specs.declared.NumberRead.the-variants as number
 use Rattle.reading.specs.Reader.{got, rule}
 use Rattle.reading.specs.Bits.{one, field, shortField}
 use Rattle.reading.specs.Answers.{bitRead, numberRead}
-use Rattle.reading.proofs.FineRead.{file-bits, fieldFrom-below, two, rule-so}
+use Rattle.reading.proofs.Readings.{two, rule-so}
+use Rattle.reading.proofs.FineRead.{file-bits, field-below}
 
 pub bit-below : (s : List ℕ) (b : Bits) {r : BitRead} → bitRead r ≡ one s b → {c : ℕ} {p : Bits} → r ≡ bit.Got c p → c < 2
 bit-below s b e {c} {p} g = file-bits s b p c (sym e ∙ ap bitRead g)
@@ -28,7 +28,7 @@ field-sized s b n {v} {q} e =
     let w = two (rule (leb n 16) b) (λ _. field (one s) n) v q e in
     record {
       few = leb→le n 16 (rule-so (leb n 16) b (w .at) (w .val) (w .fst));
-      below = omega (arith, fieldFrom-below (one s) (file-bits s) n 0 (w .at) q v (w .snd));
+      below = field-below (one s) (file-bits s) n (w .at) q v (w .snd);
     }
 
 pub read-sized : (s : List ℕ) (b : Bits) (n : ℕ) {r : NumberRead} → numberRead r ≡ shortField (one s) n b → {v : ℕ} {q : Bits} → r ≡ number.Got v q → Sized v n

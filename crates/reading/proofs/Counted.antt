@@ -15,7 +15,8 @@ use Rattle.reading.specs.Transform.{coefficients, samples, samplesTo}
 use Rattle.reading.specs.Reading.{dequantized, blockSamples, allSamples}
 use Rattle.reading.specs.Scan.{Plan, planOf, noPredictors, levels, readable, scanOf}
 use Rattle.reading.proofs.DoubleSum.{length-samples}
-use Rattle.reading.proofs.FineRead.{levels-fine, no-fault}
+use Rattle.reading.proofs.Readings.{no-fault}
+use Rattle.reading.proofs.FineRead.{levels-fine}
 use Rattle.reading.proofs.ScanWritten.{FineBlocks}
 
 -- ---- blocks of 64 levels

@@ -3,7 +3,7 @@ use Prim.Native.Nat.{ℕ, zero, suc, _*_, _<_}
 use mathlib.Core.Path.{_≡_, refl, sym, ap, _∙_, subst}
 use mathlib.Core.List.{List}
 use native.Mathlib.Omega.{arith}
-use native.Mathlib.Nat.{not-suc-le-zero, eq-of-mul-eq-mul-right, mul-pos}
+use native.Mathlib.Nat.{not-suc-le-zero, eq-of-mul-eq-mul-right, mul-pos, suc-inj}
 use lib.IntN.{ℤ, pos, negsuc, negℤ, natAbs, _*ℤ_, pos-ne-negsuc}
 use lib.ListN.{length, getD}
 use lib.Seq.{ext-getD}
@@ -27,10 +27,7 @@ cancel : (a b : ℤ) (q : ℕ) → 0 < q → a *ℤ pos q ≡ b *ℤ pos q → a
 cancel (pos a) (pos b) q h e = ap pos (eq-of-mul-eq-mul-right q h a b (ap natAbs e))
 cancel (pos a) (negsuc b) q h e = absurd (neg-self (suc b * q) (mul-pos (suc-pos b) h) (ap pos (sym (ap natAbs e ∙ abs-pos (suc b * q))) ∙ e))
 cancel (negsuc a) (pos b) q h e = absurd (neg-self (suc a * q) (mul-pos (suc-pos a) h) (ap pos (sym (ap natAbs (sym e) ∙ abs-pos (suc a * q))) ∙ sym e))
-cancel (negsuc a) (negsuc b) q h e = ap negsuc (down a b (eq-of-mul-eq-mul-right q h (suc a) (suc b) (sym (abs-pos (suc a * q)) ∙ ap natAbs e ∙ abs-pos (suc b * q))))
-  where
-    down : (a b : ℕ) → suc a ≡ suc b → a ≡ b
-    down a b q = omega arith
+cancel (negsuc a) (negsuc b) q h e = ap negsuc (suc-inj (eq-of-mul-eq-mul-right q h (suc a) (suc b) (sym (abs-pos (suc a * q)) ∙ ap natAbs e ∙ abs-pos (suc b * q))))
 
 -- ---- the levels of coefficients
 

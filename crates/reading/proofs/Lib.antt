@@ -9,6 +9,7 @@ pub mod Theorems
 pub mod Plain
 pub mod Written
 pub mod BlockWritten
+pub mod Readings
 pub mod Same
 pub mod Stages
 pub mod Fits

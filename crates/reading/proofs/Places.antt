@@ -6,7 +6,7 @@ use mathlib.Core.Bool.{Bool, true, false, cond}
 use native.Mathlib.Omega.{arith}
 use native.Mathlib.Nat.{mod-lt, not-suc-le-zero}
 use lib.Dec.{ltb}
-use lib.ListN.{length, replicate}
+use lib.ListN.{length, replicate, length-replicate}
 use borrow.Author.Tests.{le-ltb, ltb-false}
 use Rattle.reading.specs.Layout.{Shape, oneByOne, factorsOf, ceiling, widest, highest, mcusAcross, mcusDown, areas, perMcu, blockCount, outputLength, channelIn, channelOf}
 
@@ -23,10 +23,6 @@ widest-ones (suc n) = omega (arith, widest-ones n)
 highest-ones : (n : ℕ) → highest (replicate n oneByOne) ≤ 1
 highest-ones zero = omega arith
 highest-ones (suc n) = omega (arith, highest-ones n)
-
-length-ones : (n : ℕ) → length (replicate n oneByOne) ≡ n
-length-ones zero = refl
-length-ones (suc n) = ap suc (length-ones n)
 
 channel-ones : (n j : ℕ) → j < n → channelIn (replicate n oneByOne) j ≡ j
 channel-ones zero j h = absurd (not-suc-le-zero h)
@@ -64,7 +60,7 @@ module _ (w h hs vs ch : ℕ) where
   count-is p q = ap₂ (λ (a b : ℕ). a * b * perMcu shape) (across-is p) (down-is q) ∙ ap (λ k. ceiling w (8 * hs) * ceiling h (8 * vs) * k) per-is
 
   pub channels-are : 0 < ch → length (factorsOf hs vs ch) ≡ ch
-  channels-are p = omega (arith, length-ones (ch - 1))
+  channels-are p = omega (arith, length-replicate (ch - 1) oneByOne)
 
   pub output-is : 0 < ch → outputLength shape ≡ w * h * ch
   unfolding outputLength

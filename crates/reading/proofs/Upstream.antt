@@ -27,7 +27,7 @@ use Rattle.reading.specs.Transform.{coefficients, line, sampleOf, sample
 use Rattle.reading.specs.Calls.{headerPrice, inspect, decode}
 use Rattle.reading.proofs.FileBytes.{AllBytes, byte-below}
 use Rattle.reading.proofs.Inside.{Stands, Keeps, keeps-field, keeps-amplitude, Inside, one-inside, From, one-onward, block-inside, blocks-inside}
-use Rattle.reading.proofs.FineRead.{file-bits, fieldFrom-below, amplitude-below}
+use Rattle.reading.proofs.FineRead.{file-bits, field-below, amplitude-below}
 use Rattle.reading.proofs.BlockLevels.{small-within, block-small, block-long}
 use Rattle.reading.proofs.Zigzag as zigzag
 use Rattle.reading.proofs.DoubleSum.{sumOf, basisAt, doubleSum, line-sum, line-small, sample-at, length-samples, sample-small}
@@ -64,7 +64,7 @@ module _ (s : List ℕ) (b c : Bits) where
   -- the value is below 2 to the n
   pub read-below : (n v : ℕ) → field (one s) n b ≡ got v c → v < 2 ^ n
   unfolding field
-  read-below n v e = omega (arith, fieldFrom-below (one s) (file-bits s) n 0 b c v e)
+  read-below n v e = field-below (one s) (file-bits s) n b c v e
 
   -- ---- amplitude
 

@@ -8,22 +8,18 @@ use borrow.Author.Needs.{needs}
 use Rattle.jpeg_scan.proofs.at_end.Statement.{statement}
 use Rattle.jpeg_scan.proofs.at_end.Tie as tie
 
--- src/lib.rt:191:9
 at-marker-requires : tie.Need-at-marker-requires
 at-marker-requires c κs = search needs
 
 there : (c : tie.Else1) → marked (c .before .before .before .args .s .now) (c .before .before .before .args .b) 217 ≡ true
 there c = sym (c .before .at-marker .ensures) ∙ not-false _ (c .if1 .left)
 
--- src/lib.rt:192:9
 returns : tie.Need-returns
 returns c = ended-bare _ _ (sym (c .before .at-marker .ensures) ∙ not-true _ (c .if1 .taken))
 
--- src/lib.rt:194:5
 sub-result : tie.Need-sub-result
 sub-result c = omega (arith, marked-inside _ _ _ (there c))
 
--- src/lib.rt:187:1
 returns-2 : tie.Need-returns-2
 returns-2 c = ended-is _ _ (there c)
 

@@ -9,50 +9,39 @@ use borrow.Author.Needs.{needs}
 use Rattle.jpeg_scan.proofs.at_marker.Statement.{statement}
 use Rattle.jpeg_scan.proofs.at_marker.Tie as tie
 
--- src/lib.rt:171:9
 full-requires : tie.Need-full-requires
 full-requires c κs = search needs
 
 ones : (c : tie.Else1) → padded (c .before .before .before .args .b) ≡ true
 ones c = sym (c .before .full .ensures) ∙ not-false _ (c .if1 .left)
 
--- src/lib.rt:172:9
 returns : tie.Need-returns
 returns c = marked-bare _ _ _ (sym (c .before .full .ensures) ∙ not-true _ (c .if1 .taken))
 
--- src/lib.rt:175:9
 returns-2 : tie.Need-returns-2
 returns-2 c = marked-out _ _ _ (ones (c .before)) (c .if2 .taken)
 
--- src/lib.rt:177:8
 shared-slice-read-if3 : tie.Need-shared-slice-read-if3
 shared-slice-read-if3 c = search needs
 
--- src/lib.rt:178:9
 returns-3 : tie.Need-returns-3
 returns-3 c = marked-other _ _ _ (ones (c .before .before .before)) (c .before .before .if2 .left) (c .if3 .taken)
 
--- src/lib.rt:180:8
 sub-if4 : tie.Need-sub-if4
 sub-if4 c = search needs
 
--- src/lib.rt:181:9
 returns-4 : tie.Need-returns-4
 returns-4 c = marked-cut _ _ _ (ones (c .before .before .before .before)) (c .before .before .before .if2 .left) (c .before .if3 .left) (omega (arith, c .if4 .taken, c .before .before .before .if2 .left))
 
--- src/lib.rt:183:7
 add-result : tie.Need-add-result
 add-result c = search needs
 
--- src/lib.rt:183:5
 shared-slice-read-result : tie.Need-shared-slice-read-result
 shared-slice-read-result c = search needs
 
--- src/lib.rt:183:5
 cast-result : tie.Need-cast-result
 cast-result c = omega (arith, c .shared-slice-known3 .given (c .before .before .before .before .before .before .before .before .args .b .at + 1))
 
--- src/lib.rt:167:1
 returns-5 : tie.Need-returns-5
 returns-5 c = marked-is _ _ _ (ones (c .before .before .before .before .before)) (c .before .before .before .before .if2 .left) (c .before .before .if3 .left) (omega (arith, c .before .if4 .left, c .before .before .before .before .if2 .left))
 

@@ -2,15 +2,12 @@ use Rattle.jpeg_scan.proofs.Standing.{chan-luma, chan-second, chan-thir
 use Rattle.jpeg_scan.proofs.channel.Statement.{statement}
 use Rattle.jpeg_scan.proofs.channel.Tie as tie
 
--- src/lib.rt:147:9
 returns : tie.Need-returns
 returns c = chan-luma _ _ (c .if1 .taken)
 
--- src/lib.rt:150:9
 returns-2 : tie.Need-returns-2
 returns-2 c = chan-second _ _ (c .before .if1 .left) (c .if2 .taken)
 
--- src/lib.rt:143:1
 returns-3 : tie.Need-returns-3
 returns-3 c = chan-third _ _ (c .before .if1 .left) (c .if2 .left)
 

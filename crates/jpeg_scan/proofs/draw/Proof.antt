@@ -10,48 +10,38 @@ use borrow.Author.Needs.{needs}
 use Rattle.jpeg_scan.proofs.draw.Statement.{statement}
 use Rattle.jpeg_scan.proofs.draw.Tie as tie
 
--- src/lib.rt:382:11
 run-requires : tie.Need-run-requires
 run-requires c κs = λ t. absurd (true≢false (sym t))
 
--- src/lib.rt:383:24
 enum-known-f : tie.Need-enum-known-f
 enum-known-f c = search needs
 
--- src/lib.rt:385:16
 enum-told : tie.Need-enum-told
 enum-told c = search needs
 
--- src/lib.rt:386:17
 same-length : tie.Need-same-length
 same-length c = search needs
 
 first : (c : tie.After-enum-told) → Accepted (scanOf (c .before .before .before .before .before .before .before .before .args .s .now) (c .before .before .before .before .before .before .before .before .args .found))
 first c = accepted (scanOf (c .before .before .before .before .before .before .before .before .args .s .now) (c .before .before .before .before .before .before .before .before .args .found)) (c .before .before .before .before .run .ensures .0) (c .enum-told .given .1)
 
--- src/lib.rt:386:17
 returns : tie.Need-returns
 returns c =
     (sym (c .before .enum-told .given .1) ∙ c .before .before .before .before .before .run .ensures .0, c .before .before .before .before .before .run .ensures .1 ∙ drawn-short (c .before .before .before .before .before .before .before .before .before .args .s .now) (c .before .before .before .before .before .before .before .before .before .args .found) (c .before .before .before .before .before .before .before .before .before .args .scratch .now) (first (c .before)) (omega (arith, c .if1 .taken, ap length (c .before .before .before .before .before .run .ensures .1))))
 
--- src/lib.rt:388:13
 run-requires-2 : tie.Need-run-requires-2
 run-requires-2 c κs = λ t. omega (arith, c .before .if1 .left)
 
--- src/lib.rt:378:1
 same-length-2 : tie.Need-same-length-2
 same-length-2 c = search needs
 
--- src/lib.rt:378:1
 returns-2 : tie.Need-returns-2
 returns-2 c =
     (sym (c .before .f .given .1) ∙ c .before .before .before .before .before .run .ensures .0, c .before .before .before .before .before .run .ensures .1 ∙ drawn-stop (c .before .before .before .before .before .before .before .before .before .args .s .now) (c .before .before .before .before .before .before .before .before .before .args .found) (c .before .before .before .before .before .before .before .before .before .args .scratch .now) (refused (scanOf (c .before .before .before .before .before .before .before .before .before .args .s .now) (c .before .before .before .before .before .before .before .before .before .args .found)) (c .before .before .before .before .before .run .ensures .0) (c .before .f .given .1)))
 
--- src/lib.rt:378:1
 same-length-3 : tie.Need-same-length-3
 same-length-3 c = search needs
 
--- src/lib.rt:378:1
 returns-3 : tie.Need-returns-3
 returns-3 c =
     let a = first (c .before .before .before .before .before) in

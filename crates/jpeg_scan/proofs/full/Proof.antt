@@ -9,26 +9,21 @@ use borrow.Author.Needs.{needs}
 use Rattle.jpeg_scan.proofs.full.Statement.{statement}
 use Rattle.jpeg_scan.proofs.full.Tie as tie
 
--- src/lib.rt:160:9
 returns : tie.Need-returns
 returns c = padded-over _ _ (c .if1 .taken) (search needs)
 
--- src/lib.rt:162:13
 shl-p : tie.Need-shl-p
 shl-p c = search needs
 
 positive : (c : tie.Else1) → 0 < (1 * 2 ^ c .before .args .left) % 18446744073709551616
 positive c = subst (λ (k : ℕ). 0 < k) (sym (power-is _ (le-trans (c .if1 .left) (lit≤ tt)))) (pow-pos _)
 
--- src/lib.rt:163:5
 rem-result : tie.Need-rem-result
 rem-result c = positive c
 
--- src/lib.rt:163:26
 sub-result : tie.Need-sub-result
 sub-result c = positive c
 
--- src/lib.rt:156:1
 returns-2 : tie.Need-returns-2
 returns-2 c = padded-is _ _ _ (power-is _ (le-trans (c .if1 .left) (lit≤ tt)))
 

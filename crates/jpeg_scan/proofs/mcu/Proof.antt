@@ -25,78 +25,60 @@ abbrev μ-walk : tie.MeasureT-walk
 μ-walk s plan write scratch₀ start dcs acs quants levels₀ bits₀ predictors₀ done₀ j₀ scratch levels bits predictors done j =
     plan .per - j
 
--- src/lib.rt:291:9
 walk-holds : tie.Need-walk-holds Inv-walk μ-walk
 walk-holds c = begin _ _ _ _ _
 
--- src/lib.rt:298:13
 channel-requires : tie.Need-channel-requires Inv-walk μ-walk
 channel-requires c κs = search needs
 
 few-channels : (c : tie.After-channel Inv-walk μ-walk) → c .channel .result < 3
 few-channels c = below _ _ (c .channel .ensures)
 
--- src/lib.rt:299:18
 mul-dc : tie.Need-mul-dc Inv-walk μ-walk
 mul-dc c = omega (arith, few-channels c)
 
--- src/lib.rt:299:18
 array-read-dc : tie.Need-array-read-dc Inv-walk μ-walk
 array-read-dc c = few-channels c
 
--- src/lib.rt:300:18
 mul-ac : tie.Need-mul-ac Inv-walk μ-walk
 mul-ac c = omega (arith, few-channels c)
 
--- src/lib.rt:300:18
 array-read-ac : tie.Need-array-read-ac Inv-walk μ-walk
 array-read-ac c = few-channels c
 
--- src/lib.rt:301:26
 mul-prediction : tie.Need-mul-prediction Inv-walk μ-walk
 mul-prediction c = omega (arith, few-channels c)
 
--- src/lib.rt:301:26
 array-copy-out-prediction : tie.Need-array-copy-out-prediction Inv-walk μ-walk
 array-copy-out-prediction c = few-channels c
 
--- src/lib.rt:302:33
 slice-aggregate-block : tie.Need-slice-aggregate-block Inv-walk μ-walk
 slice-aggregate-block c = sym (length-take-le _ _ (c .before .before .before .before .before .before .before .before .before .before .before .before .before .before .before .pre .0))
 
--- src/lib.rt:302:15
 block-requires : tie.Need-block-requires Inv-walk μ-walk
 block-requires c κs = search needs
 
--- src/lib.rt:303:29
 enum-known-f : tie.Need-enum-known-f Inv-walk μ-walk
 enum-known-f c = search needs
 
--- src/lib.rt:306:28
 enum-known-b : tie.Need-enum-known-b Inv-walk μ-walk
 enum-known-b c = search needs
 
--- src/lib.rt:307:30
 slice-aggregate-paint : tie.Need-slice-aggregate-paint Inv-walk μ-walk
 slice-aggregate-paint c = sym (length-take-le _ _ (c .before .before .before .before .before .before .before .before .before .before .before .before .before .before .before .before .before .before .before .before .before .pre .0))
 
--- src/lib.rt:307:43
 mul-paint : tie.Need-mul-paint Inv-walk μ-walk
 mul-paint c = omega (arith, few-channels (c .before .before .before .before .before .before .before .before))
 
--- src/lib.rt:307:43
 array-read-paint : tie.Need-array-read-paint Inv-walk μ-walk
 array-read-paint c = few-channels (c .before .before .before .before .before .before .before .before)
 
--- src/lib.rt:307:17
 paint-requires : tie.Need-paint-requires Inv-walk μ-walk
 paint-requires c κs = λ t. omega (arith, c .before .before .before .before .before .before .before .before .before .before .before .before .before .before .before .before .before .before .before .before .before .before .before .pre .1 t, c .before .before .before .before .before .before .before .before .before .before .before .before .before .before .before .walk .inv .size, c .before .before .before .before .before .before .before .before .before .before .before .if2 .left)
 
--- src/lib.rt:308:17
 mul-predictors : tie.Need-mul-predictors Inv-walk μ-walk
 mul-predictors c = omega (arith, few-channels (c .before .before .before .before .before .before .before .before .before .before .before .before .before))
 
--- src/lib.rt:308:17
 array-set-from-predictors : tie.Need-array-set-from-predictors Inv-walk μ-walk
 array-set-from-predictors c = few-channels (c .before .before .before .before .before .before .before .before .before .before .before .before .before)
 
@@ -106,15 +88,12 @@ blocks-limit c = omega (arith, c .good .1 .0 .1 .1 .1 .1 .1 .1 .1 .0)
 per-limit : (c : tie.Start Inv-walk μ-walk) → c .args .plan .per < 2 ^ 64
 per-limit c = omega (arith, c .good .1 .0 .1 .1 .1 .1 .1 .0)
 
--- src/lib.rt:312:9
 add-done : tie.Need-add-done Inv-walk μ-walk
 add-done c = omega (arith, c .before .before .before .before .before .before .before .before .before .before .before .before .before .before .if2 .left, blocks-limit (c .before .before .before .before .before .before .before .before .before .before .before .before .before .before .before .before .before .before .before .before .before .before .before .before .before .before))
 
--- src/lib.rt:313:9
 add-j : tie.Need-add-j Inv-walk μ-walk
 add-j c = omega (arith, c .before .before .before .before .before .before .before .before .before .before .before .before .before .before .before .before .if1 .left, per-limit (c .before .before .before .before .before .before .before .before .before .before .before .before .before .before .before .before .before .before .before .before .before .before .before .before .before .before))
 
--- src/lib.rt:291:9
 walk-less : tie.Need-walk-less Inv-walk μ-walk
 walk-less c = omega (arith, c .before .before .before .before .before .before .before .before .before .before .before .before .before .before .before .before .if1 .left)
 
@@ -135,34 +114,27 @@ module _ (c : tie.After-block Inv-walk μ-walk) where
   kept : {l : List ℤ} → l ≡ levelsOf (block-here (toZ w32 (ofZ w32 prediction))) → l ≡ levelsOf (block-here prediction)
   kept e = e ∙ ap (λ (z : ℤ). levelsOf (block-here z)) (toZ-ofZ fit)
 
--- src/lib.rt:291:9
 walk-again : tie.Need-walk-again Inv-walk μ-walk
 walk-again c =
     let b = (c .before .before .before .before .before .before .before .before .before) in
     let f : SFits w32 (c .before .before .before .before .before .before .before .b .given .0 .1 .0) = search needs in
     rw (toZ-ofZ f) (further (c .before .before .before .before .before .before .before .before .before .before .before .before .before .before .before .before .before .before .walk .inv) (c .before .before .before .before .before .before .before .before .before .before .before .before .before .before .before .before .if1 .left) (c .before .before .before .before .before .before .before .before .before .before .before .before .before .before .if2 .left) (c .before .before .before .before .before .before .before .before .before .before .before .before .before .channel .ensures) (read b) (c .before .before .before .before .before .before .before .b .given .1) (kept b (b .block .ensures .1)) (c .before .before .paint .ensures) (c .before .before .before .before .before .before .before .before .before .before .before .before .before .before .before .before .before .before .before .before .before .before .before .before .before .before .pre .1))
 
--- src/lib.rt:278:1
 same-length : tie.Need-same-length Inv-walk μ-walk
 same-length c = c .before .before .walk .inv .size
 
--- src/lib.rt:278:1
 returns : tie.Need-returns Inv-walk μ-walk
 returns c = record { size = c .before .before .walk .inv .size; each = λ p m st e. whole (c .before .before .walk .inv) p m st e (c .if1 .taken) }
 
--- src/lib.rt:278:1
 same-length-2 : tie.Need-same-length-2 Inv-walk μ-walk
 same-length-2 c = c .before .before .before .before .walk .inv .size
 
--- src/lib.rt:278:1
 returns-2 : tie.Need-returns-2 Inv-walk μ-walk
 returns-2 c = record { size = c .before .before .before .before .walk .inv .size; each = λ p m st e. out (c .before .before .before .before .walk .inv) p m st e (c .if2 .taken) }
 
--- src/lib.rt:278:1
 same-length-3 : tie.Need-same-length-3 Inv-walk μ-walk
 same-length-3 c = c .before .before .before .before .before .before .before .before .before .before .before .before .walk .inv .size
 
--- src/lib.rt:278:1
 returns-3 : tie.Need-returns-3 Inv-walk μ-walk
 returns-3 c =
     record { size = c .before .before .before .before .before .before .before .before .before .before .before .before .walk .inv .size; each = λ p m st e. broken (c .before .before .before .before .before .before .before .before .before .before .before .before .walk .inv) p m st e (c .before .before .before .before .before .before .before .before .before .before .if1 .left) (c .before .before .before .before .before .before .before .before .if2 .left) (c .before .before .before .before .before .before .before .channel .ensures) (read (c .before .before .before)) (c .before .f .given .1) }

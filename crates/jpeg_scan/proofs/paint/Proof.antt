@@ -7,46 +7,36 @@ use borrow.Author.Needs.{needs}
 use Rattle.jpeg_scan.proofs.paint.Statement.{statement}
 use Rattle.jpeg_scan.proofs.paint.Tie as tie
 
--- src/lib.rt:284:9
 returns : tie.Need-returns
 returns c = rw (not-true (c .before .before .before .args .write) (c .if1 .taken))
 
 room : (c : tie.Else1) → 64 * c .before .before .before .args .k + 64 ≤ length (c .before .before .before .args .scratch .now)
 room c = c .before .before .before .pre (not-false _ (c .if1 .left))
 
--- src/lib.rt:286:13
 mul-a : tie.Need-mul-a
 mul-a c = omega (arith, room c)
 
--- src/lib.rt:287:13
 add-e : tie.Need-add-e
 add-e c = omega (arith, room c)
 
--- src/lib.rt:288:37
 quantizer-requires : tie.Need-quantizer-requires
 quantizer-requires c κs = search needs
 
--- src/lib.rt:288:62
 sub-samples : tie.Need-sub-samples
 sub-samples c = search needs
 
--- src/lib.rt:288:62
 part-samples-start : tie.Need-part-samples-start
 part-samples-start c = search needs
 
--- src/lib.rt:288:62
 part-samples-end : tie.Need-part-samples-end
 part-samples-end c = omega (arith, room (c .before))
 
--- src/lib.rt:288:5
 samples-requires : tie.Need-samples-requires
 samples-requires c κs = search needs
 
--- src/lib.rt:271:1
 same-length : tie.Need-same-length
 same-length c = search needs
 
--- src/lib.rt:271:1
 returns-2 : tie.Need-returns-2
 returns-2 c =
     rw (not-false (c .before .before .before .before .before .before .before .before .args .write) (c .before .before .before .before .before .if1 .left))

@@ -5,19 +5,15 @@ use borrow.Author.Needs.{needs}
 use Rattle.jpeg_scan.proofs.place_of.Statement.{statement}
 use Rattle.jpeg_scan.proofs.place_of.Tie as tie
 
--- src/lib.rt:79:16
 mul-result : tie.Need-mul-result
 mul-result c = search needs
 
--- src/lib.rt:79:16
 array-read-result : tie.Need-array-read-result
 array-read-result c = search needs
 
--- src/lib.rt:79:9
 returns : tie.Need-returns
 returns c = search needs
 
--- src/lib.rt:75:1
 returns-2 : tie.Need-returns-2
 returns-2 c =
     let four : length (c .before .args .t1) ≡ 4 = search needs in

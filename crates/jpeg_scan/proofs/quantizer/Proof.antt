@@ -7,52 +7,40 @@ use borrow.Author.Needs.{needs}
 use Rattle.jpeg_scan.proofs.quantizer.Statement.{statement}
 use Rattle.jpeg_scan.proofs.quantizer.Tie as tie
 
--- src/lib.rt:246:9
 slice-aggregate-result : tie.Need-slice-aggregate-result
 slice-aggregate-result c = search needs
 
--- src/lib.rt:246:9
 returns : tie.Need-returns
 returns c = sym (ap (take 64) (drop-of-length-le _ (c .before .if1 .taken)))
 
--- src/lib.rt:248:8
 sub-if2 : tie.Need-sub-if2
 sub-if2 c = search needs
 
--- src/lib.rt:249:16
 sub-result : tie.Need-sub-result
 sub-result c = search needs
 
--- src/lib.rt:249:16
 part-result-start : tie.Need-part-result-start
 part-result-start c = search needs
 
--- src/lib.rt:249:16
 part-result-end : tie.Need-part-result-end
 part-result-end c = search needs
 
--- src/lib.rt:249:9
 returns-2 : tie.Need-returns-2
 returns-2 c =
     take-all (length (c .before .before .before .args .t .now) - c .before .before .before .args .at) (drop (c .before .before .before .args .at) (c .before .before .before .args .t .now)) (omega (arith, length-drop (c .before .before .before .args .at) (c .before .before .before .args .t .now))) ∙ sym (take-all 64 (drop (c .before .before .before .args .at) (c .before .before .before .args .t .now)) (omega (arith, length-drop (c .before .before .before .args .at) (c .before .before .before .args .t .now), c .before .if2 .taken)))
 
--- src/lib.rt:251:15
 add-end : tie.Need-add-end
 add-end c = search needs
 
--- src/lib.rt:252:5
 sub-result-2 : tie.Need-sub-result-2
 sub-result-2 c = search needs
 
--- src/lib.rt:252:5
 part-result-start-2 : tie.Need-part-result-start-2
 part-result-start-2 c = search needs
 
--- src/lib.rt:252:5
 part-result-end-2 : tie.Need-part-result-end-2
 part-result-end-2 c = search needs
 
--- src/lib.rt:242:1
 returns-3 : tie.Need-returns-3
 returns-3 c =
     let z : c .before .before .before .args .at + 64 - c .before .before .before .args .at ≡ 64 = omega arith in ap (λ (k : ℕ). take k (drop (c .before .before .before .args .at) (c .before .before .before .args .t .now))) z

@@ -5,35 +5,28 @@ use borrow.Author.Needs.{needs}
 use Rattle.jpeg_scan.proofs.readable.Statement.{statement}
 use Rattle.jpeg_scan.proofs.readable.Tie as tie
 
--- src/lib.rt:63:9
 returns : tie.Need-returns
 unfolding readable
 returns c = rw (lt-leb _ _ (c .if1 .taken))
 
--- src/lib.rt:65:9
 within-requires : tie.Need-within-requires
 within-requires c κs = search needs
 
--- src/lib.rt:66:9
 returns-2 : tie.Need-returns-2
 unfolding readable
 returns-2 c = rw (le-leb _ _ (c .before .before .if1 .left), sym (c .before .within .ensures) ∙ not-true _ (c .if2 .taken))
 
--- src/lib.rt:68:9
 within-requires-2 : tie.Need-within-requires-2
 within-requires-2 c κs = search needs
 
--- src/lib.rt:69:9
 returns-3 : tie.Need-returns-3
 unfolding readable
 returns-3 c =
     rw (le-leb _ _ (c .before .before .before .before .if1 .left), sym (c .before .before .before .within .ensures) ∙ not-false _ (c .before .before .if2 .left), sym (c .before .within2 .ensures) ∙ not-true _ (c .if3 .taken))
 
--- src/lib.rt:71:5
 within-requires-3 : tie.Need-within-requires-3
 within-requires-3 c κs = search needs
 
--- src/lib.rt:59:1
 returns-4 : tie.Need-returns-4
 unfolding readable
 returns-4 c =

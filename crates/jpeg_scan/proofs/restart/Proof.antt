@@ -9,7 +9,6 @@ use borrow.Author.Needs.{needs}
 use Rattle.jpeg_scan.proofs.restart.Statement.{statement}
 use Rattle.jpeg_scan.proofs.restart.Tie as tie
 
--- src/lib.rt:228:9
 restart-due-requires : tie.Need-restart-due-requires
 restart-due-requires c κs = search needs
 
@@ -20,27 +19,21 @@ due c = sym (c .before .restart-due .ensures) ∙ not-false _ (c .if1 .left)
 found : (c : tie.After-at-marker) → c .at-marker .result ≡ marked (c .before .before .before .before .before .before .args .s .now) (c .before .before .before .before .before .before .args .from .bits) (restartBefore (c .before .before .before .before .before .before .args .interval) (c .before .before .before .before .before .before .args .m))
 found c = c .at-marker .ensures ∙ ap (marked (c .before .before .before .before .before .before .args .s .now) (c .before .before .before .before .before .before .args .from .bits)) (c .before .restart-code .ensures)
 
--- src/lib.rt:229:9
 returns : tie.Need-returns
 returns c = restart-not _ _ _ _ (sym (c .before .restart-due .ensures) ∙ not-true _ (c .if1 .taken))
 
--- src/lib.rt:236:28
 restart-code-requires : tie.Need-restart-code-requires
 restart-code-requires c κs = search needs
 
--- src/lib.rt:236:9
 at-marker-requires : tie.Need-at-marker-requires
 at-marker-requires c κs = search needs
 
--- src/lib.rt:237:9
 returns-2 : tie.Need-returns-2
 returns-2 c = restart-broken _ _ _ _ (due (c .before .before .before .before)) (sym (found (c .before)) ∙ not-true _ (c .if2 .taken))
 
--- src/lib.rt:246:21
 add-t10 : tie.Need-add-t10
 add-t10 c = omega (arith, marked-inside _ _ _ (sym (found (c .before)) ∙ not-false _ (c .if2 .left)))
 
--- src/lib.rt:225:1
 returns-3 : tie.Need-returns-3
 returns-3 c = restart-marked _ _ _ _ (due (c .before .before .before .before)) (sym (found (c .before)) ∙ not-false _ (c .if2 .left))
 

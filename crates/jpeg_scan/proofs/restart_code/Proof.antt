@@ -3,27 +3,21 @@ use borrow.Author.Needs.{needs}
 use Rattle.jpeg_scan.proofs.restart_code.Statement.{statement}
 use Rattle.jpeg_scan.proofs.restart_code.Tie as tie
 
--- src/lib.rt:216:9
 returns : tie.Need-returns
 returns c = code-early (c .before .args .interval) (c .before .args .m) (c .if1 .taken)
 
--- src/lib.rt:219:9
 returns-2 : tie.Need-returns-2
 returns-2 c = code-none (c .before .before .args .interval) (c .before .before .args .m) (c .if2 .taken)
 
--- src/lib.rt:221:12
 div-result : tie.Need-div-result
 div-result c = search needs
 
--- src/lib.rt:221:12
 sub-result : tie.Need-sub-result
 sub-result c = code-some _ _ (c .before .if1 .left) (c .if2 .left)
 
--- src/lib.rt:221:5
 add-result : tie.Need-add-result
 add-result c = search needs
 
--- src/lib.rt:212:1
 returns-3 : tie.Need-returns-3
 returns-3 c = search needs
 

@@ -3,19 +3,15 @@ use borrow.Author.Needs.{needs}
 use Rattle.jpeg_scan.proofs.restart_due.Statement.{statement}
 use Rattle.jpeg_scan.proofs.restart_due.Tie as tie
 
--- src/lib.rt:203:9
 returns : tie.Need-returns
 returns c = due-first (c .before .args .interval) _ (c .if1 .taken)
 
--- src/lib.rt:206:9
 returns-2 : tie.Need-returns-2
 returns-2 c = due-none (c .before .before .args .interval) (c .before .before .args .m) (c .before .if1 .left) (c .if2 .taken)
 
--- src/lib.rt:208:5
 rem-result : tie.Need-rem-result
 rem-result c = search needs
 
--- src/lib.rt:199:1
 returns-3 : tie.Need-returns-3
 returns-3 c = due-is (c .before .before .args .interval) (c .before .before .args .m) (c .before .if1 .left) (c .if2 .left)
 

@@ -27,14 +27,12 @@ Inv-mcus s write scratch₀ plan interval blocks cursor₀ m₀ scratch cursor m
 abbrev μ-mcus : tie.MeasureT-mcus
 μ-mcus s write scratch₀ plan interval blocks cursor₀ m₀ scratch cursor m = plan .blocks - cursor .done
 
--- src/lib.rt:330:9
 of-requires : tie.Need-of-requires Inv-mcus μ-mcus
 of-requires c κs = search needs
 
 set-up : (c : tie.Else1 Inv-mcus μ-mcus) → Ready (c .before .before .before .before .before .args .s .now) (c .before .before .before .before .before .args .found) (c .before .before .of .result)
 set-up c = ready (c .before .before .before .before .before .args .s .now) (c .before .before .before .before .before .args .found) (c .before .before .of .ensures) (c .if1 .left)
 
--- src/lib.rt:334:9
 returns : tie.Need-returns Inv-mcus μ-mcus
 returns c =
     let a = (c .before .before .before .before .before) .args in
@@ -47,64 +45,51 @@ blocks-are c = ap (λ (n : Plan). n .blocks) (set-up c .plan-is)
 room : (c : tie.Else1 Inv-mcus μ-mcus) → c .before .before .before .before .before .args .write ≡ true → 64 * c .before .before .of .result .blocks ≤ length (c .before .before .before .before .before .args .scratch .now)
 room c t = omega (arith, c .before .before .before .before .before .pre t, blocks-are c)
 
--- src/lib.rt:336:9
 fresh-requires : tie.Need-fresh-requires Inv-mcus μ-mcus
 fresh-requires c κs = search needs
 
--- src/lib.rt:338:5
 mcus-holds : tie.Need-mcus-holds Inv-mcus μ-mcus
 mcus-holds c = begin _ _ _ _ _ (ap (λ (q : ScanCursor). q .done) (c .fresh .ensures))
 
--- src/lib.rt:340:16
 at-end-requires : tie.Need-at-end-requires Inv-mcus μ-mcus
 at-end-requires c κs = search needs
 
--- src/lib.rt:345:13
 restart-requires : tie.Need-restart-requires Inv-mcus μ-mcus
 restart-requires c κs = search needs
 
--- src/lib.rt:348:23
 enum-known-h : tie.Need-enum-known-h Inv-mcus μ-mcus
 enum-known-h c = search needs
 
--- src/lib.rt:352:55
 enum-told : tie.Need-enum-told Inv-mcus μ-mcus
 enum-told c = search needs
 
--- src/lib.rt:352:21
 mcu-requires : tie.Need-mcu-requires Inv-mcus μ-mcus
 mcu-requires c κs = (set-up (c .before .before .before .before .before .before .before .before) .inside, λ t. omega (arith, room (c .before .before .before .before .before .before .before .before) t, c .before .before .before .before .before .before .mcus .inv .size))
 
--- src/lib.rt:355:31
 enum-known-g : tie.Need-enum-known-g Inv-mcus μ-mcus
 enum-known-g c = search needs
 
--- src/lib.rt:359:25
 enum-told-2 : tie.Need-enum-told-2 Inv-mcus μ-mcus
 enum-told-2 c = search needs
 
 limit : (c : tie.Start Inv-mcus μ-mcus) → c .args .found .blocks < 2 ^ 64
 limit c = omega (arith, c .good .1 .0 .1 .1 .1 .1 .1 .1 .1 .1 .1 .1 .1 .1 .1 .1 .0)
 
--- src/lib.rt:364:9
 add-m : tie.Need-add-m Inv-mcus μ-mcus
 add-m c =
     let w = (c .before .before .before .before .before .before .before .before .before .before .before .before) .mcus in
     let u = (c .before .before .before .before .before .before .before .before .before .before .before .before .before .before) in
     omega (arith, le-mul-of-pos-right (w .m) (set-up u .numbers .some), at-mcu (w .inv) (c .before .before .before .before .before .before .before .before .before .before .if2 .left), c .before .before .before .before .before .before .before .before .before .before .if2 .left, blocks-are u, limit (c .before .before .before .before .before .before .before .before .before .before .before .before .before .before .before .before .before .before .before))
 
--- src/lib.rt:338:5
 mcus-less : tie.Need-mcus-less Inv-mcus μ-mcus
 mcus-less c =
     let st = set-up (c .before .before .before .before .before .before .before .before .before .before .before .before .before .before) .numbers in
     omega (arith, gained (c .before .before .before .before .before .before .before .before .before .before .before .before .mcus .inv) (c .before .before .before .before .before .before .before .before .before .before .if2 .left) (c .before .before .before .before .before .before .before .before .before .restart .ensures) (c .before .before .before .before .before .before .before .enum-told .given .1) (c .before .before .before .before .before .mcu .ensures) _ st (c .before .enum-told2 .given .1), c .before .before .before .before .before .before .before .before .before .before .if2 .left, st .some)
 
--- src/lib.rt:338:5
 mcus-again : tie.Need-mcus-again Inv-mcus μ-mcus
 mcus-again c =
     further (c .before .before .before .before .before .before .before .before .before .before .before .before .mcus .inv) (c .before .before .before .before .before .before .before .before .before .before .if2 .left) (c .before .before .before .before .before .before .before .before .before .restart .ensures) (c .before .before .before .before .before .before .before .enum-told .given .1) (c .before .before .before .before .before .mcu .ensures) _ (set-up (c .before .before .before .before .before .before .before .before .before .before .before .before .before .before) .numbers) (c .before .enum-told2 .given .1)
 
--- src/lib.rt:326:1
 same-length : tie.Need-same-length Inv-mcus μ-mcus
 same-length c = c .before .before .before .before .mcus .inv .size
 
@@ -117,7 +102,6 @@ from-start c e =
     ap (λ (n : Plan). ahead (a .s .now) (planOf (a .s .now) (a .found)) (n .blocks) (opened (n .start))) (sym (set-up (c .before) .plan-is))
     ∙ ap (ahead (a .s .now) (planOf (a .s .now) (a .found)) (c .before .before .before .of .result .blocks)) (sym (c .fresh .ensures)) ∙ e
 
--- src/lib.rt:326:1
 returns-2 : tie.Need-returns-2 Inv-mcus μ-mcus
 returns-2 c =
     let a = (c .before .before .before .before .before .before .before .before .before .before .before) .args in
@@ -126,11 +110,9 @@ returns-2 c =
     let e = scan-done (a .s .now) (a .found) (u .readable-is) (from-start (c .before .before .before .before .before) (all-read w _ (u .numbers) (c .before .before .if2 .taken))) (sym (c .before .at-end .ensures) ∙ c .if3 .taken) in
     (answer-done e, left-done (a .s .now) (a .found) (a .write) _ e (w .on _ (u .numbers) .here))
 
--- src/lib.rt:326:1
 same-length-2 : tie.Need-same-length-2 Inv-mcus μ-mcus
 same-length-2 c = c .before .before .before .before .mcus .inv .size
 
--- src/lib.rt:326:1
 returns-3 : tie.Need-returns-3 Inv-mcus μ-mcus
 returns-3 c =
     let a = (c .before .before .before .before .before .before .before .before .before .before .before) .args in
@@ -139,11 +121,9 @@ returns-3 c =
     let e = scan-open (a .s .now) (a .found) (u .readable-is) (from-start (c .before .before .before .before .before) (all-read w _ (u .numbers) (c .before .before .if2 .taken))) (sym (c .before .at-end .ensures) ∙ c .if3 .left) in
     (answer-stop e, left-stop (a .s .now) (a .found) (a .write) _ _ e (unchanged w _ (u .numbers)))
 
--- src/lib.rt:326:1
 same-length-3 : tie.Need-same-length-3 Inv-mcus μ-mcus
 same-length-3 c = c .before .before .before .before .before .before .mcus .inv .size
 
--- src/lib.rt:326:1
 returns-4 : tie.Need-returns-4 Inv-mcus μ-mcus
 returns-4 c =
     let a = (c .before .before .before .before .before .before .before .before .before .before .before .before .before) .args in
@@ -152,11 +132,9 @@ returns-4 c =
     let e = scan-stop (a .s .now) (a .found) (u .readable-is) (from-start (c .before .before .before .before .before .before .before) (stopped w (c .before .before .before .before .if2 .left) (c .before .before .before .restart .ensures) _ (u .numbers) (c .before .h .given .1))) in
     (answer-stop e, left-stop (a .s .now) (a .found) (a .write) _ _ e (unchanged w _ (u .numbers)))
 
--- src/lib.rt:326:1
 same-length-4 : tie.Need-same-length-4 Inv-mcus μ-mcus
 same-length-4 c = c .before .before .before .before .before .mcu .ensures .size ∙ c .before .before .before .before .before .before .before .before .before .before .before .before .mcus .inv .size
 
--- src/lib.rt:326:1
 returns-5 : tie.Need-returns-5 Inv-mcus μ-mcus
 returns-5 c =
     let a = (c .before .before .before .before .before .before .before .before .before .before .before .before .before .before .before .before .before .before .before) .args in

@@ -4,15 +4,12 @@ use borrow.Author.Needs.{needs}
 use Rattle.jpeg_scan.proofs.validate.Statement.{statement}
 use Rattle.jpeg_scan.proofs.validate.Tie as tie
 
--- src/lib.rt:373:26
 slice-aggregate-run : tie.Need-slice-aggregate-run
 slice-aggregate-run c = search needs
 
--- src/lib.rt:373:5
 run-requires : tie.Need-run-requires
 run-requires c κs = λ t. absurd (true≢false (sym t))
 
--- src/lib.rt:369:1
 returns : tie.Need-returns
 returns c = search needs
 

@@ -7,47 +7,37 @@ use borrow.Author.Needs.{needs}
 use Rattle.jpeg_scan.proofs.Plan.of.Statement.{statement}
 use Rattle.jpeg_scan.proofs.Plan.of.Tie as tie
 
--- src/lib.rt:115:13
 readable-requires : tie.Need-readable-requires
 readable-requires c κs = search needs
 
--- src/lib.rt:116:13
 none-requires : tie.Need-none-requires
 none-requires c κs = search needs
 
 fit : (c : tie.Else1) → Readable (c .before .before .before .args .s .now) (c .before .before .before .args .found)
 fit c = readable-says _ _ (sym (c .before .readable .ensures) ∙ not-false _ (c .if1 .left))
 
--- src/lib.rt:116:13
 returns : tie.Need-returns
 unfolding planFor
 returns c = c .none .ensures ∙ rw (sym (c .before .before .readable .ensures) ∙ not-true _ (c .before .if1 .taken))
 
--- src/lib.rt:124:13
 chosen-requires : tie.Need-chosen-requires
 chosen-requires c κs = search needs
 
--- src/lib.rt:125:13
 chosen-requires-2 : tie.Need-chosen-requires-2
 chosen-requires-2 c κs = search needs
 
--- src/lib.rt:126:13
 chosen-requires-3 : tie.Need-chosen-requires-3
 chosen-requires-3 c κs = search needs
 
--- src/lib.rt:127:21
 mul-lumas : tie.Need-mul-lumas
 mul-lumas c = omega (arith, lumas-few (fit (c .before .before .before .before .before .before .before .before .before .before)))
 
--- src/lib.rt:128:28
 sub-per : tie.Need-sub-per
 sub-per c = omega (arith, fit (c .before .before .before .before .before .before .before .before .before .before .before) .channels-some)
 
--- src/lib.rt:128:19
 add-per : tie.Need-add-per
 add-per c = omega (arith, lumas-few (fit (c .before .before .before .before .before .before .before .before .before .before .before)), fit (c .before .before .before .before .before .before .before .before .before .before .before) .channels-few)
 
--- src/lib.rt:112:5
 returns-2 : tie.Need-returns-2
 unfolding planFor
 returns-2 c =
