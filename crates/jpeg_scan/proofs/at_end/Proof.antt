@@ -1,3 +1,4 @@
+-- `at_end`: the end marker, and no byte behind it.
 use mathlib.Core.Path.{_≡_, sym, _∙_}
 use mathlib.Core.Bool.{true}
 use native.Mathlib.Omega.{arith}

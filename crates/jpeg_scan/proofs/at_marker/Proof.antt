@@ -1,3 +1,4 @@
+-- `at_marker`: each test that fails is one way of being no marker.
 use Prim.Native.Nat.{_+_}
 use mathlib.Core.Path.{_≡_, sym, _∙_}
 use mathlib.Core.Bool.{true}

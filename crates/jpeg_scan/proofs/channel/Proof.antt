@@ -1,3 +1,4 @@
+-- `channel`: each test is one case of the channel of a block.
 use Rattle.jpeg_scan.proofs.Standing.{chan-luma, chan-second, chan-third}
 use Rattle.jpeg_scan.proofs.channel.Statement.{statement}
 use Rattle.jpeg_scan.proofs.channel.Tie as tie

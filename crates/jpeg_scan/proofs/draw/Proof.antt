@@ -1,3 +1,4 @@
+-- `draw`: the first reading writes nothing, and the second, of the same scan, writes its samples.
 use mathlib.Core.Bool.{true≢false}
 use mathlib.Core.Path.{sym, _∙_, ap}
 use native.Mathlib.Omega.{arith}

@@ -1,3 +1,4 @@
+-- `full`: the low bits of the byte are all ones, one less than a power of two.
 use mathlib.Core.Path.{sym, subst}
 use Prim.Native.Nat.{ℕ, _<_, _^_, _*_, _%_}
 use native.Mathlib.Nat.{le-trans}

@@ -1,3 +1,4 @@
+-- `mcu`: before each block the levels read are those of the MCU up to there (OneMcu).
 use borrow.Author.Needs.{needs}
 use mathlib.Core.Path.{_≡_, sym, _∙_, ap}
 use mathlib.Core.List.{List}

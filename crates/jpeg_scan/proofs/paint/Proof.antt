@@ -1,3 +1,4 @@
+-- `paint`: where samples are written, block k has its own 64 bytes.
 use Prim.Native.Nat.{_+_, _-_, _*_, _≤_}
 use native.Mathlib.Omega.{arith}
 use lib.ListN.{length, take, drop}

@@ -1,3 +1,4 @@
+-- `place_of`: past the four places the list's own answer is 0.
 use mathlib.Core.Path.{_≡_, sym}
 use native.Mathlib.Omega.{arith}
 use lib.ListN.{length, List·getD-eq-default}

@@ -1,3 +1,4 @@
+-- `quantizer`: 64 bytes from a place on, or as many as there are.
 use mathlib.Core.Path.{_≡_, sym, _∙_, ap}
 use Prim.Native.Nat.{ℕ, _+_, _-_}
 use native.Mathlib.Omega.{arith}

@@ -1,3 +1,4 @@
+-- `readable`: four comparisons, one after the other.
 use mathlib.Core.Path.{sym, _∙_}
 use borrow.Author.Tests.{le-leb, lt-leb, not-true, not-false}
 use Rattle.reading.specs.Scan.{readable}

@@ -1,3 +1,4 @@
+-- `restart`: not due, or its marker is there, or it is not.
 use mathlib.Core.Path.{_≡_, sym, _∙_, ap}
 use mathlib.Core.Bool.{true}
 use native.Mathlib.Omega.{arith}

@@ -1,3 +1,4 @@
+-- `restart_code`: from the first interval on the quotient is at least 1.
 use Rattle.reading.proofs.Restarts.{code-early, code-none, code-some}
 use borrow.Author.Needs.{needs}
 use Rattle.jpeg_scan.proofs.restart_code.Statement.{statement}

@@ -1,3 +1,4 @@
+-- `restart_due`: none before the first MCU and none without an interval; else a remainder decides.
 use Rattle.reading.proofs.Restarts.{due-first, due-none, due-is}
 use borrow.Author.Needs.{needs}
 use Rattle.jpeg_scan.proofs.restart_due.Statement.{statement}

@@ -1,3 +1,4 @@
+-- `run`: before each MCU the levels read are the scan's up to there (AllMcus).
 use borrow.Author.Needs.{needs}
 use mathlib.Core.Path.{_≡_, refl, sym, _∙_, ap}
 use mathlib.Core.Bool.{true}

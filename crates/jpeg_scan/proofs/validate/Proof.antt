@@ -1,3 +1,4 @@
+-- `validate`: the reading of `run` without its samples.
 use mathlib.Core.Bool.{true≢false}
 use mathlib.Core.Path.{sym}
 use borrow.Author.Needs.{needs}

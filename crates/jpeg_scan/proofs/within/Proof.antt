@@ -1,3 +1,4 @@
+-- `within`: two comparisons in one test.
 use borrow.Author.Tests.{le-leb, lt-leb}
 use Rattle.jpeg_scan.proofs.within.Statement.{statement}
 use Rattle.jpeg_scan.proofs.within.Tie as tie

@@ -1,3 +1,4 @@
+-- `Plan::of`: a readable record has numbers so small that no sum of the plan wraps.
 use mathlib.Core.Path.{sym, _∙_}
 use native.Mathlib.Omega.{arith}
 use borrow.Author.Tests.{not-true, not-false}

@@ -1,3 +1,4 @@
+-- `Budget::less`: what is left after a price, or 0 where the price is more.
 use mathlib.Core.Path.{_≡_, ap}
 use Prim.Native.Nat.{ℕ, _-_, _<_}
 use native.Mathlib.Omega.{arith}

@@ -1,3 +1,4 @@
+-- `ScanCursor::fresh`: the cursor at the first bit of the scan.
 use Rattle.reading.proofs.ScanCursor.fresh.Statement.{statement}
 use Rattle.reading.proofs.ScanCursor.fresh.Tie as tie
 
