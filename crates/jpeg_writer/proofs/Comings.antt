@@ -5,6 +5,7 @@ use mathlib.Core.Bool.{Bool, true, false, cond}
 use mathlib.Core.List.{List, [], _∷_}
 use mathlib.Core.Option.{Option, none, some}
 use native.Mathlib.Numerals.{add-one}
+use native.Mathlib.Nat.{suc-ne-zero}
 use native.Mathlib.Omega.{arith}
 use lib.IntN.{ℤ, pos}
 use lib.ListN.{getD, set}
@@ -149,7 +150,7 @@ module _ {t : List ℕ} {n : Plan} {p : scan.Plan} (st : Stands t n p) (s : List
               → (cond d (cond x (onTo (behindMarker q)) (record { halt = Yes Broken; cursor = q })) (onTo q)) .halt ≡ No
               → (cond d (cond x (onTo (behindMarker q)) (record { halt = Yes Broken; cursor = q })) (onTo q)) .cursor .predictors ≡ predictors d (q .predictors)
           go true true k = refl
-          go true false k = let z : _≡_ {A = ℕ} 0 1 = cc in absurd (omega arith)
+          go true false k = absurd (suc-ne-zero 0 cc)
           go false x k = refl
 
       module _ (ink : Outcome) (out : List ℕ) {r : Outcome} {new : List ℕ} (o : Moves (cut (dueBefore (n .interval) m) (restartBefore (n .interval) m)) ink out r new) where

@@ -6,7 +6,7 @@ use mathlib.Core.Bool.{Bool, true, false, cond}
 use mathlib.Core.List.{List, [], _∷_}
 use mathlib.Core.Option.{Option, none, some}
 use native.Mathlib.Omega.{arith}
-use native.Mathlib.Nat.{le-trans}
+use native.Mathlib.Nat.{le-trans, suc-ne-zero}
 use lib.Dec.{eqb}
 use lib.IntN.{ℤ, pos, natAbs, _-ℤ_}
 use lib.ListN.{length, getD, set, take, length-append}
@@ -178,7 +178,7 @@ unfolding settledScan
 scan-length p ls t s w e = go (written p 0 noPredictors ls) (written-weight p s ls w 0 noPredictors) e
   where
     go : (o : Option Coded) → Weighs (8 + 1823 * length ls) o → scanBytes o ≡ some t → length t ≤ 512 * length ls + 4
-    go none h e = let z : _≡_ {A = ℕ} 0 1 = cc in let y : ⊥ = omega arith in absurd y
+    go none h e = absurd (suc-ne-zero 0 cc)
     go (some c) h e =
         let same : bytesOf c ≡ t = cc in
         omega (arith, bytes-weight c, h, ap length same)

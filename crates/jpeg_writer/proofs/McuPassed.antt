@@ -3,6 +3,7 @@
 use Prim.Native.Nat.{ℕ, _+_, _*_, _<_, _≤_}
 use mathlib.Core.Path.{_≡_, refl, sym, _∙_, ap}
 use mathlib.Core.List.{List}
+use native.Mathlib.Nat.{suc-ne-zero}
 use native.Mathlib.Omega.{arith}
 use lib.IntN.{ℤ, pos}
 use lib.ListN.{length, getD}
@@ -82,7 +83,7 @@ module _ {s : List ℕ} {n : Plan} {from : ScanCursor} {pen : Outcome} {old new 
         record {
           size = w .size;
           fit = w .fit;
-          place = λ t. let z : _≡_ {A = ℕ} 0 1 = cc in absurd (omega arith);
+          place = λ t. absurd (suc-ne-zero 0 cc);
           each = λ p m st e. onto-block p m st e ∙ resuming-stop st s m j (n .blocks) q ink new (at p m st e) h i c u few-c v g;
         }
 

@@ -4,7 +4,7 @@ use mathlib.Core.Path.{_≡_, refl, sym, ap, _∙_, subst}
 use mathlib.Core.Bool.{Bool, true, false, cond}
 use mathlib.Core.List.{List, _++_}
 use mathlib.Core.Option.{Option, none, some}
-use native.Mathlib.Nat.{zero-add}
+use native.Mathlib.Nat.{zero-add, suc-ne-zero}
 use native.Mathlib.Omega.{arith}
 use lib.IntN.{ℤ}
 use lib.ListN.{length, drop}
@@ -116,13 +116,13 @@ module _ {o : Read Bits (Option (List ℕ))} (old : List ℕ) where
 pub stays-stop : (o : Read Bits (Option (List ℕ))) (old : List ℕ) {x : ScanSettled} {f : Fault} → x ≡ scanSettled o → x ≡ answer.Stop f → old ≡ laidOver o old
 unfolding scanSettled laidOver
 stays-stop (got none b) old e g = refl
-stays-stop (got (some t) b) old e g = let z : _≡_ {A = ℕ} 0 1 = cc in absurd (omega arith)
+stays-stop (got (some t) b) old e g = absurd (suc-ne-zero 0 cc)
 stays-stop (fault f) old e g = refl
 
 pub stays-lacking : (o : Read Bits (Option (List ℕ))) (old : List ℕ) {x : ScanSettled} → x ≡ scanSettled o → x ≡ answer.NoCode → old ≡ laidOver o old
 unfolding scanSettled laidOver
 stays-lacking (got none b) old e g = refl
-stays-lacking (got (some t) b) old e g = let z : _≡_ {A = ℕ} 0 1 = cc in absurd (omega arith)
+stays-lacking (got (some t) b) old e g = absurd (suc-ne-zero 0 cc)
 stays-lacking (fault f) old e g = refl
 
 pub stays-short : (o : Read Bits (Option (List ℕ))) (old : List ℕ) {x : ScanSettled} {n : ℕ} → x ≡ scanSettled o → x ≡ answer.Done n → length old < n → old ≡ laidOver o old
@@ -136,12 +136,12 @@ stays-short (fault f) old e g h = refl
 pub writes-all : (o : Read Bits (Option (List ℕ))) (old : List ℕ) {x : ScanSettled} {n : ℕ} → x ≡ scanSettled o → x ≡ answer.Done n → n ≤ length old
     → {y : ScanSettled} {new : List ℕ} → Passed o old y new → new ≡ laidOver o old
 unfolding scanSettled laidOver
-writes-all (got none b) old e g h a = let z : _≡_ {A = ℕ} 0 1 = cc in absurd (omega arith)
+writes-all (got none b) old e g h a = absurd (suc-ne-zero 0 cc)
 writes-all (got (some t) b) old {x} {n} e g h {y} {new} a =
     let same : n ≡ length t = cc in
     let room : length t ≤ length old = omega arith in
     a .fills ∙ sets-eq t old 0 (omega arith) ∙ ap (λ (k : ℕ). t ++ drop k old) (zero-add (length t)) ∙ rw (le-ltb (length old) (length t) room) refl
-writes-all (fault f) old e g h a = let z : _≡_ {A = ℕ} 0 1 = cc in absurd (omega arith)
+writes-all (fault f) old e g h a = absurd (suc-ne-zero 0 cc)
 
 -- ---- records that no scan is read by
 

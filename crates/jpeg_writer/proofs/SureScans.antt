@@ -5,7 +5,7 @@ use mathlib.Core.Bool.{Bool, true, false, cond}
 use mathlib.Core.List.{List, [], _∷_}
 use mathlib.Core.Option.{Option, none, some}
 use native.Mathlib.Decide.{ℕ-discrete}
-use native.Mathlib.Nat.{not-suc-le-zero, le-trans}
+use native.Mathlib.Nat.{not-suc-le-zero, le-trans, suc-ne-zero}
 use native.Mathlib.Omega.{arith}
 use lib.Dec.{eqb, ltb}
 use lib.IntN.{ℤ}
@@ -69,7 +69,7 @@ coded-each ws zero e i h = absurd (not-suc-le-zero h)
 coded-each ws (suc n) e i h = go (eqb (getD ws (256 * n) 0) 0) refl e (coded-each ws n)
   where
     go : (t : Bool) → eqb (getD ws (256 * n) 0) 0 ≡ t → cond t false (zerosCoded ws n) ≡ true → (zerosCoded ws n ≡ true → (i : ℕ) → i < n → getD ws (256 * i) 0 ≡ 0 → ⊥) → getD ws (256 * i) 0 ≡ 0 → ⊥
-    go true q f ih = λ z. let y : _≡_ {A = ℕ} 0 1 = cc in omega arith
+    go true q f ih = λ z. suc-ne-zero 0 cc
     go false q f ih = here (ℕ-discrete i n)
       where
         below : (i ≡ n → ⊥) → i < n
@@ -94,7 +94,7 @@ module _ (r : Record) (ws : List ℕ) (room : ℕ) where
   sure-says e = go (ltb room (512 * r .blocks + 4)) refl e
     where
       go : (t : Bool) → ltb room (512 * r .blocks + 4) ≡ t → cond t false (zerosCoded ws (2 * r .channels)) ≡ true → (512 * r .blocks + 4 ≤ room) × (zerosCoded ws (2 * r .channels) ≡ true)
-      go true q f = let y : _≡_ {A = ℕ} 0 1 = cc in let z : ⊥ = omega arith in absurd z
+      go true q f = absurd (suc-ne-zero 0 cc)
       go false q f = (ltb-false room (512 * r .blocks + 4) q, f)
 
 -- ---- a word for the symbol 0 is a code for it
@@ -172,7 +172,7 @@ module _ {s : List ℕ} {r : Record} {n : Plan} (u : Ready s r n) {ws : List ℕ
     read-stop {f} g = subst⁻¹ (λ (o : Read Bits (Option (List ℕ))). answer.Stop f ≡ foretold true room o) (settled-is u few) (go (scan.scanOf s r) e)
       where
         go : (o : Read Bits (List (List ℤ))) → x ≡ scanRead o → answer.Stop f ≡ foretold true room (settledRead (scan.planOf s r) o)
-        go (got ls b) h = let z : _≡_ {A = ℕ} 0 1 = cc in let y : ⊥ = omega arith in absurd y
+        go (got ls b) h = absurd (suc-ne-zero 0 cc)
         go (fault k) h = let same : f ≡ k = cc in ap answer.Stop same
 
     pub read-done : x ≡ reads.Done → answer.Done room ≡ foretold true room (settledOf s r)
@@ -181,12 +181,12 @@ module _ {s : List ℕ} {r : Record} {n : Plan} (u : Ready s r n) {ws : List ℕ
       where
         go : (o : Read Bits (List (List ℤ))) → x ≡ scanRead o → answer.Done room ≡ foretold true room (settledRead (scan.planOf s r) o)
         go (got ls b) h = refl
-        go (fault k) h = let z : _≡_ {A = ℕ} 0 1 = cc in let y : ⊥ = omega arith in absurd y
+        go (fault k) h = absurd (suc-ne-zero 0 cc)
 
 -- where it is measured
 pub foretold-measured : (t : Bool) (room : ℕ) (o : Read Bits (Option (List ℕ))) → t ≡ false → scanSettled o ≡ foretold t room o
 unfolding foretold
-foretold-measured true room o e = let z : _≡_ {A = ℕ} 0 1 = cc in let y : ⊥ = omega arith in absurd y
+foretold-measured true room o e = absurd (suc-ne-zero 0 cc)
 foretold-measured false room o e = refl
 
 -- ---- what follows for the answer and the buffer
@@ -198,7 +198,7 @@ module _ (old : List ℕ) (t : Bool) (o : Read Bits (Option (List ℕ))) {x : Sc
     where
       go : (t : Bool) (o : Read Bits (Option (List ℕ))) → x ≡ foretold t (length old) o → (answer.Stop f ≡ scanSettled o) × (old ≡ laidOver o old)
       go false o h = (sym g ∙ h, stays-stop o old h g)
-      go true (got w b) h = let z : _≡_ {A = ℕ} 0 1 = cc in let y : ⊥ = omega arith in absurd y
+      go true (got w b) h = absurd (suc-ne-zero 0 cc)
       go true (fault k) h = (sym g ∙ h, refl)
 
   pub told-lacking : x ≡ answer.NoCode → (answer.NoCode ≡ scanSettled o) × (old ≡ laidOver o old)
@@ -207,8 +207,8 @@ module _ (old : List ℕ) (t : Bool) (o : Read Bits (Option (List ℕ))) {x : Sc
     where
       go : (t : Bool) (o : Read Bits (Option (List ℕ))) → x ≡ foretold t (length old) o → (answer.NoCode ≡ scanSettled o) × (old ≡ laidOver o old)
       go false o h = (sym g ∙ h, stays-lacking o old h g)
-      go true (got w b) h = let z : _≡_ {A = ℕ} 0 1 = cc in let y : ⊥ = omega arith in absurd y
-      go true (fault k) h = let z : _≡_ {A = ℕ} 0 1 = cc in let y : ⊥ = omega arith in absurd y
+      go true (got w b) h = absurd (suc-ne-zero 0 cc)
+      go true (fault k) h = absurd (suc-ne-zero 0 cc)
 
   module _ {n : ℕ} (g : x ≡ answer.Done n) where
     pub told-short : length old < n → (answer.Done n ≡ scanSettled o) × (old ≡ laidOver o old)
@@ -218,7 +218,7 @@ module _ (old : List ℕ) (t : Bool) (o : Read Bits (Option (List ℕ))) {x : Sc
         go : (t : Bool) (o : Read Bits (Option (List ℕ))) → x ≡ foretold t (length old) o → (answer.Done n ≡ scanSettled o) × (old ≡ laidOver o old)
         go false o h = (sym g ∙ h, stays-short o old h g l)
         go true (got w b) h = let same : n ≡ length old = cc in let y : ⊥ = omega arith in absurd y
-        go true (fault k) h = let z : _≡_ {A = ℕ} 0 1 = cc in let y : ⊥ = omega arith in absurd y
+        go true (fault k) h = absurd (suc-ne-zero 0 cc)
 
     pub told-fits : n ≤ length old → (t ≡ true → Roomy o (length old)) → {y : ScanSettled} {new : List ℕ} → Passed o old y new → new ≡ laidOver o old
     unfolding foretold scanSettled laidOver
@@ -228,4 +228,4 @@ module _ (old : List ℕ) (t : Bool) (o : Read Bits (Option (List ℕ))) {x : Sc
         go false o h q a = writes-all o old h g l a
         go true (got none b) h q a = absurd (q refl)
         go true (got (some k) b) h q a = writes-all (got (some k) b) old refl refl (q refl) a
-        go true (fault k) h q a = let z : _≡_ {A = ℕ} 0 1 = cc in let y : ⊥ = omega arith in absurd y
+        go true (fault k) h q a = absurd (suc-ne-zero 0 cc)

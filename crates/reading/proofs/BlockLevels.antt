@@ -1,5 +1,5 @@
 -- The levels of a block that was read: 64 of them, each in -2048..2047.
-use Prim.Native.Nat.{ℕ, zero, suc, _<_, _≤_}
+use Prim.Native.Nat.{ℕ, suc, _<_, _≤_}
 use mathlib.Core.Path.{_≡_, ap}
 use mathlib.Core.List.{List, [], _∷_}
 use native.Mathlib.Omega.{arith}
@@ -7,6 +7,7 @@ use lib.Dec.{T, leb, leb→le}
 use lib.ListN.{length, getD}
 use lib.IntN.{ℤ, pos, negsuc, natAbs}
 use lib.Signed.{mag}
+use Rattle.whole.specs.Lists.{each-cons}
 use Rattle.whole.specs.Ring.{mag-natAbs}
 use Rattle.whole.specs.Expressions.{Within}
 use Rattle.reading.specs.declared.Bits.{Bits}
@@ -28,11 +29,7 @@ pub record Small (l : List ℤ) : Type 0 where
   pub each : (i : ℕ) → mag (getD l i (pos 0)) < 2048
 
 small-cons : (z : ℤ) (l : List ℤ) → mag z < 2048 → Small l → Small (z ∷ l)
-small-cons z l h k = record { each = go }
-  where
-    go : (i : ℕ) → mag (getD (z ∷ l) i (pos 0)) < 2048
-    go zero = h
-    go (suc i) = k .each i
+small-cons z l h k = record { each = each-cons (λ _ x. mag x < 2048) z l (pos 0) h (k .each) }
 
 small-nil : Small []
 small-nil = record { each = λ i. omega arith }

@@ -2,7 +2,7 @@
 use mathlib.Core.List.{List}
 use mathlib.Core.Path.{_≡_, refl}
 use Prim.Native.Nat.{ℕ, _*_, _<_, _≤_}
-use native.Mathlib.Omega.{arith}
+use native.Mathlib.Nat.{suc-ne-zero}
 use lib.ListN.{length}
 use lib.IntN.{ℤ}
 use borrow.Author.Tests.{lt-ltb, le-ltb}
@@ -36,11 +36,11 @@ pub record Accepted (o : Read Bits (List (List ℤ))) : Type 0 where
 pub accepted : (o : Read Bits (List (List ℤ))) {x : ScanRead} → x ≡ scanRead o → x ≡ Done → Accepted o
 unfolding scanRead
 accepted (got ls b) e h = record { blocks-read = ls; behind = b; is = refl }
-accepted (fault f) e h = let z : _≡_ {A = ℕ} 0 1 = cc in absurd (omega arith)
+accepted (fault f) e h = absurd (suc-ne-zero 0 cc)
 
 pub refused : (o : Read Bits (List (List ℤ))) {x : ScanRead} {f : Fault} → x ≡ scanRead o → x ≡ Stop f → o ≡ fault f
 unfolding scanRead
-refused (got ls b) e h = let z : _≡_ {A = ℕ} 0 1 = cc in absurd (omega arith)
+refused (got ls b) e h = absurd (suc-ne-zero 0 cc)
 refused (fault g) e h = cc
 
 -- ---- what a scan is said to leave in the scratch
