@@ -1,11 +1,11 @@
-// What the programs share: standard input read whole, the start of a buffer written, the line of a refusal, a record as its numbers,
-// a byte as a number, and the limits that they run with.
-ghost use Prim.Native.Nat.{_<_, _≤_};
+// What the programs share: standard input read whole, the start of a buffer written, the line of a refusal, a text put into a line, a
+// record as its numbers, a byte as a number, and the limits that they run with.
+ghost use Prim.Native.Nat.{_+_, _<_, _≤_};
 ghost use mathlib.Core.Path.{_≡_};
 ghost use mathlib.Core.Bool.{true};
 ghost use lib.ListN.{length};
 ghost use Rattle.streams.specs.Read.{Fills};
-ghost use Rattle.streams.specs.Lines.{refused};
+ghost use Rattle.streams.specs.Lines.{refused, fitting, placed};
 ghost use Rattle.streams.specs.Numbers.{numbersOf};
 use libc::STDIN_FILENO;
 use libc::STDOUT_FILENO;
@@ -65,6 +65,24 @@ pub fn refusal(number: u8) -> [u8; 10]
         b'0' + number % 10,
         b'\n',
     ]
+}
+
+// Puts a text into a line from a place on, as much of it as there is room for; answers the place behind it.
+pub fn put(line: &mut [u8], at: usize, text: &[u8]) -> usize
+    ensures { λ r. ⌜ r ≡ at + fitting (now (line .entry)) at (now (text .entry)) ⌝ }
+    ensures { λ _. ⌜ now (line .exit) ≡ placed (now (line .entry)) at (now (text .entry)) ⌝ }
+{
+    let mut next = at;
+    let mut i = 0usize;
+    while i < text.len() {
+        if line.len() <= next {
+            return next;
+        }
+        line[next] = text[i];
+        next += 1;
+        i += 1;
+    }
+    next
 }
 
 // A byte as a number.
