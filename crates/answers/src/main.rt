@@ -132,30 +132,12 @@ fn adler(bytes: &[u8]) -> u64 {
 
 // ---- a line
 
-fn put_byte(line: &mut [u8], at: usize, x: u8) -> usize {
-    if at < line.len() {
-        line[at] = x;
-        return at + 1;
-    }
-    at
-}
-
-fn put_text(line: &mut [u8], at: usize, text: &[u8]) -> usize {
-    let mut next = at;
-    let mut i = 0usize;
-    while i < text.len() {
-        next = put_byte(line, next, text[i]);
-        i += 1;
-    }
-    next
-}
-
 // A space, and a number's digits.
 fn put_number(line: &mut [u8], at: usize, x: u64) -> usize {
     let mut text = [0u8; 20];
     let k = io::decimal(x, &mut text);
-    let next = put_byte(line, at, b' ');
-    put_text(line, next, &text[..k])
+    let next = streams::put(line, at, b" ");
+    streams::put(line, next, &text[..k])
 }
 
 fn put_numbers(line: &mut [u8], at: usize, entries: &[usize]) -> usize {
@@ -169,15 +151,15 @@ fn put_numbers(line: &mut [u8], at: usize, entries: &[usize]) -> usize {
 }
 
 // The job, the number and what is left of the budget.
-fn open(line: &mut [u8], job: u8, number: u8, left: u64) -> usize {
-    let a = put_byte(line, 0, job);
+fn open(line: &mut [u8], job: &[u8], number: u8, left: u64) -> usize {
+    let a = streams::put(line, 0, job);
     let b = put_number(line, a, number as u64);
     put_number(line, b, left)
 }
 
 // The line is written, with its end: whether it could be.
 fn close(line: &mut [u8], at: usize) -> bool {
-    let n = put_byte(line, at, b'\n');
+    let n = streams::put(line, at, b"\n");
     streams::write_first(line, n)
 }
 
@@ -202,7 +184,7 @@ fn inspected(head: &[u8], s: &[u8]) -> bool {
     let answer = jpeg::inspect(s, number(head, 1) == 1, limits(head), budget);
     let verdict = answer.verdict;
     let rest = answer.budget;
-    let at = open(&mut line, b'1', verdict.number(), rest.left);
+    let at = open(&mut line, b"1", verdict.number(), rest.left);
     let end = put_record(&mut line, at, answer.found);
     close(&mut line, end)
 }
@@ -227,7 +209,7 @@ fn decode(
     jpeg::decode(s, found, output, scratch, budget)
 }
 
-fn drawn(job: u8, answer: Decoding, output: &[u8], scratch: &[u8]) -> bool {
+fn drawn(job: &[u8], answer: Decoding, output: &[u8], scratch: &[u8]) -> bool {
     let mut line = [0u8; 1024];
     let verdict = answer.verdict;
     let rest = answer.budget;
@@ -239,7 +221,7 @@ fn drawn(job: u8, answer: Decoding, output: &[u8], scratch: &[u8]) -> bool {
 
 fn decoded(
     head: &[u8],
-    job: u8,
+    job: &[u8],
     s: &[u8],
     found: Record,
     output: &mut [u8],
@@ -261,7 +243,7 @@ fn settled(head: &[u8], s: &[u8], output: &mut [u8]) -> bool {
     let answer = rewritten(head, s, output);
     let verdict = answer.verdict;
     let rest = answer.budget;
-    let a = open(&mut line, b'3', verdict.number(), rest.left);
+    let a = open(&mut line, b"3", verdict.number(), rest.left);
     let b = put_number(&mut line, a, answer.length as u64);
     let c = put_number(&mut line, b, adler(output));
     close(&mut line, c)
@@ -285,7 +267,7 @@ fn given(head: &[u8], s: &[u8], output: &mut [u8], scratch: &mut [u8]) -> bool {
         return bad();
     }
     let found = record(&list);
-    decoded(head, b'4', s, found, output, scratch)
+    decoded(head, b"4", s, found, output, scratch)
 }
 
 // A case whose job, colour and sizes are good.
@@ -293,7 +275,7 @@ fn job(head: &[u8], s: &[u8], output: &mut [u8], scratch: &mut [u8]) -> bool {
     let job = number(head, 0);
     match job {
         1 => inspected(head, s),
-        2 => decoded(head, b'2', s, own_record(head, s), output, scratch),
+        2 => decoded(head, b"2", s, own_record(head, s), output, scratch),
         3 => settled(head, s, output),
         4 => given(head, s, output, scratch),
         _ => bad(),

@@ -1,9 +1,8 @@
 -- What decode answers and leaves, one law for each way through its tests, in their order.
-use mathlib.Core.Path.{_≡_, refl, sym, ap, _∙_, subst, subst⁻¹}
-use mathlib.Core.Bool.{Bool, true, false, cond}
+use mathlib.Core.Path.{_≡_, refl, sym, ap, _∙_, subst⁻¹}
+use mathlib.Core.Bool.{Bool, true, false}
 use mathlib.Core.List.{List}
-use Prim.Native.Nat.{ℕ, _+_, _*_, _-_, _<_, _≤_}
-use native.Mathlib.Omega.{arith}
+use Prim.Native.Nat.{ℕ, _+_, _<_, _≤_}
 use borrow.Author.Tests.{lt-ltb, le-ltb, ltb-false}
 use lib.Dec.{T, ltb}
 use lib.IntN.{ℤ}
@@ -14,13 +13,13 @@ use Rattle.reading.specs.declared.Fault.{Fault}
 use Rattle.reading.specs.declared.Record.{Record}
 use Rattle.reading.specs.declared.Refusal.{Refusal}
 use Rattle.reading.specs.declared.Refusal.the-variants.{OverBudget, ShortRoom, NotItsRecord}
-use Rattle.reading.specs.declared.Verdict.the-variants.{Accepted, Refused}
+use Rattle.reading.specs.declared.Verdict.the-variants.{Refused}
 use Rattle.reading.specs.Tests.{_or_}
 use Rattle.reading.specs.Reader.{Read, got, fault}
 use Rattle.reading.specs.Header.{Stage, more, done, stop, header, headed}
 use Rattle.reading.specs.Scan.{levels}
-use Rattle.reading.specs.Reading.{Reading, accepted, refused, scanned, readFrom, reading, allSamples}
-use Rattle.reading.specs.Calls.{headerPrice, remaining, same, Decoded, undecoded, decodedWith, decodedFrom, decode}
+use Rattle.reading.specs.Reading.{accepted, scanned, readFrom, reading, allSamples}
+use Rattle.reading.specs.Calls.{headerPrice, remaining, same, undecoded, decodedWith, decodedFrom, decode}
 use Rattle.reading.proofs.Equal.{records-equal}
 use Rattle.reading.proofs.HeaderEnds.{or-left, or-right}
 use Rattle.jpeg.specs.Steps.{drawnAs}

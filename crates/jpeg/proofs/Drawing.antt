@@ -10,7 +10,7 @@ use native.Mathlib.Nat.{add-assoc, add-zero, zero-add, add-suc, mod-lt, zero-mul
 use lib.Arith.{digits-div, digits-mod}
 use lib.ListN.{length, getD, set, drop, length-set, length-drop, length-append, List·getD-append}
 use lib.Seq.{getD-set-same, getD-set-other, getD-append-add, getD-drop, ext-getD}
-use Rattle.whole.specs.Lists.{from, listOf, length-from, getD-from}
+use Rattle.whole.specs.Lists.{listOf, length-from, getD-from}
 use Rattle.reading.specs.Tests.{over}
 use Rattle.jpeg.specs.Drawn.{written, pixels, rows}
 

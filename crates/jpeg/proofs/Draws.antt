@@ -1,14 +1,12 @@
 -- What drawing a record leaves in the two buffers.
-use mathlib.Core.Path.{_≡_, refl, sym, ap, ap₂, _∙_, subst, subst⁻¹}
+use mathlib.Core.Path.{_≡_, sym, ap, ap₂, _∙_, subst⁻¹}
 use mathlib.Core.Bool.{Bool, true, false}
-use mathlib.Core.List.{List, _++_}
-use Prim.Native.Nat.{ℕ, _*_, _<_, _≤_}
+use mathlib.Core.List.{List}
+use Prim.Native.Nat.{ℕ, _*_, _≤_}
 use native.Mathlib.Omega.{arith}
 use lib.Dec.{T}
-use lib.IntN.{ℤ}
 use lib.ListN.{length, take, drop}
-use lib.Seq.{take-at, length-take-le}
-use Rattle.reading.specs.declared.Bits.{Bits}
+use lib.Seq.{take-at}
 use Rattle.reading.specs.declared.Budget.{Budget}
 use Rattle.reading.specs.declared.Decoding.{Decoding}
 use Rattle.reading.specs.declared.Fault.{Fault}
@@ -18,12 +16,12 @@ use Rattle.reading.specs.declared.ScanRead.{ScanRead}
 use Rattle.reading.specs.declared.ScanRead.the-variants.{Done, Stop}
 use Rattle.reading.specs.declared.Verdict.the-variants.{Accepted, Refused}
 use Rattle.reading.specs.Tests.{over}
-use Rattle.reading.specs.Reader.{Read, got, fault}
+use Rattle.reading.specs.Reader.{got}
 use Rattle.reading.specs.Header.{done, header}
 use Rattle.reading.specs.Scan.{levels, readable, scanOf}
 use Rattle.reading.specs.Answers.{scanRead}
 use Rattle.reading.specs.Reading.{allSamples, picture, drawn}
-use Rattle.reading.specs.Calls.{same, undecoded, decodedWith}
+use Rattle.reading.specs.Calls.{same}
 use Rattle.reading.proofs.Equal.{records-equal}
 use Rattle.reading.proofs.FileBytes.{AllBytes}
 use Rattle.reading.proofs.Accepted as H
@@ -77,9 +75,6 @@ module _ (s : List ℕ) (y : AllBytes s) (q r : Record) (out scratch : List ℕ)
           ∙ drawn-fault s q r out scratch rest (sym e ∙ f) g (sym (scan-is s r okay) ∙ o)
 
       module _ (p : v ≡ Done) where
-        read : E.Accepted (scanOf s r)
-        read = E.accepted (scanOf s r) e3 p
-
         scanned : levels s r ≡ got (E.accepted (scanOf s r) e3 p .blocks-read) (E.accepted (scanOf s r) e3 p .behind)
         scanned = scan-levels s r (E.accepted (scanOf s r) e3 p .is)
 

@@ -24,7 +24,7 @@ use Rattle.reading.specs.declared.Verdict.the-variants.{Accepted, Refused}
 use Rattle.reading.specs.Tests.{over}
 use Rattle.reading.specs.Reader.{Read, got, fault}
 use Rattle.reading.specs.Scan.{levels, planOf}
-use Rattle.reading.specs.Settled.{settledScan, behind, settledRead, settledOf, scanSettled, laidOver}
+use Rattle.reading.specs.Settled.{settledScan, settledRead, settledOf, scanSettled, laidOver}
 use Rattle.reading.specs.Calls.{Judged, judgedScan, remaining, Rewritten, unsettled, settledInto, settledFrom, settle}
 use Rattle.reading.proofs.HeaderEnds.{header-within}
 use Rattle.reading.proofs.FileBytes.{AllBytes}
@@ -233,9 +233,6 @@ module _ (s : List ℕ) (y : AllBytes s) (r : Record) (f : Founded s r) where
       go : (x : Read Bits (List (List ℤ))) → levels s r ≡ x → settledRead (planOf s r) x ≡ got (some t) b → length t ≤ 512 * r .blocks + 4
       go (got ls a) p q = let same : settledScan (planOf s r) ls ≡ some t = cc in settled-length s r ls a t p same
       go (fault g) p q = let z : _≡_ {A = ℕ} 0 1 = cc in let n : ⊥ = omega arith in absurd n
-
-  head-length : length (take (r .start) s) ≡ r .start
-  head-length = length-take-le (r .start) s within
 
   module _ (rest : Budget) (out : List ℕ) {v : ScanSettled} {out′ : List ℕ} (e : v ≡ scanSettled (settledOf s r)) (w : out′ ≡ scanLaid (r .start) (settledOf s r) out) where
     refiled-is : {x : Read Bits (Option (List ℕ))} → settledOf s r ≡ x → refiled s r rest out ≡ refiledBy s r rest out x

@@ -1,22 +1,21 @@
--- What the colours share: a sum of inputs with a bound each fits at every operation, whatever the numbers in it; a shift rounds down, and
--- whole multiples of 65536 pass by it. Assumes nothing.
+-- What the colours share: whole multiples of 65536 pass by a shift, which rounds down; and sums, products and shifts of numbers with a
+-- bound each are what the machine reads. Assumes nothing.
 use mathlib.Core.Path.{_≡_, refl, sym, _∙_, ap, ap₂}
 use mathlib.Core.Bool.{Bool, true, false, cond}
-use mathlib.Core.List.{List, _∷_}
 use Prim.Native.Nat.{ℕ, suc, _+_, _-_, _*_, _/_, _^_, _≤_, _<_}
 use native.Mathlib.Nat.{le-trans}
 use native.Mathlib.Omega.{arith}
 use borrow.Author.Tests.{ltb-true, ltb-false}
 use lib.Dec.{T, ltb, leb, leb→le}
 use lib.IntN.{ℤ, pos, negsuc, negℤ, natAbs, _+ℤ_, _-ℤ_, _*ℤ_, +ℤ-assoc, +ℤ-invr, +ℤ-invl, +ℤ-idl}
-use lib.ListN.{getD}
 use lib.Signed.{shrZ}
 use mir.Syntax.{w8, w32}
 use mir.Val.{Fits, SFits, toZ, ofZ}
 use mir.Facts.{toZ-ofZ}
-use Rattle.whole.specs.Expressions.{Exp, at, Under, under-cons, value, bitsOf, safe, Fine, fine, exact, abs-sub, fits-abs}
+use Rattle.whole.specs.Expressions.{abs-sub, fits-abs}
 use Rattle.whole.specs.Signs.{shifted}
 use Rattle.whole.specs.Held.{Held, held-small, number, plain, less}
+use Rattle.reading.specs.Colour.{toByte}
 
 -- ---- the division
 
@@ -60,21 +59,13 @@ passes (negsuc n) z = sym (ap (λ x. negsuc n +ℤ x) back ∙ sym (+ℤ-assoc (
     back : shrZ z 65536 ≡ pos (suc n) +ℤ shrZ w 65536
     back = ap (λ x. shrZ x 65536) (sym (sym (+ℤ-assoc m (negℤ m) z) ∙ ap (λ x. x +ℤ z) (+ℤ-invr m) ∙ +ℤ-idl z)) ∙ up (suc n) w
 
+-- so luma may be added behind it
+pub luma-behind : (y : ℕ) (p k : ℤ) → toByte (pos y +ℤ shrZ (p +ℤ k) 65536) ≡ toByte (shrZ (pos 65536 *ℤ pos y +ℤ p +ℤ k) 65536)
+luma-behind y p k = ap toByte (sym (passes (pos y) (p +ℤ k)) ∙ ap (λ z. shrZ z 65536) (sym (+ℤ-assoc (pos 65536 *ℤ pos y) p k)))
+
 shift-small : (z : ℤ) (k : ℕ) → natAbs z ≤ 65536 * k → natAbs (shrZ z 65536) ≤ k
 shift-small (pos a) k h = omega arith
 shift-small (negsuc a) k h = omega arith
-
--- ---- sums of bounded inputs
-
-pub byte-cons : (n : ℕ) {bs : List ℕ} {l : List ℤ} → Fits w8 n → Under bs l → Under (255 ∷ bs) (pos n ∷ l)
-byte-cons n h k = under-cons 255 (pos n) (omega arith) k
-
-module _ {bs : List ℕ} {l : List ℤ} (small : Under bs l) (e : Exp) (t : T (safe w32 (λ i. getD bs i 0) e)) where
-  pub ok : Fine w32 (at l) e
-  ok = fine w32 (at l) (λ i. getD bs i 0) (small .each) e t
-
-  pub read : toZ w32 (bitsOf w32 (at l) e) ≡ value (at l) e
-  read = exact w32 (at l) (λ i. getD bs i 0) (small .each) e t
 
 -- ---- numbers as the machine reads them
 

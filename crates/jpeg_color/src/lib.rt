@@ -5,7 +5,7 @@
 ghost use mathlib.Core.Path.{_≡_};
 ghost use mathlib.Core.Bool.{cond};
 ghost use Prim.Native.Nat.{_≤_};
-ghost use lib.IntN.{pos, natAbs, _-ℤ_};
+ghost use lib.IntN.{pos, natAbs, _+ℤ_, _-ℤ_};
 ghost use lib.Signed.{ltZ, shrZ};
 ghost use Rattle.reading.specs.Colour.{toByte, red, green, blue};
 ghost use Rattle.jpeg_color.specs.Parts.{redPart, greenPart, bluePart};
@@ -71,20 +71,28 @@ fn blue_part(cb: u8) -> i32
     2 * d + ((32768 - 14942 * d) >> 16)
 }
 
+// A sample: luma and what the chroma samples add to it, clamped.
+fn with_luma(y: u8, part: i32) -> u8
+    requires { ⌜ natAbs part ≤ 1024 ⌝ }
+    ensures { λ r. ⌜ r ≡ toByte (pos y +ℤ part) ⌝ }
+{
+    to_byte(y as i32 + part)
+}
+
 pub fn red(y: u8, cr: u8) -> u8
     ensures { λ r. ⌜ r ≡ red y cr ⌝ }
 {
-    to_byte(y as i32 + red_part(cr))
+    with_luma(y, red_part(cr))
 }
 
 pub fn green(y: u8, cb: u8, cr: u8) -> u8
     ensures { λ r. ⌜ r ≡ green y cb cr ⌝ }
 {
-    to_byte(y as i32 + green_part(cb, cr))
+    with_luma(y, green_part(cb, cr))
 }
 
 pub fn blue(y: u8, cb: u8) -> u8
     ensures { λ r. ⌜ r ≡ blue y cb ⌝ }
 {
-    to_byte(y as i32 + blue_part(cb))
+    with_luma(y, blue_part(cb))
 }

@@ -13,7 +13,7 @@ use lib.Seq.{getD-set-same, getD-set-other, ext-getD, getD-take}
 use lib.IntN.{ℤ, pos, natAbs, _+ℤ_, _*ℤ_, +ℤ-idr, zero-*ℤ}
 use Rattle.whole.specs.Ring.{*ℤ-assoc}
 use Rattle.whole.specs.Expressions.{at, Within}
-use Rattle.whole.specs.Lists.{from, listOf, length-from, getD-from, is-list-of, listOf-cong}
+use Rattle.whole.specs.Lists.{listOf, is-list-of, listOf-cong}
 use Rattle.reading.specs.Tests.{over}
 use Rattle.reading.specs.Transform.{zigzag, zigzagPlace, dequantizedAt, coefficients, basis, plane, sampleOf, samples, samplesTo, painted}
 use Rattle.reading.proofs.Zigzag.{zigzag-place, place-zigzag, place-below}

@@ -7,11 +7,11 @@ use Prim.Native.Nat.{ℕ, zero, suc, _+_, _-_, _*_, _/_, _%_, _≤_, _<_, zero-l
 use native.Mathlib.Decide.{ℕ-discrete}
 use native.Mathlib.Omega.{arith}
 use borrow.Author.Tests.{ltb-true, ltb-false, leb-true, leb-false}
-use lib.Dec.{leb, ltb, leb→le}
-use lib.ListN.{getD, length, List·getD-map}
+use lib.Dec.{leb, ltb}
+use lib.ListN.{length, List·getD-map}
 use lib.IntN.{ℤ, pos, negsuc, natAbs, _+ℤ_}
 use lib.Signed.{shrZ}
-use Rattle.whole.specs.Expressions.{at, Within, dot, weight, dot-small, dot-cong}
+use Rattle.whole.specs.Expressions.{at, Within, dot, dot-cong}
 use Rattle.whole.specs.Lists.{from, getD-from, is-list-of, listOf, listOf-cong}
 use Rattle.reading.specs.Colour.{toByte}
 use Rattle.reading.specs.Transform.{basis, weights, line, row, plane, clamped, sampleOf, samples}

@@ -1,4 +1,4 @@
--- Lists by their places after several stores, and a buffer whose front was written. Assumes nothing.
+-- Lists by their places after several stores, and a buffer whose front is written byte by byte. Assumes nothing.
 use mathlib.Core.Path.{_≡_, refl, sym, _∙_, ap, subst}
 use mathlib.Core.Bool.{Bool, true, false}
 use mathlib.Core.List.{List}
@@ -9,7 +9,7 @@ use borrow.Author.Tests.{ltb-true, ltb-false}
 use lib.Dec.{ltb}
 use lib.ListN.{length, getD, set, drop, length-set, length-append, length-drop, List·getD-append}
 use lib.Seq.{getD-set-same, getD-set-other, ext-getD, getD-append-add, getD-drop}
-use Rattle.whole.specs.Lists.{listOf, length-from, getD-from}
+use Rattle.whole.specs.Lists.{listOf, length-from, getD-from, stored}
 use Rattle.reading.specs.Tests.{over}
 use Rattle.jpeg_transform.specs.Passes.{place, puts}
 
@@ -43,7 +43,7 @@ module _ {A : Type 0} (l : List A) (p : ℕ → ℕ) (f : ℕ → A) where
       go (no ne) earlier = getD-set-other (puts l p f n) (p n) (p u) (f n) d (λ e. ne (own n (omega arith) e)) ∙ earlier (omega arith)
 
 -- a buffer that holds f at its first n places and what it held behind them
-pub over-is : (l old : List ℕ) (n : ℕ) (f : ℕ → ℕ) → length l ≡ length old → n ≤ length old
+over-is : (l old : List ℕ) (n : ℕ) (f : ℕ → ℕ) → length l ≡ length old → n ≤ length old
     → ((j : ℕ) → j < n → getD l j 0 ≡ f j) → ((j : ℕ) → n ≤ j → getD l j 0 ≡ getD old j 0) → l ≡ over (listOf n f) old
 over-is l old n f e h front back =
     ext-getD 0 l (over (listOf n f) old) (e ∙ sym long) (λ j p. at j (ltb j n) refl)
@@ -70,3 +70,29 @@ over-is l old n f e h front back =
       where
         split : (j : ℕ) → n ≤ j → j ≡ length (listOf n f) + (j - n)
         split j q = omega (arith, size, q)
+
+-- ---- a loop over the first 64 bytes of a buffer: k of them hold f, and what stands behind the 64 is as it was
+
+pub record Front (f : ℕ → ℕ) (old : List ℕ) (k : ℕ) (out : List ℕ) : Type 0 where
+  pub inside : k ≤ 64
+  pub long : length out ≡ length old
+  pub done : (j : ℕ) → j < k → getD out j 0 ≡ f j
+  pub left : (j : ℕ) → 64 ≤ j → getD out j 0 ≡ getD old j 0
+
+module _ {f : ℕ → ℕ} {old : List ℕ} where
+  pub front-none : Front f old 0 old
+  front-none = record { inside = omega arith; long = refl; done = λ j h. absurd (omega arith); left = λ j h. refl }
+
+  pub front-next : {k b : ℕ} {out : List ℕ} → Front f old k out → k < 64 → 64 ≤ length old → b ≡ f k → Front f old (k + 1) (set out k b)
+  front-next {k} {b} {out} d h room e = record {
+    inside = omega arith;
+    long = length-set out k b ∙ d .long;
+    done = stored (λ j. j < k) (λ j. j < k + 1) (λ j a. a ≡ f j) out k b 0 (omega (arith, d .long)) (λ j p ne. omega arith) (d .done) e;
+    left = λ j p. getD-set-other out k j b 0 (λ e. apart p e) ∙ d .left j p;
+  }
+    where
+      apart : {j : ℕ} → 64 ≤ j → j ≡ k → ⊥
+      apart p e = omega (arith, h)
+
+  pub front-all : {k : ℕ} {out : List ℕ} → Front f old k out → 64 ≤ k → 64 ≤ length old → out ≡ over (listOf 64 f) old
+  front-all {k} {out} d h room = over-is out old 64 f (d .long) room (λ j p. d .done j (omega (arith, h))) (d .left)

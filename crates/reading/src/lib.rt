@@ -172,14 +172,13 @@ impl Header {
         }
     }
 
-    // the same tables, frame and interval at another place
-    pub fn moved(self, at: usize, c: Case) -> Self
-        ensures { λ r. ⌜ r ≡ moved self at c ⌝ }
+    // the same tables at another place
+    fn tables_at(self, at: usize, c: Case, frame: Frame, interval: usize) -> Self
+        ensures { λ r. ⌜ r ≡ record { at = at; case = c; quants = self .quants; dcs = self .dcs; acs = self .acs; frame = frame; interval = interval } ⌝ }
     {
         let quants = self.quants;
         let dcs = self.dcs;
         let acs = self.acs;
-        let frame = self.frame;
         Self {
             at: at,
             case: c,
@@ -187,45 +186,29 @@ impl Header {
             dcs: dcs,
             acs: acs,
             frame: frame,
-            interval: self.interval,
+            interval: interval,
         }
+    }
+
+    // the same tables, frame and interval at another place
+    pub fn moved(self, at: usize, c: Case) -> Self
+        ensures { λ r. ⌜ r ≡ moved self at c ⌝ }
+    {
+        self.tables_at(at, c, self.frame, self.interval)
     }
 
     // behind a frame's segment
     pub fn with_frame(self, at: usize, frame: Frame) -> Self
         ensures { λ r. ⌜ r ≡ withFrame self at frame ⌝ }
     {
-        let quants = self.quants;
-        let dcs = self.dcs;
-        let acs = self.acs;
-        Self {
-            at: at,
-            case: Case::Marker,
-            quants: quants,
-            dcs: dcs,
-            acs: acs,
-            frame: frame,
-            interval: self.interval,
-        }
+        self.tables_at(at, Case::Marker, frame, self.interval)
     }
 
     // behind a segment that sets the restart interval
     pub fn with_interval(self, at: usize, interval: usize) -> Self
         ensures { λ r. ⌜ r ≡ withInterval self at interval ⌝ }
     {
-        let quants = self.quants;
-        let dcs = self.dcs;
-        let acs = self.acs;
-        let frame = self.frame;
-        Self {
-            at: at,
-            case: Case::Marker,
-            quants: quants,
-            dcs: dcs,
-            acs: acs,
-            frame: frame,
-            interval: interval,
-        }
+        self.tables_at(at, Case::Marker, self.frame, interval)
     }
 }
 

@@ -1,8 +1,8 @@
 -- A record as a list of numbers: the order in which the programs write it.
-use Prim.Native.Nat.{ℕ}
+use Prim.Native.Nat.{ℕ, _+_}
 use mathlib.Core.Bool.{cond}
 use mathlib.Core.List.{List, [], _∷_, _++_}
-use lib.ListN.{getD}
+use lib.ListN.{getD, set}
 use Rattle.reading.specs.declared.Record.{Record}
 
 abbrev three : List ℕ → List ℕ
@@ -11,14 +11,17 @@ three l = getD l 0 0 ∷ getD l 1 0 ∷ getD l 2 0 ∷ []
 abbrev four : List ℕ → List ℕ
 four l = getD l 0 0 ∷ getD l 1 0 ∷ getD l 2 0 ∷ getD l 3 0 ∷ []
 
--- the frame's numbers, the channels' ids, the places of the tables, the scan's numbers, and a number for the choice of colour
-abbrev pub listed : Record → ℕ → List ℕ
-listed r chosen =
+-- a list in which three or four numbers were stored from a place on
+abbrev pub threeAt : List ℕ → ℕ → List ℕ → List ℕ
+threeAt l at e = set (set (set l at (getD e 0 0)) (at + 1) (getD e 1 0)) (at + 2) (getD e 2 0)
+
+abbrev pub fourAt : List ℕ → ℕ → List ℕ → List ℕ
+fourAt l at e = set (threeAt l at e) (at + 3) (getD e 3 0)
+
+-- the frame's numbers, the channels' ids, the places of the tables, the scan's numbers, and 1 where colour is chosen, else 0
+unfoldable pub numbersOf : Record → List ℕ
+numbersOf r =
     (r .width ∷ r .height ∷ r .channels ∷ r .hs ∷ r .vs ∷ [])
     ++ three (r .ids) ++ three (r .qids) ++ three (r .dcids) ++ three (r .acids)
     ++ four (r .quants) ++ four (r .dcs) ++ four (r .acs)
-    ++ (r .interval ∷ r .start ∷ r .blocks ∷ r .scratch ∷ r .output ∷ r .work ∷ chosen ∷ [])
-
--- 1 where colour is chosen, else 0
-unfoldable pub numbersOf : Record → List ℕ
-numbersOf r = listed r (cond (r .colour) 1 0)
+    ++ (r .interval ∷ r .start ∷ r .blocks ∷ r .scratch ∷ r .output ∷ r .work ∷ cond (r .colour) 1 0 ∷ [])

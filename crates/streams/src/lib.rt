@@ -1,16 +1,21 @@
-// What the programs share: standard input read whole, the start of a buffer written, the line of a refusal, a record as its numbers,
-// a byte as a number, and the limits that they run with.
-ghost use Prim.Native.Nat.{_<_, _≤_};
+// What the programs share: standard input read whole, the start of a buffer written, the line of a refusal, a text put into a line, a
+// record as its numbers, a byte as a number, and the limits that they run with.
+ghost use Prim.Native.Nat.{_+_, _<_, _≤_};
 ghost use mathlib.Core.Path.{_≡_};
 ghost use mathlib.Core.Bool.{true};
 ghost use lib.ListN.{length};
 ghost use Rattle.streams.specs.Read.{Fills};
-ghost use Rattle.streams.specs.Lines.{refused};
-ghost use Rattle.streams.specs.Numbers.{numbersOf};
+ghost use Rattle.streams.specs.Lines.{refused, fitting, placed};
+ghost use Rattle.streams.specs.Numbers.{threeAt, fourAt, numbersOf};
 use libc::STDIN_FILENO;
 use libc::STDOUT_FILENO;
 use reading::Limits;
 use reading::Record;
+
+// What a program says on standard error where it cannot go on.
+pub const UNREAD: [u8; 38] = *b"tillsparrow: the input cannot be read\n";
+
+pub const UNWRITTEN: [u8; 42] = *b"tillsparrow: the output cannot be written\n";
 
 // What was read of standard input: so many bytes, or a read failed.
 pub enum Filled {
@@ -67,6 +72,24 @@ pub fn refusal(number: u8) -> [u8; 10]
     ]
 }
 
+// Puts a text into a line from a place on, as much of it as there is room for; answers the place behind it.
+pub fn put(line: &mut [u8], at: usize, text: &[u8]) -> usize
+    ensures { λ r. ⌜ r ≡ at + fitting (now (line .entry)) at (now (text .entry)) ⌝ }
+    ensures { λ _. ⌜ now (line .exit) ≡ placed (now (line .entry)) at (now (text .entry)) ⌝ }
+{
+    let mut next = at;
+    let mut i = 0usize;
+    while i < text.len() {
+        if line.len() <= next {
+            return next;
+        }
+        line[next] = text[i];
+        next += 1;
+        i += 1;
+    }
+    next
+}
+
 // A byte as a number.
 pub fn wide(x: u8) -> u64
     ensures { λ r. ⌜ (r ≡ x) × (r < 256) ⌝ }
@@ -96,54 +119,50 @@ pub fn no_limits() -> Limits
     }
 }
 
+// Three numbers into a list from a place on.
+fn three(list: &mut [usize; 36], at: usize, entries: [usize; 3])
+    requires { ⌜ at + 2 < 36 ⌝ }
+    ensures { λ _. ⌜ now (list .exit) ≡ threeAt (now (list .entry)) at entries ⌝ }
+{
+    list[at] = entries[0];
+    list[at + 1] = entries[1];
+    list[at + 2] = entries[2];
+}
+
+// Four numbers into a list from a place on.
+fn four(list: &mut [usize; 36], at: usize, entries: [usize; 4])
+    requires { ⌜ at + 3 < 36 ⌝ }
+    ensures { λ _. ⌜ now (list .exit) ≡ fourAt (now (list .entry)) at entries ⌝ }
+{
+    list[at] = entries[0];
+    list[at + 1] = entries[1];
+    list[at + 2] = entries[2];
+    list[at + 3] = entries[3];
+}
+
 // A record's 36 numbers in their order.
 pub fn numbers(found: Record) -> [usize; 36]
     ensures { λ r. ⌜ r ≡ numbersOf found ⌝ }
 {
-    let i = found.ids;
-    let q = found.qids;
-    let d = found.dcids;
-    let a = found.acids;
-    let quants = found.quants;
-    let dcs = found.dcs;
-    let acs = found.acs;
-    let colour = if found.colour { 1usize } else { 0usize };
-    [
-        found.width,
-        found.height,
-        found.channels,
-        found.hs,
-        found.vs,
-        i[0],
-        i[1],
-        i[2],
-        q[0],
-        q[1],
-        q[2],
-        d[0],
-        d[1],
-        d[2],
-        a[0],
-        a[1],
-        a[2],
-        quants[0],
-        quants[1],
-        quants[2],
-        quants[3],
-        dcs[0],
-        dcs[1],
-        dcs[2],
-        dcs[3],
-        acs[0],
-        acs[1],
-        acs[2],
-        acs[3],
-        found.interval,
-        found.start,
-        found.blocks,
-        found.scratch,
-        found.output,
-        found.work as usize,
-        colour,
-    ]
+    let mut list = [0usize; 36];
+    list[0] = found.width;
+    list[1] = found.height;
+    list[2] = found.channels;
+    list[3] = found.hs;
+    list[4] = found.vs;
+    three(&mut list, 5, found.ids);
+    three(&mut list, 8, found.qids);
+    three(&mut list, 11, found.dcids);
+    three(&mut list, 14, found.acids);
+    four(&mut list, 17, found.quants);
+    four(&mut list, 21, found.dcs);
+    four(&mut list, 25, found.acs);
+    list[29] = found.interval;
+    list[30] = found.start;
+    list[31] = found.blocks;
+    list[32] = found.scratch;
+    list[33] = found.output;
+    list[34] = found.work as usize;
+    list[35] = if found.colour { 1 } else { 0 };
+    list
 }

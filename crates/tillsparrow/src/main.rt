@@ -76,14 +76,11 @@ fn main() {
     let mut input = [0u8; 65537];
     match streams::fill(&mut input) {
         Filled::Failed => {
-            io::write_all(STDERR_FILENO, b"tillsparrow: the input cannot be read\n");
+            io::write_all(STDERR_FILENO, &streams::UNREAD);
         }
         Filled::Bytes(n) => {
             if !answer(&input, n) {
-                io::write_all(
-                    STDERR_FILENO,
-                    b"tillsparrow: the output cannot be written\n",
-                );
+                io::write_all(STDERR_FILENO, &streams::UNWRITTEN);
             }
         }
     }

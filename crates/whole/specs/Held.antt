@@ -27,9 +27,13 @@ number k = record { is = refl; small = le-refl k }
 pub input : {w : Width} {z : ℤ} {m : ℕ} → SFits w z → natAbs z ≤ m → Held w (toZ w (ofZ w z)) z m
 input h k = record { is = toZ-ofZ h; small = k }
 
+-- a number that its bound makes fit
+pub bounded : {w : Width} (z : ℤ) {m : ℕ} → natAbs z ≤ m → T (ltb m (2 ^ hbits w)) → Held w (toZ w (ofZ w z)) z m
+bounded z h t = input (fits-abs h t) h
+
 -- a number without a sign, made a signed one
 pub plain : {w : Width} {n : ℕ} (b : ℕ) → n ≤ b → T (ltb b (2 ^ hbits w)) → Held w (toZ w n) (pos n) b
-plain {w} {n} b h t = input {w = w} {z = pos n} (fits-abs h t) h
+plain {w} {n} b h t = bounded {w = w} (pos n) h t
 
 -- a number of width w, made wider
 module _ {w v : Width} {z : ℤ} (t : T (leb (hbits w) (hbits v))) (h : SFits w z) where

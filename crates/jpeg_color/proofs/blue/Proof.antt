@@ -1,37 +1,19 @@
 -- `jpeg_color::blue` meets its contract: luma passes by the division. Assumes nothing.
-use mathlib.Core.Path.{_≡_, sym, _∙_, ap}
-use mathlib.Core.List.{List, [], _∷_}
-use Prim.Native.Nat.{ℕ}
+use mathlib.Core.Path.{_∙_, ap}
 use borrow.Author.Needs.{needs}
-use lib.IntN.{ℤ, pos, _+ℤ_, _*ℤ_, +ℤ-assoc}
-use lib.Signed.{shrZ}
-use Rattle.whole.specs.Expressions.{Exp, var, add, Under, under-nil, under-cons}
+use lib.IntN.{pos, _+ℤ_, _*ℤ_}
 use Rattle.reading.specs.Colour.{toByte, chroma, blue}
 use Rattle.jpeg_color.specs.Parts.{bluePart}
-use Rattle.jpeg_color.proofs.Sums.{byte-cons, ok, read, passes}
+use Rattle.whole.specs.Held.{bounded, held-small}
+use Rattle.jpeg_color.proofs.Sums.{luma-behind}
 use Rattle.jpeg_color.proofs.blue.Statement.{statement}
 use Rattle.jpeg_color.proofs.blue.Tie as tie
 
-law : (y cb : ℕ) → toByte (pos y +ℤ bluePart cb) ≡ blue y cb
-unfolding blue bluePart
-law y cb =
-    ap toByte (sym (passes (pos y) (pos 116130 *ℤ chroma cb +ℤ pos 32768))
-    ∙ ap (λ z. shrZ z 65536) (sym (+ℤ-assoc (pos 65536 *ℤ pos y) (pos 116130 *ℤ chroma cb) (pos 32768))))
-
-abbrev S : Exp
-S = add (var 0) (var 1)
-
-abbrev inputs : tie.After-blue-part → List ℤ
-inputs c = pos (c .before .args .y) ∷ c .blue-part .result ∷ []
-
-small : (c : tie.After-blue-part) → Under (255 ∷ 1024 ∷ []) (inputs c)
-small c = byte-cons (c .before .args .y) (c .before .fits .y) (under-cons 1024 (c .blue-part .result) (c .blue-part .ensures .1) (under-nil {bs = []}))
-
 returns : tie.Need-returns
+unfolding blue bluePart
 returns c =
     let s = c .before .before in
-    c .to-byte .ensures ∙ ap toByte (read (small (c .before)) S tt ∙ ap (λ z. pos (s .args .y) +ℤ z) (c .before .blue-part .ensures .0)) ∙ law (s .args .y) (s .args .cb)
+    c .with-luma .ensures ∙ ap (λ z. toByte (pos (s .args .y) +ℤ z)) (bounded (c .before .blue-part .result) (c .before .blue-part .ensures .1) tt .is ∙ c .before .blue-part .ensures .0) ∙ luma-behind (s .args .y) (pos 116130 *ℤ chroma (s .args .cb)) (pos 32768)
 
 pub blue-spec : {M : Type 1} → statement M
-blue-spec =
-    tie.close (tie.spec (λ c. search needs) (λ c κs. search needs) (λ c. ok (small c) S tt) (λ c κs. search needs) returns)
+blue-spec = tie.close (tie.spec (λ c κs. search needs) (λ c κs. held-small (bounded (c .blue-part .result) (c .blue-part .ensures .1) tt) tt) returns)

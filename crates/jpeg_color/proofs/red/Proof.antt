@@ -1,37 +1,19 @@
 -- `jpeg_color::red` meets its contract: luma passes by the division. Assumes nothing.
-use mathlib.Core.Path.{_≡_, sym, _∙_, ap}
-use mathlib.Core.List.{List, [], _∷_}
-use Prim.Native.Nat.{ℕ}
+use mathlib.Core.Path.{_∙_, ap}
 use borrow.Author.Needs.{needs}
-use lib.IntN.{ℤ, pos, _+ℤ_, _*ℤ_, +ℤ-assoc}
-use lib.Signed.{shrZ}
-use Rattle.whole.specs.Expressions.{Exp, var, add, Under, under-nil, under-cons}
+use lib.IntN.{pos, _+ℤ_, _*ℤ_}
 use Rattle.reading.specs.Colour.{toByte, chroma, red}
 use Rattle.jpeg_color.specs.Parts.{redPart}
-use Rattle.jpeg_color.proofs.Sums.{byte-cons, ok, read, passes}
+use Rattle.whole.specs.Held.{bounded, held-small}
+use Rattle.jpeg_color.proofs.Sums.{luma-behind}
 use Rattle.jpeg_color.proofs.red.Statement.{statement}
 use Rattle.jpeg_color.proofs.red.Tie as tie
 
-law : (y cr : ℕ) → toByte (pos y +ℤ redPart cr) ≡ red y cr
-unfolding red redPart
-law y cr =
-    ap toByte (sym (passes (pos y) (pos 91881 *ℤ chroma cr +ℤ pos 32768))
-    ∙ ap (λ z. shrZ z 65536) (sym (+ℤ-assoc (pos 65536 *ℤ pos y) (pos 91881 *ℤ chroma cr) (pos 32768))))
-
-abbrev S : Exp
-S = add (var 0) (var 1)
-
-abbrev inputs : tie.After-red-part → List ℤ
-inputs c = pos (c .before .args .y) ∷ c .red-part .result ∷ []
-
-small : (c : tie.After-red-part) → Under (255 ∷ 1024 ∷ []) (inputs c)
-small c = byte-cons (c .before .args .y) (c .before .fits .y) (under-cons 1024 (c .red-part .result) (c .red-part .ensures .1) (under-nil {bs = []}))
-
 returns : tie.Need-returns
+unfolding red redPart
 returns c =
     let s = c .before .before in
-    c .to-byte .ensures ∙ ap toByte (read (small (c .before)) S tt ∙ ap (λ z. pos (s .args .y) +ℤ z) (c .before .red-part .ensures .0)) ∙ law (s .args .y) (s .args .cr)
+    c .with-luma .ensures ∙ ap (λ z. toByte (pos (s .args .y) +ℤ z)) (bounded (c .before .red-part .result) (c .before .red-part .ensures .1) tt .is ∙ c .before .red-part .ensures .0) ∙ luma-behind (s .args .y) (pos 91881 *ℤ chroma (s .args .cr)) (pos 32768)
 
 pub red-spec : {M : Type 1} → statement M
-red-spec =
-    tie.close (tie.spec (λ c. search needs) (λ c κs. search needs) (λ c. ok (small c) S tt) (λ c κs. search needs) returns)
+red-spec = tie.close (tie.spec (λ c κs. search needs) (λ c κs. held-small (bounded (c .red-part .result) (c .red-part .ensures .1) tt) tt) returns)

@@ -1,6 +1,6 @@
 -- `jpeg_transform::in_steps` meets its contract: the sum fits, the shift rounds down, and what it leaves fits 32 bits. Assumes nothing.
 use mathlib.Core.Path.{_≡_, _∙_, ap}
-use Prim.Native.Nat.{ℕ, _^_, _≤_}
+use Prim.Native.Nat.{_^_, _≤_}
 use native.Mathlib.Omega.{arith}
 use lib.Dec.{leb→le}
 use lib.IntN.{ℤ, pos, negsuc, natAbs, _+ℤ_}

@@ -4,7 +4,7 @@ use mathlib.Core.Path.{_≡_, refl, sym, _∙_, ap, ap₂, subst⁻¹}
 use mathlib.Core.List.{List}
 use Prim.Native.Nat.{ℕ, _^_}
 use borrow.Author.Needs.{needs, sfits-of}
-use lib.ListN.{length, getD, take}
+use lib.ListN.{length, take}
 use lib.IntN.{ℤ, pos, _*ℤ_}
 use mir.Syntax.{w16, w64}
 use mir.Val.{toZ, ofZ}

@@ -1,4 +1,4 @@
-use mathlib.Core.Path.{_≡_, refl}
+use mathlib.Core.Path.{refl}
 use Rattle.reading.specs.Calls.{same}
 use Rattle.jpeg.proofs.Chain.{passed, failed}
 use Rattle.jpeg.proofs.equal.same.Statement.{statement}

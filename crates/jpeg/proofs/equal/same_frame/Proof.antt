@@ -1,4 +1,4 @@
-use mathlib.Core.Path.{_≡_, refl}
+use mathlib.Core.Path.{refl}
 use borrow.Author.Tests.{eq-eqb, ne-eqb}
 use Rattle.jpeg.proofs.equal.same_frame.Statement.{statement}
 use Rattle.jpeg.proofs.equal.same_frame.Tie as tie
