@@ -1,5 +1,5 @@
 -- `symbol`: before each bit, the lengths still to come find the same symbol (`Ahead`, of Codes).
-use Prim.Native.Nat.{_+_, _-_, _*_, _<_, _≤_}
+use Prim.Native.Nat.{_+_, _*_, _<_, _≤_}
 use mathlib.Core.Path.{_∙_, sym, ap}
 use native.Mathlib.Omega.{arith}
 use lib.ListN.{getD}
