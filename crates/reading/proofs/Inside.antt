@@ -1,5 +1,5 @@
 -- A reading keeps its cursor inside the bytes: a place that is at most the file's length, with at most 8 unread bits.
-use Prim.Native.Nat.{ℕ, zero, suc, _+_, _*_, _-_, _≤_}
+use Prim.Native.Nat.{ℕ, zero, suc, _+_, _*_, _-_, _<_, _≤_}
 use mathlib.Core.Path.{_≡_, refl}
 use mathlib.Core.Bool.{Bool, true, false, cond}
 use mathlib.Core.List.{List, [], _∷_, _++_}
@@ -103,32 +103,38 @@ pub record Inside (s : List ℕ) (b : Bits) : Type 0 where
   pub unread : b .left ≤ 8
 
 -- what the next bit does to a cursor: one unread bit less, or behind one byte or two that are there
-pub one-keeps : (s : List ℕ) (P : Bits → Type 0)
-    → ((at byte n : ℕ) → P (record { at = at; byte = byte; left = suc n }) → P (record { at = at; byte = byte; left = n }))
-    → ((at byte x k : ℕ) → P (record { at = at; byte = byte; left = 0 }) → at + k ≤ length s → P (record { at = at + k; byte = x; left = 7 }))
-    → Keeps P (one s)
+pub one-leads : (s : List ℕ) (P Q : Bits → Type 0)
+    → ((at byte n : ℕ) → P (record { at = at; byte = byte; left = suc n }) → Q (record { at = at; byte = byte; left = n }))
+    → ((at byte x k : ℕ) → P (record { at = at; byte = byte; left = 0 }) → 0 < k → at + k ≤ length s → Q (record { at = at + k; byte = x; left = 7 }))
+    → (b : Bits) → P b → Stands Q (one s b)
 unfolding one
-one-keeps s P less next = record { kept = λ b h. by (b .at) (b .byte) (b .left) h }
+one-leads s P Q less next b h = by (b .at) (b .byte) (b .left) h
   where
-    full : (at byte : ℕ) (o : Option ℕ) → getElem? s (at + 1) ≡ o → P (record { at = at; byte = byte; left = 0 }) → Stands P (afterFull at o)
+    full : (at byte : ℕ) (o : Option ℕ) → getElem? s (at + 1) ≡ o → P (record { at = at; byte = byte; left = 0 }) → Stands Q (afterFull at o)
     full at byte none e h = tt
     full at byte (some y) e h = go (eqb y 0)
       where
-        go : (t : Bool) → Stands P (cond t (opened 255 (at + 2)) (fault Bare))
-        go true = next at byte 255 2 h (omega (arith, element-there s (at + 1) y e))
+        go : (t : Bool) → Stands Q (cond t (opened 255 (at + 2)) (fault Bare))
+        go true = next at byte 255 2 h (omega arith) (omega (arith, element-there s (at + 1) y e))
         go false = tt
 
-    new : (at byte : ℕ) (o : Option ℕ) → getElem? s at ≡ o → P (record { at = at; byte = byte; left = 0 }) → Stands P (freshFrom s at o)
+    new : (at byte : ℕ) (o : Option ℕ) → getElem? s at ≡ o → P (record { at = at; byte = byte; left = 0 }) → Stands Q (freshFrom s at o)
     new at byte none e h = tt
     new at byte (some x) e h = go (eqb x 255)
       where
-        go : (t : Bool) → Stands P (cond t (afterFull at (getElem? s (at + 1))) (opened x (at + 1)))
+        go : (t : Bool) → Stands Q (cond t (afterFull at (getElem? s (at + 1))) (opened x (at + 1)))
         go true = full at byte (getElem? s (at + 1)) refl h
-        go false = next at byte x 1 h (omega (arith, element-there s at x e))
+        go false = next at byte x 1 h (omega arith) (omega (arith, element-there s at x e))
 
-    by : (at byte n : ℕ) → P (record { at = at; byte = byte; left = n }) → Stands P (oneAt s at byte n)
+    by : (at byte n : ℕ) → P (record { at = at; byte = byte; left = n }) → Stands Q (oneAt s at byte n)
     by at byte zero h = new at byte (getElem? s at) refl h
     by at byte (suc n) h = less at byte n h
+
+one-keeps : (s : List ℕ) (P : Bits → Type 0)
+    → ((at byte n : ℕ) → P (record { at = at; byte = byte; left = suc n }) → P (record { at = at; byte = byte; left = n }))
+    → ((at byte x k : ℕ) → P (record { at = at; byte = byte; left = 0 }) → at + k ≤ length s → P (record { at = at + k; byte = x; left = 7 }))
+    → Keeps P (one s)
+one-keeps s P less next = record { kept = one-leads s P P less (λ at byte x k h _ r. next at byte x k h r) }
 
 pub one-inside : (s : List ℕ) → Keeps (Inside s) (one s)
 one-inside s =

@@ -35,6 +35,7 @@ pub mod Zigzag
 pub mod Levels
 pub mod OnePicture
 pub mod WantOfCode
+pub mod SettledLength
 pub mod Decodings
 pub mod Upstream
 pub mod SettledCalls
