@@ -1,22 +1,14 @@
 -- `jpeg_color::red` meets its contract: luma passes by the division. Assumes nothing.
-use mathlib.Core.Path.{_≡_, sym, _∙_, ap}
+use mathlib.Core.Path.{_∙_, ap}
 use mathlib.Core.List.{List, [], _∷_}
-use Prim.Native.Nat.{ℕ}
 use borrow.Author.Needs.{needs}
-use lib.IntN.{ℤ, pos, _+ℤ_, _*ℤ_, +ℤ-assoc}
-use lib.Signed.{shrZ}
+use lib.IntN.{ℤ, pos, _+ℤ_}
 use Rattle.whole.specs.Expressions.{Exp, var, add, Under, under-nil, under-cons}
-use Rattle.reading.specs.Colour.{toByte, chroma, red}
-use Rattle.jpeg_color.specs.Parts.{redPart}
-use Rattle.jpeg_color.proofs.Sums.{byte-cons, ok, read, passes}
+use Rattle.reading.specs.Colour.{toByte}
+use Rattle.jpeg_color.proofs.Sums.{byte-cons, ok, read}
+use Rattle.jpeg_color.proofs.Luma.{red-is}
 use Rattle.jpeg_color.proofs.red.Statement.{statement}
 use Rattle.jpeg_color.proofs.red.Tie as tie
-
-law : (y cr : ℕ) → toByte (pos y +ℤ redPart cr) ≡ red y cr
-unfolding red redPart
-law y cr =
-    ap toByte (sym (passes (pos y) (pos 91881 *ℤ chroma cr +ℤ pos 32768))
-    ∙ ap (λ z. shrZ z 65536) (sym (+ℤ-assoc (pos 65536 *ℤ pos y) (pos 91881 *ℤ chroma cr) (pos 32768))))
 
 abbrev S : Exp
 S = add (var 0) (var 1)
@@ -30,7 +22,7 @@ small c = byte-cons (c .before .args .y) (c .before .fits .y) (under-cons 1024 (
 returns : tie.Need-returns
 returns c =
     let s = c .before .before in
-    c .to-byte .ensures ∙ ap toByte (read (small (c .before)) S tt ∙ ap (λ z. pos (s .args .y) +ℤ z) (c .before .red-part .ensures .0)) ∙ law (s .args .y) (s .args .cr)
+    c .to-byte .ensures ∙ ap toByte (read (small (c .before)) S tt ∙ ap (λ z. pos (s .args .y) +ℤ z) (c .before .red-part .ensures .0)) ∙ red-is (s .args .y) (s .args .cr)
 
 pub red-spec : {M : Type 1} → statement M
 red-spec =
