@@ -15,7 +15,6 @@ use mir.Facts.{toZ-ofZ}
 use Rattle.whole.specs.Expressions.{abs-sub, fits-abs}
 use Rattle.whole.specs.Signs.{shifted}
 use Rattle.whole.specs.Held.{Held, held-small, number, plain, less}
-use Rattle.reading.specs.Colour.{toByte}
 
 -- ---- the division
 
@@ -58,10 +57,6 @@ passes (negsuc n) z = sym (ap (λ x. negsuc n +ℤ x) back ∙ sym (+ℤ-assoc (
 
     back : shrZ z 65536 ≡ pos (suc n) +ℤ shrZ w 65536
     back = ap (λ x. shrZ x 65536) (sym (sym (+ℤ-assoc m (negℤ m) z) ∙ ap (λ x. x +ℤ z) (+ℤ-invr m) ∙ +ℤ-idl z)) ∙ up (suc n) w
-
--- so luma may be added behind it
-pub luma-behind : (y : ℕ) (p k : ℤ) → toByte (pos y +ℤ shrZ (p +ℤ k) 65536) ≡ toByte (shrZ (pos 65536 *ℤ pos y +ℤ p +ℤ k) 65536)
-luma-behind y p k = ap toByte (sym (passes (pos y) (p +ℤ k)) ∙ ap (λ z. shrZ z 65536) (sym (+ℤ-assoc (pos 65536 *ℤ pos y) p k)))
 
 shift-small : (z : ℤ) (k : ℕ) → natAbs z ≤ 65536 * k → natAbs (shrZ z 65536) ≤ k
 shift-small (pos a) k h = omega arith

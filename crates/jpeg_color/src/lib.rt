@@ -38,8 +38,33 @@ pub fn to_byte(v: i32) -> u8
     at_most(at_least(v)) as u8
 }
 
+// The same three for numbers of 16 bits: a vector has twice as many of them, and a loop that clamps them stays in them.
+fn short_at_least(short: i16) -> i16
+    ensures { λ r. ⌜ r ≡ cond (ltZ short (pos 0)) (pos 0) short ⌝ }
+{
+    if short < 0 {
+        return 0;
+    }
+    short
+}
+
+fn short_at_most(short: i16) -> i16
+    ensures { λ r. ⌜ r ≡ cond (ltZ (pos 255) short) (pos 255) short ⌝ }
+{
+    if short > 255 {
+        return 255;
+    }
+    short
+}
+
+pub fn short_to_byte(short: i16) -> u8
+    ensures { λ r. ⌜ r ≡ toByte short ⌝ }
+{
+    short_at_most(short_at_least(short)) as u8
+}
+
 // What a chroma sample adds to luma in red: 91881 is 65536 + 26345.
-fn red_part(cr: u8) -> i32
+pub fn red_part(cr: u8) -> i32
     ensures { λ r. ⌜ (r ≡ redPart cr) × (natAbs r ≤ 1024) ⌝ }
 {
     let d = cr as i32 - 128;
@@ -55,7 +80,7 @@ fn divided(p: i32, q: i32) -> i32
 }
 
 // What both add in green: -46802 is 18734 - 65536.
-fn green_part(cb: u8, cr: u8) -> i32
+pub fn green_part(cb: u8, cr: u8) -> i32
     ensures { λ r. ⌜ (r ≡ greenPart cb cr) × (natAbs r ≤ 1024) ⌝ }
 {
     let b = cb as i32 - 128;
@@ -64,7 +89,7 @@ fn green_part(cb: u8, cr: u8) -> i32
 }
 
 // What a chroma sample adds in blue: 116130 is 2 x 65536 - 14942.
-fn blue_part(cb: u8) -> i32
+pub fn blue_part(cb: u8) -> i32
     ensures { λ r. ⌜ (r ≡ bluePart cb) × (natAbs r ≤ 1024) ⌝ }
 {
     let d = cb as i32 - 128;
