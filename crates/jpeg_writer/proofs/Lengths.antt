@@ -1,52 +1,33 @@
 -- How long a settled scan can be: a block has at most 1808 bits, and the scan of n blocks at most 512 n + 4 bytes. So no place
 -- in a settled file comes near 2^64.
-use Prim.Native.Nat.{ℕ, zero, suc, _+_, _*_, _-_, _/_, _%_, _^_, _<_, _≤_}
-use mathlib.Core.Path.{_≡_, refl, ap, subst}
-use mathlib.Core.Bool.{Bool, true, false, cond}
+use Prim.Native.Nat.{ℕ, zero, suc, _+_, _*_, _/_, _%_, _^_, _<_, _≤_}
+use mathlib.Core.Path.{_≡_, ap, subst}
+use mathlib.Core.Bool.{Bool, true, false}
 use mathlib.Core.List.{List, [], _∷_}
 use mathlib.Core.Option.{Option, none, some}
 use native.Mathlib.Omega.{arith}
 use native.Mathlib.Nat.{le-trans, suc-ne-zero}
 use lib.Dec.{eqb}
 use lib.IntN.{ℤ, pos, natAbs, _-ℤ_}
-use lib.ListN.{length, getD, set, take, length-append}
+use lib.ListN.{length, getD, set, take, drop, length-append, length-take}
 use lib.Seq.{sets}
-use borrow.Author.Tests.{eqb-true, eqb-false}
 use Rattle.reading.specs.declared.Bits.{Bits}
 use Rattle.reading.specs.declared.Record.{Record}
 use Rattle.reading.specs.Reader.{got}
-use Rattle.reading.specs.Huffman.{codeOf}
+use Rattle.reading.specs.Huffman.{tableAt, codeOf}
 use Rattle.reading.specs.Layout.{channelOf, restartDue, restartCode}
 use Rattle.reading.specs.Scan.{Plan, planOf, noPredictors, levels}
-use Rattle.reading.specs.Settled.{Written, Coder, _then_, size, fieldOf, valueBits, firstBits, skips, levelBits, restBits, blockBy, blockBits, stuffed, padding, packNext, packFrom, Coded, bytesOf, onto, cut, predictors, written, scanBytes, settledScan}
+use Rattle.reading.specs.Settled.{Written, Coder, _then_, size, fieldOf, valueBits, firstBits, skips, levelBits, restBits, blockBy, blockBits, packed, Coded, bytesOf, onto, cut, predictors, written, scanBytes, settledScan}
 use Rattle.reading.specs.Tables.{dcAt, acAt}
 use Rattle.reading.proofs.Unstuffed.{length-bitsOf}
 use Rattle.reading.proofs.Counted.{Whole, blocks-counted, blocks-whole}
+use Rattle.reading.proofs.SettledLength.{UpTo, up-then, up-wide, code-few, packed-length}
 use Rattle.jpeg_writer.specs.Steps.{categoryOf}
 use Rattle.jpeg_writer.specs.Page.{spot, bytesAt}
-use Rattle.jpeg_writer.proofs.Coders.{Code, is-code, code-of-table}
 use Rattle.jpeg_writer.proofs.Forwards.{bytes-laid}
 use Rattle.jpeg_writer.proofs.Turns.{category-few}
 
 -- ---- bits
-
--- at most n bits, where any are written
-abbrev UpTo : ℕ → Written → Type 0
-UpTo n none = Unit {0}
-UpTo n (some w) = length w ≤ n
-
-up-then : (m n : ℕ) (a b : Written) → UpTo m a → UpTo n b → UpTo (m + n) (a then b)
-up-then m n none b h l = tt
-up-then m n (some v) none h l = tt
-up-then m n (some v) (some w) h l = omega (arith, length-append v w)
-
-up-wide : (m n : ℕ) (w : Written) → m ≤ n → UpTo m w → UpTo n w
-up-wide m n none l h = tt
-up-wide m n (some w) l h = le-trans h l
-
-up-code : (w : Written) → Code w → UpTo 16 w
-up-code none c = tt
-up-code (some w) (is-code n v a b) = omega (arith, length-bitsOf n v)
 
 up-value : (v : ℤ) → UpTo 12 (some (valueBits v))
 unfolding categoryOf
@@ -54,17 +35,17 @@ up-value v = omega (arith, length-bitsOf (size v) (fieldOf (size v) v), category
 
 -- a coder whose codes have at most 16 bits
 pub record Short (c : Coder) : Type 0 where
-  pub each : (x : ℕ) → Code (c x)
+  pub each : (x : ℕ) → UpTo 16 (c x)
 
 module _ {c : Coder} (s : Short c) where
   up-skips : (n : ℕ) → UpTo (16 * n) (skips c n)
   up-skips zero = omega arith
-  up-skips (suc n) = up-wide (16 + 16 * n) (16 * suc n) (c 240 then skips c n) (omega arith) (up-then 16 (16 * n) (c 240) (skips c n) (up-code (c 240) (s .each 240)) (up-skips n))
+  up-skips (suc n) = up-wide (16 + 16 * n) (16 * suc n) (c 240 then skips c n) (omega arith) (up-then 16 (16 * n) (c 240) (skips c n) (s .each 240) (up-skips n))
 
   -- sixteen zeros that wait count one bit each
   up-rest : (l : List ℤ) (run : ℕ) → UpTo (28 * length l + run + 16) (restBits c l run)
   up-rest [] zero = omega arith
-  up-rest [] (suc run) = up-wide 16 (28 * 0 + suc run + 16) (c 0) (omega arith) (up-code (c 0) (s .each 0))
+  up-rest [] (suc run) = up-wide 16 (28 * 0 + suc run + 16) (c 0) (omega arith) (s .each 0)
   up-rest (v ∷ l) run = go (eqb (natAbs v) 0) (up-rest l)
     where
       go : (t : Bool) → ((run : ℕ) → UpTo (28 * length l + run + 16) (restBits c l run)) → UpTo (28 * suc (length l) + run + 16) (levelBits c run v (restBits c l) t)
@@ -72,7 +53,7 @@ module _ {c : Coder} (s : Short c) where
       go false ih =
           up-wide (16 * (run / 16) + (16 + (12 + (28 * length l + 0 + 16)))) (28 * suc (length l) + run + 16) (levelBits c run v (restBits c l) false) (omega arith)
           (up-then (16 * (run / 16)) (16 + (12 + (28 * length l + 0 + 16))) (skips c (run / 16)) (c (16 * (run % 16) + size v) then some (valueBits v) then restBits c l 0) (up-skips (run / 16))
-          (up-then 16 (12 + (28 * length l + 0 + 16)) (c (16 * (run % 16) + size v)) (some (valueBits v) then restBits c l 0) (up-code (c (16 * (run % 16) + size v)) (s .each (16 * (run % 16) + size v)))
+          (up-then 16 (12 + (28 * length l + 0 + 16)) (c (16 * (run % 16) + size v)) (some (valueBits v) then restBits c l 0) (s .each (16 * (run % 16) + size v))
           (up-then 12 (28 * length l + 0 + 16) (some (valueBits v)) (restBits c l 0) (up-value v) (ih 0))))
 
 up-block : {dc ac : Coder} → Short dc → Short ac → (p : ℤ) (l : List ℤ) → UpTo (28 * length l + 16) (blockBy dc ac p l)
@@ -80,41 +61,17 @@ up-block s t p [] = tt
 up-block {dc} {ac} s t p (v ∷ l) =
     up-wide (16 + 12 + (28 * length l + 0 + 16)) (28 * suc (length l) + 16) (firstBits dc (v -ℤ p) then restBits ac l 0) (omega arith)
     (up-then (16 + 12) (28 * length l + 0 + 16) (firstBits dc (v -ℤ p)) (restBits ac l 0)
-    (up-then 16 12 (dc (size (v -ℤ p))) (some (valueBits (v -ℤ p))) (up-code (dc (size (v -ℤ p))) (s .each (size (v -ℤ p)))) (up-value (v -ℤ p)))
+    (up-then 16 12 (dc (size (v -ℤ p))) (some (valueBits (v -ℤ p))) (s .each (size (v -ℤ p))) (up-value (v -ℤ p)))
     (up-rest t l 0))
 
 -- ---- bytes
-
-stuffed-length : (x : ℕ) (l : List ℕ) → length (stuffed x l) ≤ 2 + length l
-stuffed-length x l = go (eqb x 255)
-  where
-    go : (t : Bool) → length (cond t (x ∷ 0 ∷ l) (x ∷ l)) ≤ 2 + length l
-    go true = omega arith
-    go false = omega arith
-
--- eight bits make at most two bytes, and so does what is left of them
-pack-length : (bs : List ℕ) (v m : ℕ) → 0 < m → m ≤ 8 → 4 * length (packFrom bs v m) + m ≤ length bs + 15
-pack-length [] v m a b = go (eqb m 8) refl
-  where
-    go : (t : Bool) → eqb m 8 ≡ t → 4 * length (padding v t m) + m ≤ 0 + 15
-    go true e = omega arith
-    go false e =
-        let n : m ≡ 8 → ⊥ = eqb-false m 8 e in
-        omega (arith, stuffed-length (v * 2 ^ m + (2 ^ m - 1)) [])
-pack-length (b ∷ bs) v m a h = go (eqb m 1) refl (pack-length bs)
-  where
-    go : (t : Bool) → eqb m 1 ≡ t → ((w n : ℕ) → 0 < n → n ≤ 8 → 4 * length (packFrom bs w n) + n ≤ length bs + 15) → 4 * length (packNext (2 * v + b) m (packFrom bs) t) + m ≤ suc (length bs) + 15
-    go true e ih = omega (arith, eqb-true m 1 e, stuffed-length (2 * v + b) (packFrom bs 0 8), ih 0 8 (omega arith) (omega arith))
-    go false e ih =
-        let n : m ≡ 1 → ⊥ = eqb-false m 1 e in
-        omega (arith, ih (2 * v + b) (m - 1) (omega arith) (omega arith))
 
 -- four times the bytes of a part, but for its padding
 abbrev weight : Coded → ℕ
 weight c = length (c .bits) + 4 * length (c .after)
 
 bytes-weight : (c : Coded) → 4 * length (bytesOf c) ≤ weight c + 7
-bytes-weight c = omega (arith, pack-length (c .bits) 0 8 (omega arith) (omega arith), length-append (packFrom (c .bits) 0 8) (c .after))
+bytes-weight c = omega (arith, packed-length (c .bits), length-append (packed (c .bits)) (c .after))
 
 abbrev Weighs : ℕ → Option Coded → Type 0
 Weighs n none = Unit {0}
@@ -144,9 +101,12 @@ pub record ShortPlan (p : Plan) : Type 0 where
 pub plan-short : (s : List ℕ) (r : Record) → ShortPlan (planOf s r)
 plan-short s r =
     record {
-      dcs = λ c. record { each = λ x. code-of-table (take (r .start) s) (dcAt r c) x };
-      acs = λ c. record { each = λ x. code-of-table (take (r .start) s) (acAt r c) x };
+      dcs = λ c. record { each = code-few (tableAt (take (r .start) s) (dcAt r c)) (few (dcAt r c)) };
+      acs = λ c. record { each = code-few (tableAt (take (r .start) s) (acAt r c)) (few (acAt r c)) };
     }
+  where
+    few : (x : ℕ) → length (take 16 (drop x (take (r .start) s))) ≤ 16
+    few x = omega (arith, length-take 16 (drop x (take (r .start) s)))
 
 written-weight : (p : Plan) → ShortPlan p → (ls : List (List ℤ)) → Whole ls → (k : ℕ) (ps : List ℤ) → Weighs (8 + 1823 * length ls) (written p k ps ls)
 written-weight p s [] h k ps = omega arith

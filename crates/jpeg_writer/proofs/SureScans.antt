@@ -5,7 +5,7 @@ use mathlib.Core.Bool.{Bool, true, false, cond}
 use mathlib.Core.List.{List, [], _∷_}
 use mathlib.Core.Option.{Option, none, some}
 use native.Mathlib.Decide.{ℕ-discrete}
-use native.Mathlib.Nat.{not-suc-le-zero, le-trans, suc-ne-zero}
+use native.Mathlib.Nat.{not-suc-le-zero, suc-ne-zero}
 use native.Mathlib.Omega.{arith}
 use lib.Dec.{eqb, ltb}
 use lib.IntN.{ℤ}
@@ -30,13 +30,13 @@ use Rattle.reading.specs.Tests.{isNone}
 use Rattle.reading.proofs.Counted.{scan-levels}
 use Rattle.reading.proofs.FileBytes.{AllBytes}
 use Rattle.reading.proofs.Places.{channel-in}
+use Rattle.reading.proofs.SettledLength.{settled-short}
 use Rattle.reading.proofs.WantOfCode.{ZeroCoded, no-want}
 use Rattle.jpeg_scan.specs.declared.Plan.{Plan}
 use Rattle.jpeg_scan.proofs.Standing.{Readable, readable-says, lumas-some, Ready}
 use Rattle.jpeg_writer.specs.Words.{wordOf, codeWords}
 use Rattle.jpeg_writer.specs.Sheets.{wordsIn, basesOf, Sheet, zerosCoded}
 use Rattle.jpeg_writer.specs.Pass.{sure, foretold}
-use Rattle.jpeg_writer.proofs.Lengths.{settled-length}
 use Rattle.jpeg_writer.proofs.SettledAnswers.{Passed, settled-is, stays-stop, stays-lacking, stays-short, writes-all}
 use Rattle.jpeg_writer.proofs.SheetFilled.{words-dc, words-ac}
 
@@ -79,23 +79,23 @@ coded-each ws (suc n) e i h = go (eqb (getD ws (256 * n) 0) 0) refl e (coded-eac
         here (yes same) = subst⁻¹ (λ (j : ℕ). getD ws (256 * j) 0 ≡ 0 → ⊥) same (eqb-false (getD ws (256 * n) 0) 0 q)
         here (no d) = ih f i (below d)
 
-module _ (r : Record) (ws : List ℕ) (room : ℕ) where
-  pub sure-short : room < 512 * r .blocks + 4 → false ≡ sure r ws room
+module _ (r : Record) (ws : List ℕ) (coded room : ℕ) where
+  pub sure-short : room < 2 * coded + 4 * r .blocks → false ≡ sure r ws coded room
   unfolding sure
-  sure-short h = rw (lt-ltb room (512 * r .blocks + 4) h) refl
+  sure-short h = rw (lt-ltb room (2 * coded + 4 * r .blocks) h) refl
 
-  pub sure-room : 512 * r .blocks + 4 ≤ room → zerosCoded ws (2 * r .channels) ≡ sure r ws room
+  pub sure-room : 2 * coded + 4 * r .blocks ≤ room → zerosCoded ws (2 * r .channels) ≡ sure r ws coded room
   unfolding sure
-  sure-room h = rw (le-ltb room (512 * r .blocks + 4) h) refl
+  sure-room h = rw (le-ltb room (2 * coded + 4 * r .blocks) h) refl
 
   -- and what it says
-  sure-says : sure r ws room ≡ true → (512 * r .blocks + 4 ≤ room) × (zerosCoded ws (2 * r .channels) ≡ true)
+  sure-says : sure r ws coded room ≡ true → (2 * coded + 4 * r .blocks ≤ room) × (zerosCoded ws (2 * r .channels) ≡ true)
   unfolding sure
-  sure-says e = go (ltb room (512 * r .blocks + 4)) refl e
+  sure-says e = go (ltb room (2 * coded + 4 * r .blocks)) refl e
     where
-      go : (t : Bool) → ltb room (512 * r .blocks + 4) ≡ t → cond t false (zerosCoded ws (2 * r .channels)) ≡ true → (512 * r .blocks + 4 ≤ room) × (zerosCoded ws (2 * r .channels) ≡ true)
+      go : (t : Bool) → ltb room (2 * coded + 4 * r .blocks) ≡ t → cond t false (zerosCoded ws (2 * r .channels)) ≡ true → (2 * coded + 4 * r .blocks ≤ room) × (zerosCoded ws (2 * r .channels) ≡ true)
       go true q f = absurd (suc-ne-zero 0 cc)
-      go false q f = (ltb-false room (512 * r .blocks + 4) q, f)
+      go false q f = (ltb-false room (2 * coded + 4 * r .blocks) q, f)
 
 -- ---- a word for the symbol 0 is a code for it
 
@@ -154,15 +154,18 @@ module _ {s : List ℕ} {r : Record} {n : Plan} (u : Ready s r n) {ws : List ℕ
           subst⁻¹ (λ (t : Table). isNone (codeOf t 0) ≡ false) (u .numbers .ac-is c (third c h))
           (word-coded (512 * c + 256) ws _ (words-ac (u .numbers) w c (third c h)) (subst (λ (a : ℕ). getD ws a 0 ≡ 0 → ⊥) place (coded-each ws (2 * r .channels) e (2 * c + 1) (omega arith))))
 
-  pub sure-fits : r .blocks < 2 ^ 32 → AllBytes s → (room : ℕ) → sure r ws room ≡ true → Roomy (settledOf s r) room
+  sure-fits : r .blocks < 2 ^ 32 → AllBytes s → (room : ℕ) → sure r ws (length s - n .start) room ≡ true → Roomy (settledOf s r) room
   sure-fits few ab room e = subst⁻¹ (λ (o : Read Bits (Option (List ℕ))). Roomy o room) (settled-is u few) (go (scan.scanOf s r) refl)
     where
+      starts : n .start ≡ r .start
+      starts = ap (λ (k : Plan). k .start) (u .plan-is)
+
       go : (o : Read Bits (List (List ℤ))) → scan.scanOf s r ≡ o → Roomy (settledRead (scan.planOf s r) o) room
       go (got ls b) f =
-          let says = sure-says r ws room e in
+          let says = sure-says r ws (length s - n .start) room e in
           let l = scan-levels s r f in
           let t = no-want s r ls b ab (zero-coded (says .1)) l in
-          subst⁻¹ (λ (o : Option (List ℕ)). Roomy (got o b) room) (t .1) (le-trans (settled-length s r ls b (t .0) l (t .1)) (says .0))
+          subst⁻¹ (λ (o : Option (List ℕ)). Roomy (got o b) room) (t .1) (omega (arith, settled-short s r ls b (t .0) ab l (t .1), says .0, starts))
       go (fault f) g = tt
 
   -- what reading it tells
@@ -220,7 +223,7 @@ module _ (old : List ℕ) (t : Bool) (o : Read Bits (Option (List ℕ))) {x : Sc
         go true (got w b) h = let same : n ≡ length old = cc in let y : ⊥ = omega arith in absurd y
         go true (fault k) h = absurd (suc-ne-zero 0 cc)
 
-    pub told-fits : n ≤ length old → (t ≡ true → Roomy o (length old)) → {y : ScanSettled} {new : List ℕ} → Passed o old y new → new ≡ laidOver o old
+    told-fits : n ≤ length old → (t ≡ true → Roomy o (length old)) → {y : ScanSettled} {new : List ℕ} → Passed o old y new → new ≡ laidOver o old
     unfolding foretold scanSettled laidOver
     told-fits l room {y} {new} a = go t o e room a
       where
@@ -229,3 +232,9 @@ module _ (old : List ℕ) (t : Bool) (o : Read Bits (Option (List ℕ))) {x : Sc
         go true (got none b) h q a = absurd (q refl)
         go true (got (some k) b) h q a = writes-all (got (some k) b) old refl refl (q refl) a
         go true (fault k) h q a = absurd (suc-ne-zero 0 cc)
+
+-- what was foretold to fit is written
+module _ {s : List ℕ} {r : Record} {n : Plan} (u : Ready s r n) {ws : List ℕ} (w : Sheet (take (n .start) s) (basesOf n) 6 ws) (few : r .blocks < 2 ^ 32) (ab : AllBytes s) (old : List ℕ) where
+  pub sure-written : {x : ScanSettled} → x ≡ foretold (sure r ws (length s - n .start) (length old)) (length old) (settledOf s r) → {k : ℕ} → x ≡ answer.Done k → k ≤ length old
+      → {y : ScanSettled} {new : List ℕ} → Passed (settledOf s r) old y new → new ≡ laidOver (settledOf s r) old
+  sure-written e g l a = told-fits old (sure r ws (length s - n .start) (length old)) (settledOf s r) e g l (sure-fits u w few ab (length old)) a

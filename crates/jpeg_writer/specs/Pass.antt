@@ -120,11 +120,11 @@ pub record Measures (s : List ℕ) (n : Plan) (r : ScanSettled) : Type 0 where
 
 -- ---- what is known before a scan is written
 
--- whatever its levels, a record's scan has room and lacks no code: n blocks make at most 512 n + 4 bytes, and each channel's two
--- tables have a code for the symbol 0
-unfoldable pub sure : Record → List ℕ → ℕ → Bool
+-- whatever its levels, a record's scan has room and lacks no code: n blocks that are read from `coded` bytes make at most
+-- 2 coded + 4 n bytes, and each channel's two tables have a code for the symbol 0
+unfoldable pub sure : Record → List ℕ → ℕ → ℕ → Bool
 unfolding zerosCoded
-sure r ws room = cond (ltb room (512 * r .blocks + 4)) false (zerosCoded ws (2 * r .channels))
+sure r ws coded room = cond (ltb room (2 * coded + 4 * r .blocks)) false (zerosCoded ws (2 * r .channels))
 
 -- of such a scan, where it was accepted, that it fits; of any other what it comes to
 unfoldable pub foretold : Bool → ℕ → Read Bits (Option (List ℕ)) → ScanSettled

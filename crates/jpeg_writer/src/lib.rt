@@ -4,7 +4,7 @@
 ghost use mathlib.Core.Path.{_≡_};
 ghost use mathlib.Core.List.{[], _∷_};
 ghost use mathlib.Core.Option.{some};
-ghost use Prim.Native.Nat.{_+_, _*_, _≤_, _<_, _^_};
+ghost use Prim.Native.Nat.{_+_, _*_, _-_, _≤_, _<_, _^_};
 ghost use lib.IntN.{natAbs};
 ghost use lib.ListN.{length, getD, replicate, take};
 ghost use Rattle.reading.specs.Huffman.{bitsOf, tableAt};
@@ -630,13 +630,19 @@ fn zeros_coded(words: &[u32], tables: usize) -> bool
     true
 }
 
-// Whether a scan, if it can be read, can be written too. A code can be wanting only for the symbol 0: it ends a block, and a place
-// behind a table's symbols reads as it.
-fn sure(found: Record, words: &[u32], room: usize) -> bool
+// Whether a scan of `coded` bytes, if it can be read, can be written too. It never has more than twice those bytes, and 4 for each
+// block: the room is taken by halves, so that no sum is past 64 bits. A code can be wanting only for the symbol 0: it ends a block,
+// and a place behind a table's symbols reads as it.
+fn sure(found: Record, words: &[u32], coded: usize, room: usize) -> bool
     requires { ⌜ (found .blocks < 2 ^ 32) × (found .channels ≤ 3) × (length (now words) ≡ 1536) ⌝ }
-    ensures { λ r. ⌜ r ≡ sure found (now (words .entry)) room ⌝ }
+    ensures { λ r. ⌜ r ≡ sure found (now (words .entry)) coded room ⌝ }
 {
-    if room < 512 * found.blocks + 4 {
+    let half = room / 2;
+    let ends = 2 * found.blocks;
+    if half < ends {
+        return false;
+    }
+    if half - ends < coded {
         return false;
     }
     zeros_coded(words, 2 * found.channels)
@@ -646,9 +652,10 @@ fn sure(found: Record, words: &[u32], room: usize) -> bool
 // alone does not tell.
 fn foretell(s: &[u8], found: Record, plan: Plan, words: &[u32], room: usize) -> ScanSettled
     requires { ⌜ (plan ≡ planFor (now s) found) × (0 < plan .per) × (found .blocks < 2 ^ 32) × Sheet (take (plan .start) (now s)) (basesOf plan) 6 (now words) ⌝ }
-    ensures { λ r. ⌜ r ≡ foretold (sure found (now (words .entry)) room) room (settledOf (now (s .entry)) found) ⌝ }
+    ensures { λ r. ⌜ r ≡ foretold (sure found (now (words .entry)) (length (now (s .entry)) - plan .start) room) room (settledOf (now (s .entry)) found) ⌝ }
 {
-    if !sure(found, words, room) {
+    let coded = s.len() - plan.start;
+    if !sure(found, words, coded, room) {
         return measure(s, plan, words);
     }
     match jpeg_scan::validate(s, found) {

@@ -52,7 +52,8 @@ code-length : (cs : List ℕ) (len f i : ℕ) → length (codeAt cs len f i) ≤
 code-length [] len f i = omega arith
 code-length (c ∷ cs) len f i = go (ltb i c) (code-length cs (suc len) (2 * f + c) (i - c))
   where
-    go : (t : Bool) → length (codeAt cs (suc len) (2 * f + c) (i - c)) ≤ suc len + length cs → length (cond t (bitsOf (suc len) (2 * f + i)) (codeAt cs (suc len) (2 * f + c) (i - c))) ≤ len + suc (length cs)
+    go : (t : Bool) → length (codeAt cs (suc len) (2 * f + c) (i - c)) ≤ suc len + length cs
+        → length (cond t (bitsOf (suc len) (2 * f + i)) (codeAt cs (suc len) (2 * f + c) (i - c))) ≤ len + suc (length cs)
     go true h = omega (arith, length-bitsOf (suc len) (2 * f + i))
     go false h = omega arith
 
@@ -79,15 +80,18 @@ gives Q (fault f) h = tt
 given : {A : Type 0} (Q : A → Bits → Type 0) (x : Read Bits A) → Gives Q x → (a : A) (t : Bits) → x ≡ got a t → Q a t
 given Q x h a t e = subst (Gives Q) e h
 
-gives-also : {A : Type 0} (Q R : A → Bits → Type 0) (x : Read Bits A) → Gives Q x → ((a : A) (t : Bits) → Q a t → R a t) → Gives R x
+gives-also : {A : Type 0} (Q R : A → Bits → Type 0) (x : Read Bits A)
+    → Gives Q x → ((a : A) (t : Bits) → Q a t → R a t) → Gives R x
 gives-also Q R (got a t) q h = h a t q
 gives-also Q R (fault f) q h = tt
 
-gives-then : {A B : Type 0} (Q : A → Bits → Type 0) (R : B → Bits → Type 0) (x : Read Bits A) (f : A → Reader Bits B) → Gives Q x → ((a : A) (t : Bits) → Q a t → Gives R (f a t)) → Gives R (onward x f)
+gives-then : {A B : Type 0} (Q : A → Bits → Type 0) (R : B → Bits → Type 0) (x : Read Bits A) (f : A → Reader Bits B)
+    → Gives Q x → ((a : A) (t : Bits) → Q a t → Gives R (f a t)) → Gives R (onward x f)
 gives-then Q R (got a t) f q h = h a t q
 gives-then Q R (fault e) f q h = tt
 
-gives-rule : {B : Type 0} (R : B → Bits → Type 0) (t : Bool) (f : Unit {0} → Reader Bits B) (b : Bits) → (T t → Gives R (f tt b)) → Gives R (onward (rule t b) f)
+gives-rule : {B : Type 0} (R : B → Bits → Type 0) (t : Bool) (f : Unit {0} → Reader Bits B) (b : Bits)
+    → (T t → Gives R (f tt b)) → Gives R (onward (rule t b) f)
 gives-rule R true f b h = h tt
 gives-rule R false f b h = tt
 
@@ -105,7 +109,10 @@ ahead-then m n b c t h l = record { far = omega (arith, h .far, l .far) }
 
 module _ (s : List ℕ) where
   one-ahead : (b : Bits) → Gives (λ x t. Ahead 1 b t) (one s b)
-  one-ahead b = go (one s b) (one-leads s (Ahead 0 b) (Ahead 1 b) (λ at byte n h. record { far = omega (arith, h .far) }) (λ at byte x k h l r. record { far = omega (arith, h .far, l) }) b (ahead-none b))
+  one-ahead b =
+      go (one s b)
+      (one-leads s (Ahead 0 b) (Ahead 1 b) (λ at byte n h. record { far = omega (arith, h .far) })
+      (λ at byte x k h l r. record { far = omega (arith, h .far, l) }) b (ahead-none b))
     where
       go : (x : Read Bits ℕ) → Stands (Ahead 1 b) x → Gives (λ x t. Ahead 1 b t) x
       go (got a t) h = h
@@ -115,7 +122,8 @@ module _ (s : List ℕ) where
   field-ahead zero v b = ahead-none b
   field-ahead (suc n) v b =
       gives-then (λ x c. Ahead 1 b c) (λ x t. Ahead (suc n) b t) (one s b) _ (one-ahead b)
-      (λ x c h. gives-also (λ y t. Ahead n c t) (λ y t. Ahead (suc n) b t) (fieldFrom (one s) n (2 * v + x) c) (field-ahead n (2 * v + x) c) (λ y t l. record { far = omega (arith, h .far, l .far) }))
+      (λ x c h. gives-also (λ y t. Ahead n c t) (λ y t. Ahead (suc n) b t) (fieldFrom (one s) n (2 * v + x) c) (field-ahead n (2 * v + x) c)
+      (λ y t l. record { far = omega (arith, h .far, l .far) }))
 
   -- a value that was read: its category, and at least as many bits
   amplitude-ahead : (n : ℕ) → n ≤ 12 → (b : Bits) → Gives (λ v t. Ahead n b t × (size v ≡ n)) (amplitude (one s) n b)
@@ -143,19 +151,24 @@ module _ (s : List ℕ) where
     where
       go : (x : ℕ) (u : Bits) → Ahead 1 b u → (y : Bool) → ltb (2 * v + x) (2 * f + c) ≡ y
           → (2 * f + c ≤ 2 * v + x → Gives (λ i t. Code cs (index + c) i u t) (codeFrom (one s) cs (2 * v + x) (2 * f + c) (index + c) u))
-          → Gives (λ i t. Code (c ∷ cs) index i b t) (cond y (give (index + (2 * v + x - 2 * f))) (codeFrom (one s) cs (2 * v + x) (2 * f + c) (index + c)) u)
+          → Gives (λ i t. Code (c ∷ cs) index i b t)
+          (cond y (give (index + (2 * v + x - 2 * f))) (codeFrom (one s) cs (2 * v + x) (2 * f + c) (index + c)) u)
       go x u l true e ih = record { bits = 1; ahead = l; each = short }
         where
           short : (len g k : ℕ) → index + k ≤ index + (2 * v + x - 2 * f) → length (codeAt (c ∷ cs) len g k) ≤ len + 1
           short len g k p =
               let here : k < c = omega (arith, h, ltb-true (2 * v + x) (2 * f + c) e) in
               rw (lt-ltb k c here) (omega (arith, length-bitsOf (suc len) (2 * g + k)))
-      go x u l false e ih = gives-also (λ i t. Code cs (index + c) i u t) (λ i t. Code (c ∷ cs) index i b t) (codeFrom (one s) cs (2 * v + x) (2 * f + c) (index + c) u) (ih (ltb-false (2 * v + x) (2 * f + c) e)) more
+      go x u l false e ih =
+          gives-also (λ i t. Code cs (index + c) i u t) (λ i t. Code (c ∷ cs) index i b t) (codeFrom (one s) cs (2 * v + x) (2 * f + c) (index + c) u)
+          (ih (ltb-false (2 * v + x) (2 * f + c) e)) more
         where
           more : (i : ℕ) (t : Bits) → Code cs (index + c) i u t → Code (c ∷ cs) index i b t
-          more i t r = record { bits = 1 + r .bits; ahead = ahead-then 1 (r .bits) b u t l (r .ahead); each = λ len g k p. test len g k p (ltb k c) refl }
+          more i t r =
+              record { bits = 1 + r .bits; ahead = ahead-then 1 (r .bits) b u t l (r .ahead); each = λ len g k p. test len g k p (ltb k c) refl }
             where
-              test : (len g k : ℕ) → index + k ≤ i → (y : Bool) → ltb k c ≡ y → length (cond y (bitsOf (suc len) (2 * g + k)) (codeAt cs (suc len) (2 * g + c) (k - c))) ≤ len + (1 + r .bits)
+              test : (len g k : ℕ) → index + k ≤ i → (y : Bool) → ltb k c ≡ y
+                  → length (cond y (bitsOf (suc len) (2 * g + k)) (codeAt cs (suc len) (2 * g + c) (k - c))) ≤ len + (1 + r .bits)
               test len g k p true q = omega (arith, length-bitsOf (suc len) (2 * g + k))
               test len g k p false q =
                   let there : index + c + (k - c) ≤ i = omega (arith, ltb-false k c q, p) in
@@ -166,7 +179,8 @@ earliest : (ys : List ℕ) (i k j : ℕ) → placeFrom ys (getD ys i 0) k ≡ so
 earliest [] i k j e = absurd (absurd-some j e)
 earliest (y ∷ ys) i k j e = go i (eqb (getD (y ∷ ys) i 0) y) refl e (λ i e. earliest ys i (suc k) j e)
   where
-    go : (i : ℕ) (t : Bool) → eqb (getD (y ∷ ys) i 0) y ≡ t → cond t (some k) (placeFrom ys (getD (y ∷ ys) i 0) (suc k)) ≡ some j → ((i : ℕ) → placeFrom ys (getD ys i 0) (suc k) ≡ some j → j ≤ suc k + i) → j ≤ k + i
+    go : (i : ℕ) (t : Bool) → eqb (getD (y ∷ ys) i 0) y ≡ t → cond t (some k) (placeFrom ys (getD (y ∷ ys) i 0) (suc k)) ≡ some j
+        → ((i : ℕ) → placeFrom ys (getD ys i 0) (suc k) ≡ some j → j ≤ suc k + i) → j ≤ k + i
     go i true p f ih = let same : k ≡ j = cc in omega arith
     go zero false p f ih = absurd (eqb-false y y p refl)
     go (suc i) false p f ih = omega (arith, ih i f)
@@ -182,7 +196,8 @@ paid-then m n v w b c t h l =
     record {
       bits = h .bits + l .bits;
       ahead = ahead-then (h .bits) (l .bits) b c t (h .ahead) (l .ahead);
-      fits = up-wide (h .bits + m + (l .bits + n)) (h .bits + l .bits + (m + n)) (v then w) (omega arith) (up-then (h .bits + m) (l .bits + n) v w (h .fits) (l .fits));
+      fits = up-wide (h .bits + m + (l .bits + n)) (h .bits + l .bits + (m + n)) (v then w) (omega arith)
+          (up-then (h .bits + m) (l .bits + n) v w (h .fits) (l .fits));
     }
 
 value-paid : (v : ℤ) (n : ℕ) (b t : Bits) → Ahead n b t → size v ≡ n → Paid 0 (some (valueBits v)) b t
@@ -192,12 +207,17 @@ module _ (s : List ℕ) (t : Table) (ab : AllBytes (t .symbols)) where
   symbol-paid : (b : Bits) → Gives (λ x u. Paid 0 (codeOf t x) b u × (x < 256)) (symbol (one s) t b)
   unfolding symbol codeOf
   symbol-paid b =
-      gives-then (λ i u. Code s (t .counts) 0 i b u) (λ x u. Paid 0 (codeOf t x) b u × (x < 256)) (codeFrom (one s) (t .counts) 0 0 0 b) _ (code-ahead s (t .counts) 0 0 0 (omega arith) b)
-      (λ i u r. (record { bits = r .bits; ahead = r .ahead; fits = go i u r (placeOf (t .symbols) (getD (t .symbols) i 0)) refl }, byte-below (t .symbols) ab i))
+      gives-then (λ i u. Code s (t .counts) 0 i b u) (λ x u. Paid 0 (codeOf t x) b u × (x < 256)) (codeFrom (one s) (t .counts) 0 0 0 b) _
+      (code-ahead s (t .counts) 0 0 0 (omega arith) b)
+      (λ i u r. (paid i u r, byte-below (t .symbols) ab i))
     where
-      go : (i : ℕ) (u : Bits) (r : Code s (t .counts) 0 i b u) (o : Option ℕ) → placeOf (t .symbols) (getD (t .symbols) i 0) ≡ o → UpTo (r .bits + 0) (codeAtPlace t o)
+      go : (i : ℕ) (u : Bits) (r : Code s (t .counts) 0 i b u) (o : Option ℕ)
+          → placeOf (t .symbols) (getD (t .symbols) i 0) ≡ o → UpTo (r .bits + 0) (codeAtPlace t o)
       go i u r none e = tt
       go i u r (some j) e = omega (arith, r .each 0 0 j (omega (arith, earliest (t .symbols) i 0 j e)))
+
+      paid : (i : ℕ) (u : Bits) → Code s (t .counts) 0 i b u → Paid 0 (codeOf t (getD (t .symbols) i 0)) b u
+      paid i u r = record { bits = r .bits; ahead = r .ahead; fits = go i u r (placeOf (t .symbols) (getD (t .symbols) i 0)) refl }
 
 -- ---- the later levels
 
@@ -233,12 +253,15 @@ module _ (s : List ℕ) (ac : Table) (ab : AllBytes (ac .symbols)) (few : length
         record {
           bits = paid .bits;
           ahead = paid .ahead;
-          fits = subst⁻¹ (λ o. UpTo (paid .bits + (debt + 16)) o) (ap (λ l. restBits (codeOf ac) l (16 * q)) (sym (nil (zeros n))) ∙ zeros-run ac n [] (16 * q)) (nothing-later (paid .bits) debt (16 * q + n));
+          fits = subst⁻¹ (λ o. UpTo (paid .bits + (debt + 16)) o) same (nothing-later (paid .bits) debt (16 * q + n));
         }
       where
         nil : (k : List ℤ) → k ++ [] ≡ k
         nil [] = refl
         nil (z ∷ k) = ap (λ y. z ∷ y) (nil k)
+
+        same : restBits (codeOf ac) (zeros n) (16 * q) ≡ restBits (codeOf ac) [] (16 * q + n)
+        same = ap (λ l. restBits (codeOf ac) l (16 * q)) (sym (nil (zeros n))) ∙ zeros-run ac n [] (16 * q)
 
     -- 16 zeros
     later-skip : x ≡ 240 → (l : List ℤ) (t : Bits) → Later l c t → Later (zeros 16 ++ l) b t
@@ -247,19 +270,24 @@ module _ (s : List ℕ) (ac : Table) (ab : AllBytes (ac .symbols)) (few : length
           bits = paid .bits + p .bits;
           ahead = ahead-then (paid .bits) (p .bits) b c t (paid .ahead) (p .ahead);
           fits = subst⁻¹ (λ o. UpTo (paid .bits + p .bits + (debt + 16)) o) (zeros-run ac 16 l (16 * q) ∙ ap (restBits (codeOf ac) l) more)
-              (up-wide (p .bits + (paid .bits + 0 + debt + 16)) (paid .bits + p .bits + (debt + 16)) (restBits (codeOf ac) l (16 * suc q)) (omega arith) (p .fits));
+              (up-wide (p .bits + (paid .bits + 0 + debt + 16)) (paid .bits + p .bits + (debt + 16)) (restBits (codeOf ac) l (16 * suc q)) (omega arith)
+              (p .fits));
         }
       where
         more : 16 * q + 16 ≡ 16 * suc q
         more = omega arith
 
         p : Paid (paid .bits + 0 + debt + 16) (restBits (codeOf ac) l (16 * suc q)) c t
-        p = r (suc q) (paid .bits + 0 + debt) (up-then (paid .bits + 0) debt (codeOf ac 240) (skips (codeOf ac) q) (subst (λ y. UpTo (paid .bits + 0) (codeOf ac y)) e (paid .fits)) h)
+        p =
+            r (suc q) (paid .bits + 0 + debt)
+            (up-then (paid .bits + 0) debt (codeOf ac 240) (skips (codeOf ac) q) (subst (λ y. UpTo (paid .bits + 0) (codeOf ac y)) e (paid .fits)) h)
 
     -- a run of zeros and a value
-    later-value : (run n : ℕ) → run ≡ x / 16 → n ≡ x % 16 → 1 ≤ n → (v : ℤ) (d : Bits) → Ahead n c d → size v ≡ n → (l : List ℤ) (t : Bits) → Later l d t → Later (zeros run ++ v ∷ l) b t
+    later-value : (run n : ℕ) → run ≡ x / 16 → n ≡ x % 16 → 1 ≤ n → (v : ℤ) (d : Bits) → Ahead n c d → size v ≡ n
+        → (l : List ℤ) (t : Bits) → Later l d t → Later (zeros run ++ v ∷ l) b t
     later-value run n hr hn least v d a hs l t r q debt h =
-        subst⁻¹ (λ o. Paid (debt + 16) o b t) (zeros-run ac run (v ∷ l) (16 * q) ∙ ap (levelBits (codeOf ac) (16 * q + run) v (restBits (codeOf ac) l)) (not-zero v n least hs)) all
+        subst⁻¹ (λ o. Paid (debt + 16) o b t)
+        (zeros-run ac run (v ∷ l) (16 * q) ∙ ap (levelBits (codeOf ac) (16 * q + run) v (restBits (codeOf ac) l)) (not-zero v n least hs)) all
       where
         short : run < 16
         short = omega (arith, hr, byte)
@@ -271,7 +299,12 @@ module _ (s : List ℕ) (ac : Table) (ab : AllBytes (ac .symbols)) (few : length
         code = omega (arith, short, hs, hr, hn)
 
         before : Paid debt (skips (codeOf ac) ((16 * q + run) / 16)) b b
-        before = record { bits = 0; ahead = ahead-none b; fits = subst⁻¹ (λ k. UpTo (0 + debt) (skips (codeOf ac) k)) runs (up-wide debt (0 + debt) (skips (codeOf ac) q) (omega arith) h) }
+        before =
+            record {
+              bits = 0;
+              ahead = ahead-none b;
+              fits = subst⁻¹ (λ k. UpTo (0 + debt) (skips (codeOf ac) k)) runs (up-wide debt (0 + debt) (skips (codeOf ac) q) (omega arith) h);
+            }
 
         behind : Paid 16 (restBits (codeOf ac) l 0) d t
         behind = r 0 0 (omega arith)
@@ -279,18 +312,22 @@ module _ (s : List ℕ) (ac : Table) (ab : AllBytes (ac .symbols)) (few : length
         own : Paid 0 (codeOf ac (16 * ((16 * q + run) % 16) + size v)) b c
         own = subst⁻¹ (λ y. Paid 0 (codeOf ac y) b c) code paid
 
-        all : Paid (debt + 16) (skips (codeOf ac) ((16 * q + run) / 16) then codeOf ac (16 * ((16 * q + run) % 16) + size v) then some (valueBits v) then restBits (codeOf ac) l 0) b t
+        all : Paid (debt + 16) (levelBits (codeOf ac) (16 * q + run) v (restBits (codeOf ac) l) false) b t
         all =
             paid-then debt 16 (skips (codeOf ac) ((16 * q + run) / 16)) _ b b t before
             (paid-then 0 16 (codeOf ac (16 * ((16 * q + run) % 16) + size v)) (some (valueBits v) then restBits (codeOf ac) l 0) b c t own
             (paid-then 0 16 (some (valueBits v)) (restBits (codeOf ac) l 0) c d t (value-paid v n c d a hs) behind))
 
-    answered-later : (place : ℕ) (m : ℕ → Reader Bits (List ℤ)) → ((i : ℕ) (d : Bits) → Gives (λ l t. Later l d t) (m i d)) → (a : Ask) → Says x a → Gives (λ l t. Later l b t) (answered (one s) place m a c)
+    answered-later : (place : ℕ) (m : ℕ → Reader Bits (List ℤ)) → ((i : ℕ) (d : Bits) → Gives (λ l t. Later l d t) (m i d))
+        → (a : Ask) → Says x a → Gives (λ l t. Later l b t) (answered (one s) place m a c)
     answered-later place m more end e = later-end (64 - place)
-    answered-later place m more skip e = gives-then (λ l t. Later l c t) (λ l t. Later l b t) (m (place + 16) c) _ (more (place + 16) c) (λ l t r. later-skip e l t r)
+    answered-later place m more skip e =
+        gives-then (λ l t. Later l c t) (λ l t. Later l b t) (m (place + 16) c) _ (more (place + 16) c) (λ l t r. later-skip e l t r)
     answered-later place m more (value run n) e =
-        gives-then (λ v d. Ahead n c d × (size v ≡ n)) (λ l t. Later l b t) (amplitude (one s) n c) _ (amplitude-ahead s n (omega (arith, e .3)) c)
-        (λ v d h. gives-then (λ l t. Later l d t) (λ l t. Later l b t) (m (place + run + 1) d) _ (more (place + run + 1) d) (λ l t r. later-value run n (e .0) (e .1) (e .2) v d (h .0) (h .1) l t r))
+        gives-then (λ v d. Ahead n c d × (size v ≡ n)) (λ l t. Later l b t) (amplitude (one s) n c) _
+        (amplitude-ahead s n (omega (arith, e .3)) c)
+        (λ v d h. gives-then (λ l t. Later l d t) (λ l t. Later l b t) (m (place + run + 1) d) _ (more (place + run + 1) d)
+        (λ l t r. later-value run n (e .0) (e .1) (e .2) v d (h .0) (h .1) l t r))
     answered-later place m more wrong e = tt
 
   rest-paid : (n place : ℕ) (b : Bits) → Gives (λ l t. Later l b t) (rest (one s) ac n place b)
@@ -298,7 +335,8 @@ module _ (s : List ℕ) (ac : Table) (ab : AllBytes (ac .symbols)) (few : length
   rest-paid zero place b = later-nil b
   rest-paid (suc n) place b = go (leb 64 place) (rest-paid n)
     where
-      go : (y : Bool) → ((i : ℕ) (d : Bits) → Gives (λ l t. Later l d t) (rest (one s) ac n i d)) → Gives (λ l t. Later l b t) (cond y (give []) (symbol (one s) ac >>= λ x. answered (one s) place (rest (one s) ac n) (asked place x)) b)
+      go : (y : Bool) → ((i : ℕ) (d : Bits) → Gives (λ l t. Later l d t) (rest (one s) ac n i d))
+          → Gives (λ l t. Later l b t) (cond y (give []) (symbol (one s) ac >>= λ x. answered (one s) place (rest (one s) ac n) (asked place x)) b)
       go true ih = later-nil b
       go false ih =
           gives-then (λ x c. Paid 0 (codeOf ac x) b c × (x < 256)) (λ l t. Later l b t) (symbol (one s) ac b) _ (symbol-paid s ac ab b)
@@ -319,7 +357,8 @@ module _ (s : List ℕ) (ch : Channel) (dc : Tabled (ch .dc)) (ac : Tabled (ch .
       (λ few. gives-then (λ d t. Ahead x c t × (size d ≡ x)) Q (amplitude (one s) x c) _ (amplitude-ahead s x (omega (arith, leb→le x 11 few)) c)
       (λ d t l. gives-rule Q (predictable (p +ℤ d)) _ t
       (λ _. subst⁻¹ (λ z. Paid 0 (firstBits (codeOf (ch .dc)) z) b t) (minus p d)
-      (paid-then 0 0 (codeOf (ch .dc) (size d)) (some (valueBits d)) b c t (subst⁻¹ (λ y. Paid 0 (codeOf (ch .dc) y) b c) (l .1) (h .0)) (value-paid d x c t (l .0) (l .1)))))))
+      (paid-then 0 0 (codeOf (ch .dc) (size d)) (some (valueBits d)) b c t (subst⁻¹ (λ y. Paid 0 (codeOf (ch .dc) y) b c) (l .1) (h .0))
+      (value-paid d x c t (l .0) (l .1)))))))
     where
       Q : ℤ → Bits → Type 0
       Q v t = Paid 0 (firstBits (codeOf (ch .dc)) (v -ℤ p)) b t
@@ -327,8 +366,10 @@ module _ (s : List ℕ) (ch : Channel) (dc : Tabled (ch .dc)) (ac : Tabled (ch .
   block-paid : (p : ℤ) (b : Bits) → Gives (λ l t. Paid 16 (blockBits ch p l) b t) (block (one s) (ch .dc) (ch .ac) p b)
   unfolding block
   block-paid p b =
-      gives-then (λ v c. Paid 0 (firstBits (codeOf (ch .dc)) (v -ℤ p)) b c) (λ l t. Paid 16 (blockBits ch p l) b t) (first (one s) (ch .dc) p b) _ (first-paid p b)
-      (λ v c h. gives-then (λ l t. Later s (ch .ac) (ac .bytes) (ac .few) l c t) (λ l t. Paid 16 (blockBits ch p l) b t) (rest (one s) (ch .ac) 63 1 c) _ (rest-paid s (ch .ac) (ac .bytes) (ac .few) 63 1 c)
+      gives-then (λ v c. Paid 0 (firstBits (codeOf (ch .dc)) (v -ℤ p)) b c) (λ l t. Paid 16 (blockBits ch p l) b t)
+      (first (one s) (ch .dc) p b) _ (first-paid p b)
+      (λ v c h. gives-then (λ l t. Later s (ch .ac) (ac .bytes) (ac .few) l c t) (λ l t. Paid 16 (blockBits ch p l) b t)
+      (rest (one s) (ch .ac) 63 1 c) _ (rest-paid s (ch .ac) (ac .bytes) (ac .few) 63 1 c)
       (λ l t r. paid-then 0 16 (firstBits (codeOf (ch .dc)) (v -ℤ p)) (restBits (codeOf (ch .ac)) l 0) b c t h (r 0 0 (omega arith))))
 
 -- ---- bytes
@@ -351,7 +392,8 @@ pack-length [] v m a b = go (eqb m 8) refl
         omega (arith, stuffed-length (v * 2 ^ m + (2 ^ m - 1)) [])
 pack-length (b ∷ bs) v m a h = go (eqb m 1) refl (pack-length bs)
   where
-    go : (t : Bool) → eqb m 1 ≡ t → ((w n : ℕ) → 0 < n → n ≤ 8 → length (packFrom bs w n) ≤ 2 * ((length bs + 15 - n) / 8)) → length (packNext (2 * v + b) m (packFrom bs) t) ≤ 2 * ((suc (length bs) + 15 - m) / 8)
+    go : (t : Bool) → eqb m 1 ≡ t → ((w n : ℕ) → 0 < n → n ≤ 8 → length (packFrom bs w n) ≤ 2 * ((length bs + 15 - n) / 8))
+        → length (packNext (2 * v + b) m (packFrom bs) t) ≤ 2 * ((suc (length bs) + 15 - m) / 8)
     go true e ih = omega (arith, eqb-true m 1 e, stuffed-length (2 * v + b) (packFrom bs 0 8), ih 0 8 (omega arith) (omega arith))
     go false e ih =
         let n : m ≡ 1 → ⊥ = eqb-false m 1 e in
@@ -403,14 +445,18 @@ module _ (s : List ℕ) (p : Plan) (g : TabledPlan p) where
   After n k ps = (b : Bits) → Gives (λ ls t. Weighs n b t (written p k ps ls)) (blocks (file s) p n k ps b)
 
   -- one block, and those behind it
-  from-weighs : (n k : ℕ) → ((ps : List ℤ) → After n (suc k) ps) → (ps qs : List ℤ) (b c : Bits) → predictors (restartDue (p .shape) (p .interval) k) ps ≡ qs
-      → ((o : Option Coded) (t : Bits) → Weighs (suc n) c t o → Weighs (suc n) b t (cut (restartDue (p .shape) (p .interval) k) (restartCode (p .shape) (p .interval) k) o))
+  from-weighs : (n k : ℕ) → ((ps : List ℤ) → After n (suc k) ps) → (ps qs : List ℤ) (b c : Bits)
+      → predictors (restartDue (p .shape) (p .interval) k) ps ≡ qs
+      → ((o : Option Coded) (t : Bits) → Weighs (suc n) c t o
+      → Weighs (suc n) b t (cut (restartDue (p .shape) (p .interval) k) (restartCode (p .shape) (p .interval) k) o))
       → Gives (λ ls t. Weighs (suc n) b t (written p k ps ls)) (from (file s) p n k qs c)
   unfolding file
   from-weighs n k ih ps qs b c e marked =
       gives-then (λ l d. Paid 16 (blockBits (p .channels ch) (getD qs ch (pos 0)) l) c d) (λ ls t. Weighs (suc n) b t (written p k ps ls))
-      (block (one s) (p .channels ch .dc) (p .channels ch .ac) (getD qs ch (pos 0)) c) _ (block-paid s (p .channels ch) (g .dcs ch) (g .acs ch) (getD qs ch (pos 0)) c)
-      (λ l d h. gives-then (λ ls t. Weighs n d t (written p (suc k) (set qs ch (getD l 0 (pos 0))) ls)) (λ ls t. Weighs (suc n) b t (written p k ps ls))
+      (block (one s) (p .channels ch .dc) (p .channels ch .ac) (getD qs ch (pos 0)) c) _
+      (block-paid s (p .channels ch) (g .dcs ch) (g .acs ch) (getD qs ch (pos 0)) c)
+      (λ l d h. gives-then (λ ls t. Weighs n d t (written p (suc k) (set qs ch (getD l 0 (pos 0))) ls))
+      (λ ls t. Weighs (suc n) b t (written p k ps ls))
       (blocks (file s) p n (suc k) (set qs ch (getD l 0 (pos 0))) d) _ (ih (set qs ch (getD l 0 (pos 0))) d)
       (λ ls t r. marked (both (predictors (restartDue (p .shape) (p .interval) k) ps) l ls) t
       (subst⁻¹ (λ q. Weighs (suc n) c t (both q l ls)) e
@@ -440,22 +486,29 @@ module _ (s : List ℕ) (p : Plan) (g : TabledPlan p) where
           → Gives Q (onward (cond due (mark s code >> give noPredictors) (give ps) b) (from (file s) p n k))
       go true e f = seen (padded b and isAt s (b .at) 255 and isAt s (b .at + 1) code)
         where
-          seen : (y : Bool) → Gives Q (onward (onward (cond y (got nothing (restarted b)) (fault Broken)) (λ _. give noPredictors)) (from (file s) p n k))
-          seen true = f noPredictors b (restarted b) (ap (λ d. predictors d ps) e) (λ o t h. subst⁻¹ (λ d. Weighs (suc n) b t (cut d code o)) e (weighs-cut (suc n) code o b t h))
+          seen : (y : Bool)
+              → Gives Q (onward (onward (cond y (got nothing (restarted b)) (fault Broken)) (λ _. give noPredictors)) (from (file s) p n k))
+          seen true =
+              f noPredictors b (restarted b) (ap (λ d. predictors d ps) e)
+              (λ o t h. subst⁻¹ (λ d. Weighs (suc n) b t (cut d code o)) e (weighs-cut (suc n) code o b t h))
           seen false = tt
-      go false e f = f ps b b (ap (λ d. predictors d ps) e) (λ o t h. subst⁻¹ (λ d. Weighs (suc n) b t (cut d code o)) e (weighs-uncut (suc n) code o b t h))
+      go false e f =
+          f ps b b (ap (λ d. predictors d ps) e)
+          (λ o t h. subst⁻¹ (λ d. Weighs (suc n) b t (cut d code o)) e (weighs-uncut (suc n) code o b t h))
 
   -- the scan ends the file
   scan-weighs : (n : ℕ) (b : Bits) → Gives (λ ls t. Weighs n b t (written p 0 noPredictors ls) × (t .at + 2 ≡ length s)) (scan (file s) p n b)
   unfolding file
   scan-weighs n b =
-      gives-then (λ ls t. Weighs n b t (written p 0 noPredictors ls)) Q (blocks (file s) p n 0 noPredictors b) _ (blocks-weigh n 0 noPredictors b)
+      gives-then (λ ls t. Weighs n b t (written p 0 noPredictors ls)) Q (blocks (file s) p n 0 noPredictors b) _
+      (blocks-weigh n 0 noPredictors b)
       (λ ls t h. go ls t h (padded t) (isAt s (t .at) 255) (isAt s (t .at + 1) 217) (eqb (t .at + 2) (length s)) refl)
     where
       Q : List (List ℤ) → Bits → Type 0
       Q ls t = Weighs n b t (written p 0 noPredictors ls) × (t .at + 2 ≡ length s)
 
-      go : (ls : List (List ℤ)) (t : Bits) → Weighs n b t (written p 0 noPredictors ls) → (w x y z : Bool) → eqb (t .at + 2) (length s) ≡ z → Gives Q (onward (rule (w and x and y and z) t) (λ _. give ls))
+      go : (ls : List (List ℤ)) (t : Bits) → Weighs n b t (written p 0 noPredictors ls) → (w x y z : Bool) → eqb (t .at + 2) (length s) ≡ z
+          → Gives Q (onward (rule (w and x and y and z) t) (λ _. give ls))
       go ls t h false x y z e = tt
       go ls t h true false y z e = tt
       go ls t h true true false z e = tt
@@ -475,16 +528,19 @@ plan-tabled s r h =
     }
 
 -- a scan that was read, settled: whatever the record and its tables
-pub settled-short : (s : List ℕ) (r : Record) (ls : List (List ℤ)) (b : Bits) (t : List ℕ) → AllBytes s → levels s r ≡ got ls b → settledScan (planOf s r) ls ≡ some t → length t + 2 * r .start ≤ 2 * length s + 4 * r .blocks
+pub settled-short : (s : List ℕ) (r : Record) (ls : List (List ℤ)) (b : Bits) (t : List ℕ)
+    → AllBytes s → levels s r ≡ got ls b → settledScan (planOf s r) ls ≡ some t → length t + 2 * r .start ≤ 2 * length s + 4 * r .blocks
 unfolding levels settledScan
 settled-short s r ls b t h e f = go (written (planOf s r) 0 noPredictors ls) (read .0) f
   where
     read : Weighs (r .blocks) (firstBit (r .start)) b (written (planOf s r) 0 noPredictors ls) × (b .at + 2 ≡ length s)
     read =
         given (λ ls b. Weighs (r .blocks) (firstBit (r .start)) b (written (planOf s r) 0 noPredictors ls) × (b .at + 2 ≡ length s))
-        (scan (file s) (planOf s r) (r .blocks) (firstBit (r .start))) (scan-weighs s (planOf s r) (plan-tabled s r h) (r .blocks) (firstBit (r .start))) ls b e
+        (scan (file s) (planOf s r) (r .blocks) (firstBit (r .start)))
+        (scan-weighs s (planOf s r) (plan-tabled s r h) (r .blocks) (firstBit (r .start))) ls b e
 
-    go : (o : Option Coded) → Weighs (r .blocks) (firstBit (r .start)) b o → scanBytes o ≡ some t → length t + 2 * r .start ≤ 2 * length s + 4 * r .blocks
+    go : (o : Option Coded) → Weighs (r .blocks) (firstBit (r .start)) b o → scanBytes o ≡ some t
+        → length t + 2 * r .start ≤ 2 * length s + 4 * r .blocks
     go none w g = absurd (absurd-some t g)
     go (some c) w g =
         let same : bytesOf c ≡ t = cc in

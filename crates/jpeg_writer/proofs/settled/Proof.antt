@@ -2,7 +2,6 @@
 use Prim.Native.Nat.{_<_, _^_}
 use mathlib.Core.Path.{sym, ap}
 use native.Mathlib.Omega.{arith}
-use lib.ListN.{length}
 use lib.Seq.{length-take-le}
 use borrow.Author.Needs.{needs}
 use Rattle.reading.proofs.FileBytes.{all-bytes}
@@ -10,7 +9,7 @@ use Rattle.jpeg_scan.specs.declared.Plan.{Plan}
 use Rattle.jpeg_scan.proofs.Standing.{Ready, ready, unready}
 use Rattle.jpeg_writer.proofs.SheetFilled.{sheet-as}
 use Rattle.jpeg_writer.proofs.SettledAnswers.{passed-settled, says-stop, settled-many, settled-unread}
-use Rattle.jpeg_writer.proofs.SureScans.{sure-fits, told-stop, told-lacking, told-short, told-fits}
+use Rattle.jpeg_writer.proofs.SureScans.{told-stop, told-lacking, told-short, sure-written}
 use Rattle.jpeg_writer.proofs.settled.Statement.{statement}
 use Rattle.jpeg_writer.proofs.settled.Tie as tie
 
@@ -82,7 +81,7 @@ returns-6 c =
     let a = passed-settled (set-up (c .before .before .before .before .before .before .before .before .before .before .before .before .before .before .before .before)) (few (c .before .before .before .before .before .before .before .before .before .before .before .before .before .before .before .before .before .before .before)) (c .before .before .run .ensures) in
     let sheet = sheet-as (c .before .before .before .before .before .before .before .before .before .before .before .before .before .before .bases .ensures) (c .before .before .before .before .before .before .before .before .before .before .before .before .fill-sheet .ensures) in
     let bytes = all-bytes (c .before .before .before .before .before .before .before .before .before .before .before .before .before .before .before .before .before .before .before .before .before .before .before .args .s .now) (λ i. omega (arith, c .before .before .before .before .before .before .before .before .before .before .before .before .before .before .before .before .before .before .before .before .before .before .shared-slice-known .given i)) in
-    (a .says, told-fits (c .before .before .before .before .before .before .before .before .before .before .before .before .before .before .before .before .before .before .before .before .before .before .before .args .out .now) _ _ (c .before .before .before .before .before .before .before .before .before .foretell .ensures) (c .before .before .before .before .before .before .before .n .given .1) (omega (arith, c .before .before .before .before .before .if3 .left)) (sure-fits (set-up (c .before .before .before .before .before .before .before .before .before .before .before .before .before .before .before .before)) sheet (few (c .before .before .before .before .before .before .before .before .before .before .before .before .before .before .before .before .before .before .before)) bytes (length (c .before .before .before .before .before .before .before .before .before .before .before .before .before .before .before .before .before .before .before .before .before .before .before .args .out .now))) a)
+    (a .says, sure-written (set-up (c .before .before .before .before .before .before .before .before .before .before .before .before .before .before .before .before)) sheet (few (c .before .before .before .before .before .before .before .before .before .before .before .before .before .before .before .before .before .before .before)) bytes (c .before .before .before .before .before .before .before .before .before .before .before .before .before .before .before .before .before .before .before .before .before .before .before .args .out .now) (c .before .before .before .before .before .before .before .before .before .foretell .ensures) (c .before .before .before .before .before .before .before .n .given .1) (omega (arith, c .before .before .before .before .before .if3 .left)) a)
 
 pub settled-spec : {M : Type 1} → statement M
 settled-spec =
