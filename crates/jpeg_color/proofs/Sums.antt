@@ -1,20 +1,18 @@
--- What the colours share: a sum of inputs with a bound each fits at every operation, whatever the numbers in it; a shift rounds down, and
--- whole multiples of 65536 pass by it. Assumes nothing.
+-- What the colours' parts share: a sum of inputs with a bound each fits at every operation, whatever the numbers in it; a shift rounds
+-- down, and whole multiples of 65536 pass by it. Assumes nothing.
 use mathlib.Core.Path.{_≡_, refl, sym, _∙_, ap, ap₂}
 use mathlib.Core.Bool.{Bool, true, false, cond}
-use mathlib.Core.List.{List, _∷_}
 use Prim.Native.Nat.{ℕ, suc, _+_, _-_, _*_, _/_, _^_, _≤_, _<_}
 use native.Mathlib.Nat.{le-trans, le-refl}
 use native.Mathlib.Omega.{arith}
 use borrow.Author.Tests.{ltb-true, ltb-false}
 use lib.Dec.{T, ltb, leb, leb→le}
 use lib.IntN.{ℤ, pos, negsuc, negℤ, natAbs, _+ℤ_, _-ℤ_, _*ℤ_, +ℤ-assoc, +ℤ-invr, +ℤ-invl, +ℤ-idl}
-use lib.ListN.{getD}
 use lib.Signed.{shrZ}
 use mir.Syntax.{w8, w32}
 use mir.Val.{Fits, SFits, toZ, ofZ}
 use mir.Facts.{toZ-ofZ}
-use Rattle.whole.specs.Expressions.{Exp, at, Under, under-cons, value, bitsOf, safe, Fine, fine, exact, abs-add, abs-sub, abs-mul, fits-abs}
+use Rattle.whole.specs.Expressions.{abs-add, abs-sub, abs-mul, fits-abs}
 use Rattle.whole.specs.Signs.{shifted}
 
 -- ---- the division
@@ -62,18 +60,6 @@ passes (negsuc n) z = sym (ap (λ x. negsuc n +ℤ x) back ∙ sym (+ℤ-assoc (
 shift-small : (z : ℤ) (k : ℕ) → natAbs z ≤ 65536 * k → natAbs (shrZ z 65536) ≤ k
 shift-small (pos a) k h = omega arith
 shift-small (negsuc a) k h = omega arith
-
--- ---- sums of bounded inputs
-
-pub byte-cons : (n : ℕ) {bs : List ℕ} {l : List ℤ} → Fits w8 n → Under bs l → Under (255 ∷ bs) (pos n ∷ l)
-byte-cons n h k = under-cons 255 (pos n) (omega arith) k
-
-module _ {bs : List ℕ} {l : List ℤ} (small : Under bs l) (e : Exp) (t : T (safe w32 (λ i. getD bs i 0) e)) where
-  pub ok : Fine w32 (at l) e
-  ok = fine w32 (at l) (λ i. getD bs i 0) (small .each) e t
-
-  pub read : toZ w32 (bitsOf w32 (at l) e) ≡ value (at l) e
-  read = exact w32 (at l) (λ i. getD bs i 0) (small .each) e t
 
 -- ---- numbers as the machine reads them
 

@@ -1,29 +1,18 @@
--- `jpeg_color::green` meets its contract: luma passes by the division. Assumes nothing.
+-- `jpeg_color::green` meets its contract: luma and the part fit, and luma passes by the division. Assumes nothing.
 use mathlib.Core.Path.{_∙_, ap}
-use mathlib.Core.List.{List, [], _∷_}
 use borrow.Author.Needs.{needs}
-use lib.IntN.{ℤ, pos, _+ℤ_}
-use Rattle.whole.specs.Expressions.{Exp, var, add, Under, under-nil, under-cons}
+use mir.Syntax.{w32}
 use Rattle.reading.specs.Colour.{toByte}
-use Rattle.jpeg_color.proofs.Sums.{byte-cons, ok, read}
-use Rattle.jpeg_color.proofs.Luma.{green-is}
+use Rattle.jpeg_color.proofs.Luma.{green-is, sum-fits, sum-is}
 use Rattle.jpeg_color.proofs.green.Statement.{statement}
 use Rattle.jpeg_color.proofs.green.Tie as tie
-
-abbrev S : Exp
-S = add (var 0) (var 1)
-
-abbrev inputs : tie.After-green-part → List ℤ
-inputs c = pos (c .before .args .y) ∷ c .green-part .result ∷ []
-
-small : (c : tie.After-green-part) → Under (255 ∷ 1024 ∷ []) (inputs c)
-small c = byte-cons (c .before .args .y) (c .before .fits .y) (under-cons 1024 (c .green-part .result) (c .green-part .ensures .1) (under-nil {bs = []}))
 
 returns : tie.Need-returns
 returns c =
     let s = c .before .before in
-    c .to-byte .ensures ∙ ap toByte (read (small (c .before)) S tt ∙ ap (λ z. pos (s .args .y) +ℤ z) (c .before .green-part .ensures .0)) ∙ green-is (s .args .y) (s .args .cb) (s .args .cr)
+    c .to-byte .ensures ∙ ap toByte (sum-is w32 (s .fits .y) (c .before .green-part .ensures) tt) ∙ green-is (s .args .y) (s .args .cb) (s .args .cr)
 
 pub green-spec : {M : Type 1} → statement M
 green-spec =
-    tie.close (tie.spec (λ c. search needs) (λ c κs. search needs) (λ c. ok (small c) S tt) (λ c κs. search needs) returns)
+    tie.close
+    (tie.spec (λ c. search needs) (λ c κs. search needs) (λ c. sum-fits w32 (c .before .fits .y) (c .green-part .ensures) tt) (λ c κs. search needs) returns)
