@@ -232,10 +232,6 @@ pub once : (x a : ℕ) (d : List ℕ) → set d a x ≡ written (λ _. x) a 1 d
 unfolding written
 once x a d = rw add-zero
 
-pub twice : (x a : ℕ) (d : List ℕ) → set (set d a x) (a + 1) x ≡ written (λ _. x) a 2 d
-unfolding written
-twice x a d = rw add-zero
-
 pub four-times : (x a : ℕ) (d : List ℕ) → set (set (set (set d a x) (a + 1) x) (a + 2) x) (a + 3) x ≡ written (λ _. x) a 4 d
 unfolding written
 four-times x a d = rw add-zero

@@ -10,5 +10,6 @@ pub mod Drawing
 pub mod RowPlaces
 pub mod Spreading
 pub mod Shades
+pub mod Tinting
 pub mod Mcus
 pub mod RowDrawn

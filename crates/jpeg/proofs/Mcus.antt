@@ -52,6 +52,6 @@ module _ {s out : List ℕ} {luma chroma hs n channels at : ℕ} (ok : McuFits s
         room = rw (three-channels more) at (ok .room);
       })
 
-  pub colour-mcu : (channels ≡ 1 → ⊥) → (k : ℕ) → hs ≡ k → (colour : Bool) (d e : List ℕ)
-      → e ≡ pixels (inMcu s luma chroma k colour) 3 at n d → e ≡ pixels (inMcu s luma chroma hs (colour and eqb channels 3)) channels at n d
-  colour-mcu more k same colour d e h = rw (three-channels more, and-true, same) h
+  pub colour-mcu : (channels ≡ 1 → ⊥) → (k : ℕ) → hs ≡ k → (colour b : Bool) → colour ≡ b → (d e : List ℕ)
+      → e ≡ pixels (inMcu s luma chroma k b) 3 at n d → e ≡ pixels (inMcu s luma chroma hs (colour and eqb channels 3)) channels at n d
+  colour-mcu more k same colour b chosen d e h = rw (three-channels more, and-true, same, chosen) h

@@ -3,3 +3,4 @@ pub mod Steps
 pub mod Meets
 pub mod Drawn
 pub mod Rows
+pub mod Tinted

@@ -1,17 +1,21 @@
 // The picture from its block samples (the rules' 'Samples, places, colour'): row by row, channels interleaved, in colour where it is
 // chosen and there are three channels. A row's first places are found once and then counted on, from MCU to MCU and from block to
 // block, so that no pixel and no run of pixels costs a division. An MCU's luma samples are gathered and its chroma samples spread
-// over its pixels before the loop over pixels; nearly all files have sampling 1 or 2 across, which are spread by loops of their own.
+// over its pixels before the loop over pixels. Nearly all files have sampling 1 or 2 across, which have functions of their own: 1 is
+// spread by a loop of its own, and with 2 in colour it is not the chroma samples that are spread but what they add to luma.
 use crate::layout;
 use reading::Record;
 ghost use mathlib.Core.Path.{_≡_};
+ghost use mathlib.Core.Bool.{true};
 ghost use Prim.Native.Nat.{_+_, _*_, _-_, _/_, _≤_, _<_, min};
 ghost use lib.Dec.{eqb};
 ghost use lib.ListN.{length, getD};
 ghost use Rattle.reading.specs.Tests.{_and_, over};
 ghost use Rattle.reading.specs.Reading.{pixel, picture};
+ghost use Rattle.jpeg_color.specs.Parts.{redPart, greenPart, bluePart};
 ghost use Rattle.jpeg.specs.Drawn.{written, pixels};
 ghost use Rattle.jpeg.specs.Rows.{Drawable, RunsFit, ColourFits, McuFits, three, shown, inRun, inRuns, inMcu, Spread, Gathered};
+ghost use Rattle.jpeg.specs.Tinted.{First, Part, Twice, TintFits, tinted};
 
 // The smaller of two numbers.
 fn least(a: usize, b: usize) -> usize
@@ -31,20 +35,6 @@ fn spread_1(samples: &[u8], chroma: usize, spread: &mut [u8; 32])
     let mut j = 0usize;
     while j < 8 {
         spread[j] = samples[chroma + j];
-        j += 1;
-    }
-}
-
-// Each of 8 chroma samples twice.
-fn spread_2(samples: &[u8], chroma: usize, spread: &mut [u8; 32])
-    requires { ⌜ (chroma + 8 ≤ length (now samples)) × (length (now spread) ≡ 32) ⌝ }
-    ensures { λ _. ⌜ Spread (now (samples .entry)) chroma 2 (now (spread .exit)) ⌝ }
-{
-    let mut j = 0usize;
-    while j < 8 {
-        let sample = samples[chroma + j];
-        spread[2 * j] = sample;
-        spread[2 * j + 1] = sample;
         j += 1;
     }
 }
@@ -148,8 +138,8 @@ fn runs(
     run(&gathered, cb, cr, n, colour, out, at);
 }
 
-// An MCU of three channels in one row, sampling 1 across. This and the next two are three functions, and not one with a choice in
-// it: so each is compiled with its own spreading straight before its loop over pixels, which makes that loop quick.
+// An MCU of three channels in one row, sampling 1 across. This and the next are two functions, and not one with a choice in it: so
+// each is compiled with its own spreading straight before its loop over pixels, which makes that loop quick.
 fn mcu_1(
     samples: &[u8],
     luma: usize,
@@ -166,26 +156,6 @@ fn mcu_1(
     let mut cr = [0u8; 32];
     spread_1(samples, chroma, &mut cb);
     spread_1(samples, chroma + 64, &mut cr);
-    runs(samples, luma, &cb, &cr, n, colour, out, at);
-}
-
-// The same, sampling 2 across.
-fn mcu_2(
-    samples: &[u8],
-    luma: usize,
-    chroma: usize,
-    n: usize,
-    colour: bool,
-    out: &mut [u8],
-    at: usize,
-)
-    requires { ⌜ ColourFits (now samples) (now out) luma chroma 2 n at ⌝ }
-    ensures { λ _. ⌜ now (out .exit) ≡ pixels (inMcu (now (samples .entry)) luma chroma 2 colour) 3 at n (now (out .entry)) ⌝ }
-{
-    let mut cb = [0u8; 32];
-    let mut cr = [0u8; 32];
-    spread_2(samples, chroma, &mut cb);
-    spread_2(samples, chroma + 64, &mut cr);
     runs(samples, luma, &cb, &cr, n, colour, out, at);
 }
 
@@ -208,6 +178,102 @@ fn mcu_wide(
     spread_wide(samples, chroma, hs, &mut cb);
     spread_wide(samples, chroma + 64, hs, &mut cr);
     runs(samples, luma, &cb, &cr, n, colour, out, at);
+}
+
+// What each of 8 chroma samples adds to luma in red. This and the next two are three loops, each with one list to write, and a part is
+// kept in 16 bits: so they are compiled to vector code.
+fn red_parts(samples: &[u8], cr: usize, parts: &mut [i16; 8])
+    requires { ⌜ (cr + 8 ≤ length (now samples)) × (length (now parts) ≡ 8) ⌝ }
+    ensures { λ _. ⌜ First (λ j. Part (redPart (getD (now (samples .entry)) (cr + j) 0))) 8 (now (parts .exit)) ⌝ }
+{
+    let mut j = 0usize;
+    while j < 8 {
+        parts[j] = jpeg_color::red_part(samples[cr + j]) as i16;
+        j += 1;
+    }
+}
+
+// What each of 8 pairs of chroma samples adds in green; the block of the second chroma channel stands behind that of the first.
+fn green_parts(samples: &[u8], cb: usize, parts: &mut [i16; 8])
+    requires { ⌜ (cb + 72 ≤ length (now samples)) × (length (now parts) ≡ 8) ⌝ }
+    ensures { λ _. ⌜ First (λ j. Part (greenPart (getD (now (samples .entry)) (cb + j) 0) (getD (now (samples .entry)) (cb + 64 + j) 0))) 8 (now (parts .exit)) ⌝ }
+{
+    let mut j = 0usize;
+    while j < 8 {
+        parts[j] = jpeg_color::green_part(samples[cb + j], samples[cb + 64 + j]) as i16;
+        j += 1;
+    }
+}
+
+// What each of 8 chroma samples adds in blue.
+fn blue_parts(samples: &[u8], cb: usize, parts: &mut [i16; 8])
+    requires { ⌜ (cb + 8 ≤ length (now samples)) × (length (now parts) ≡ 8) ⌝ }
+    ensures { λ _. ⌜ First (λ j. Part (bluePart (getD (now (samples .entry)) (cb + j) 0))) 8 (now (parts .exit)) ⌝ }
+{
+    let mut j = 0usize;
+    while j < 8 {
+        parts[j] = jpeg_color::blue_part(samples[cb + j]) as i16;
+        j += 1;
+    }
+}
+
+// Each of 8 parts for two pixels.
+fn twice(parts: &[i16; 8], spread: &mut [i16; 16])
+    requires { ⌜ length (now spread) ≡ 16 ⌝ }
+    ensures { λ _. ⌜ First (Twice (now (parts .entry))) 16 (now (spread .exit)) ⌝ }
+{
+    let mut j = 0usize;
+    while j < 8 {
+        let part = parts[j];
+        spread[2 * j] = part;
+        spread[2 * j + 1] = part;
+        j += 1;
+    }
+}
+
+// Pixels in colour from their luma samples and what is added to them.
+fn tint(
+    luma: &[u8; 32],
+    reds: &[i16; 16],
+    greens: &[i16; 16],
+    blues: &[i16; 16],
+    n: usize,
+    out: &mut [u8],
+    at: usize,
+)
+    requires { ⌜ TintFits (now luma) (now reds) (now greens) (now blues) (now out) n at ⌝ }
+    ensures { λ _. ⌜ now (out .exit) ≡ pixels (tinted (now (luma .entry)) (now (reds .entry)) (now (greens .entry)) (now (blues .entry))) 3 at n (now (out .entry)) ⌝ }
+{
+    let mut i = 0usize;
+    while i < n {
+        let y = luma[i] as i16;
+        out[at + i * 3] = jpeg_color::short_to_byte(y + reds[i]);
+        out[at + i * 3 + 1] = jpeg_color::short_to_byte(y + greens[i]);
+        out[at + i * 3 + 2] = jpeg_color::short_to_byte(y + blues[i]);
+        i += 1;
+    }
+}
+
+// The same in colour, sampling 2 across. Two pixels have one chroma sample: what it adds is worked out once, before it is spread.
+fn coloured_2(samples: &[u8], luma: usize, chroma: usize, n: usize, out: &mut [u8], at: usize)
+    requires { ⌜ ColourFits (now samples) (now out) luma chroma 2 n at ⌝ }
+    ensures { λ _. ⌜ now (out .exit) ≡ pixels (inMcu (now (samples .entry)) luma chroma 2 true) 3 at n (now (out .entry)) ⌝ }
+{
+    let mut red = [0i16; 8];
+    let mut green = [0i16; 8];
+    let mut blue = [0i16; 8];
+    red_parts(samples, chroma + 64, &mut red);
+    green_parts(samples, chroma, &mut green);
+    blue_parts(samples, chroma, &mut blue);
+    let mut reds = [0i16; 16];
+    let mut greens = [0i16; 16];
+    let mut blues = [0i16; 16];
+    twice(&red, &mut reds);
+    twice(&green, &mut greens);
+    twice(&blue, &mut blues);
+    let mut gathered = [0u8; 32];
+    gather(samples, luma, n, &mut gathered);
+    tint(&gathered, &reds, &greens, &blues, n, out, at);
 }
 
 // At most 8 pixels of one channel: the samples as they are.
@@ -241,8 +307,8 @@ fn mcu(
         gray(samples, luma, n, out, at);
     } else if hs == 1 {
         mcu_1(samples, luma, chroma, n, colour, out, at);
-    } else if hs == 2 {
-        mcu_2(samples, luma, chroma, n, colour, out, at);
+    } else if colour && hs == 2 {
+        coloured_2(samples, luma, chroma, n, out, at);
     } else {
         mcu_wide(samples, luma, chroma, hs, n, colour, out, at);
     }

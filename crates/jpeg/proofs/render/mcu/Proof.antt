@@ -1,5 +1,6 @@
 -- `jpeg::render::mcu` meets its contract: each of the four ways writes the pixels of the MCU. Assumes nothing.
 use mathlib.Core.Path.{refl, ap, _∙_}
+use borrow.Author.Tests.{eqb-true}
 use lib.ListN.{length}
 use Rattle.jpeg.proofs.Drawing.{length-pixels}
 use Rattle.jpeg.proofs.Mcus.{gray-fits, gray-mcu, colour-fits, colour-mcu}
@@ -12,8 +13,8 @@ gray-requires c κs = gray-fits (c .before .before .before .before .pre) (c .bef
 mcu-1-requires : tie.Need-mcu-1-requires
 mcu-1-requires c κs = colour-fits (c .before .before .before .before .before .pre) (c .before .before .if1 .left) 1 (c .before .if2 .taken)
 
-mcu-2-requires : tie.Need-mcu-2-requires
-mcu-2-requires c κs = colour-fits (c .before .before .before .before .before .before .pre) (c .before .before .before .if1 .left) 2 (c .before .if3 .taken)
+coloured-2-requires : tie.Need-coloured-2-requires
+coloured-2-requires c κs = colour-fits (c .before .before .before .before .before .before .before .pre) (c .before .before .before .before .if1 .left) 2 (eqb-true _ 2 (c .before .if4 .taken))
 
 mcu-wide-requires : tie.Need-mcu-wide-requires
 mcu-wide-requires c κs = colour-fits (c .before .before .before .before .before .before .pre) (c .before .before .before .if1 .left) _ refl
@@ -28,19 +29,19 @@ same-length-2 : tie.Need-same-length-2
 same-length-2 c = ap length (c .before .before .mcu-1 .ensures) ∙ length-pixels _ _ _ _ _
 
 returns-2 : tie.Need-returns-2
-returns-2 c = colour-mcu (c .before .before .before .before .before .before .before .before .pre) (c .before .before .before .before .before .if1 .left) 1 (c .before .before .before .before .if2 .taken) _ _ _ (c .before .before .mcu-1 .ensures)
+returns-2 c = colour-mcu (c .before .before .before .before .before .before .before .before .pre) (c .before .before .before .before .before .if1 .left) 1 (c .before .before .before .before .if2 .taken) _ _ refl _ _ (c .before .before .mcu-1 .ensures)
 
 same-length-3 : tie.Need-same-length-3
-same-length-3 c = ap length (c .before .before .mcu-2 .ensures) ∙ length-pixels _ _ _ _ _
+same-length-3 c = ap length (c .before .before .coloured-2 .ensures) ∙ length-pixels _ _ _ _ _
 
 returns-3 : tie.Need-returns-3
-returns-3 c = colour-mcu (c .before .before .before .before .before .before .before .before .before .pre) (c .before .before .before .before .before .before .if1 .left) 2 (c .before .before .before .before .if3 .taken) _ _ _ (c .before .before .mcu-2 .ensures)
+returns-3 c = colour-mcu (c .before .before .before .before .before .before .before .before .before .before .pre) (c .before .before .before .before .before .before .before .if1 .left) 2 (eqb-true _ 2 (c .before .before .before .before .if4 .taken)) _ _ (c .before .before .before .before .before .if3 .taken) _ _ (c .before .before .coloured-2 .ensures)
 
 same-length-4 : tie.Need-same-length-4
 same-length-4 c = ap length (c .before .before .mcu-wide .ensures) ∙ length-pixels _ _ _ _ _
 
 returns-4 : tie.Need-returns-4
-returns-4 c = colour-mcu (c .before .before .before .before .before .before .before .before .before .pre) (c .before .before .before .before .before .before .if1 .left) _ refl _ _ _ (c .before .before .mcu-wide .ensures)
+returns-4 c = colour-mcu (c .before .before .before .before .before .before .before .before .before .pre) (c .before .before .before .before .before .before .if1 .left) _ refl _ _ refl _ _ (c .before .before .mcu-wide .ensures)
 
 pub mcu-spec : {M : Type 1} → statement M
 mcu-spec =
@@ -48,7 +49,7 @@ mcu-spec =
     (tie.spec
     gray-requires
     mcu-1-requires
-    mcu-2-requires
+    coloured-2-requires
     mcu-wide-requires
     same-length
     returns
