@@ -37,7 +37,8 @@ blue-is y cb =
 
 -- ---- the sum at a width: x is the number p, as each part's function ensures
 
-module _ (w : Width) {y : ℕ} {x p : ℤ} (byte : Fits w8 y) (part : (x ≡ p) × (natAbs x ≤ 1024)) (wide : T (ltb 1279 (2 ^ hbits w))) where
+module _ (w : Width) {y : ℕ} {x p : ℤ} (byte : Fits w8 y) (part : (x ≡ p) × (natAbs x ≤ 1024))
+    (wide : T (ltb 1279 (2 ^ hbits w))) where
   luma-read : toZ w (ofZ w (pos y)) ≡ pos y
   luma-read = toZ-ofZ {w = w} {z = pos y} (fits-abs {n = 1279} (omega arith) wide)
 
