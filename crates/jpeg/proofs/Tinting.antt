@@ -5,17 +5,16 @@ use mathlib.Core.Bool.{true}
 use mathlib.Core.List.{List}
 use native.Mathlib.Omega.{arith}
 use lib.IntN.{ℤ, pos, natAbs, _+ℤ_}
-use lib.ListN.{getD, length, set, length-set}
+use lib.ListN.{length, set, length-set}
 use mir.Syntax.{w8, w16, w32}
 use mir.Val.{Fits, SFits, toZ, ofZ}
 use mir.Facts.{toZ-ofZ}
 use Rattle.whole.specs.Expressions.{at, fits-abs}
 use Rattle.whole.specs.Lists.{stored}
 use Rattle.reading.specs.Colour.{toByte}
-use Rattle.jpeg_color.specs.Parts.{redPart, greenPart, bluePart}
 use Rattle.jpeg_color.proofs.Luma.{red-is, green-is, blue-is, sum-fits, sum-is}
 use Rattle.jpeg.specs.Rows.{Gathered, inMcu}
-use Rattle.jpeg.specs.Tinted.{First, Part, Twice, tinted}
+use Rattle.jpeg.specs.Tinted.{First, Part, redAt, greenAt, blueAt, Twice, tinted}
 
 -- ---- a list of n numbers, i of them written
 
@@ -31,8 +30,11 @@ module _ (P : ℕ → ℤ → Type 0) (n : ℕ) where
   filled-next i u x before more new =
       record {
         size = length-set u i x ∙ before .size;
-        has = record { each = stored (λ j. j < i) (λ j. j < i + 1) P u i x (pos 0) (omega (arith, before .size)) (λ j h other. omega arith) (before .has .each) new };
+        has = record { each = stored (λ j. j < i) (λ j. j < i + 1) P u i x (pos 0) room (λ j h other. omega arith) (before .has .each) new };
       }
+    where
+      room : i < length u
+      room = omega (arith, before .size)
 
   pub filled-all : (i : ℕ) (u : List ℤ) → FilledTo P n i u → n ≤ i → First P n u
   filled-all i u all over = record { each = λ j h. all .has .each j (omega arith) }
@@ -70,8 +72,9 @@ module _ {x p : ℤ} (part : Part p x) where
   short-part = rw (read, toZ-ofZ short) part
 
 -- each for two pixels
-pub spread-parts : {f : ℕ → ℤ} {u v : List ℤ} → First (λ j. Part (f j)) 8 u → First (Twice u) 16 v → First (λ i. Part (f (i / 2))) 16 v
-spread-parts {f} {u} {v} parts twice = record { each = λ i h. let part = parts .each (i / 2) (omega arith) in (twice .each i h ∙ part .0, rw (twice .each i h) (part .1)) }
+pub spread-parts : {f : ℕ → ℤ} {u v : List ℤ} → First (λ j. Part (f j)) 8 u → First (Twice u) 16 v
+    → First (λ i. Part (f (i / 2))) 16 v
+spread-parts {f} {u} {v} parts twice = record { each = λ i h. rw (twice .each i h) (parts .each (i / 2) (omega arith)) }
 
 pub small-parts : {f : ℕ → ℤ} {u : List ℤ} → First (λ i. Part (f i)) 16 u → First (λ i x. natAbs x ≤ 1024) 16 u
 small-parts parts = record { each = λ i h. parts .each i h .1 }
@@ -85,13 +88,14 @@ module _ {y i : ℕ} {u : List ℤ} (byte : y < 256) (small : First (λ k x. nat
   pub shade-fits : SFits w16 (toZ w16 (ofZ w16 (pos y)) +ℤ toZ w16 (ofZ w16 (at u i)))
   shade-fits = sum-fits w16 {x = at u i} byte-fits (refl, small .each i within) tt
 
-  pub shade : {r : ℕ} → r ≡ toByte (toZ w16 (ofZ w16 (toZ w16 (ofZ w16 (pos y)) +ℤ toZ w16 (ofZ w16 (at u i))))) → r ≡ toByte (pos y +ℤ at u i)
+  pub shade : {r : ℕ} → r ≡ toByte (toZ w16 (ofZ w16 (toZ w16 (ofZ w16 (pos y)) +ℤ toZ w16 (ofZ w16 (at u i)))))
+      → r ≡ toByte (pos y +ℤ at u i)
   shade e = e ∙ ap toByte (sum-is w16 {x = at u i} byte-fits (refl, small .each i within) tt)
 
 pub tinted-in-mcu : (s : List ℕ) (a b n : ℕ) (luma : List ℕ) (reds greens blues : List ℤ) → n ≤ 16 → Gathered s a n luma
-    → First (λ i. Part (redPart (getD s (b + 64 + i / 2) 0))) 16 reds
-    → First (λ i. Part (greenPart (getD s (b + i / 2) 0) (getD s (b + 64 + i / 2) 0))) 16 greens
-    → First (λ i. Part (bluePart (getD s (b + i / 2) 0))) 16 blues
+    → First (λ i. Part (redAt s (b + 64) (i / 2))) 16 reds
+    → First (λ i. Part (greenAt s b (i / 2))) 16 greens
+    → First (λ i. Part (blueAt s b (i / 2))) 16 blues
     → (i c : ℕ) → i < n → c < 3 → tinted luma reds greens blues i c ≡ inMcu s a b 2 true i c
 unfolding tinted inMcu
 tinted-in-mcu s a b n luma reds greens blues most y r g u i zero h l =

@@ -6,6 +6,7 @@ use lib.IntN.{ℤ, pos, natAbs, _+ℤ_}
 use lib.ListN.{getD, length}
 use Rattle.whole.specs.Expressions.{at}
 use Rattle.reading.specs.Colour.{toByte}
+use Rattle.jpeg_color.specs.Parts.{redPart, greenPart, bluePart}
 use Rattle.jpeg.specs.Rows.{three}
 
 -- the first n numbers of a list have a property, each by its place
@@ -15,6 +16,16 @@ pub record First (P : ℕ → ℤ → Type 0) (n : ℕ) (u : List ℤ) : Type 0 
 -- a number that is z, and so small that luma and it fit 16 bits
 abbrev pub Part : ℤ → ℤ → Type 0
 Part z x = (x ≡ z) × (natAbs x ≤ 1024)
+
+-- what chroma sample j adds in each channel: the samples from b on, and for green those of both chroma channels
+abbrev pub redAt : List ℕ → ℕ → ℕ → ℤ
+redAt s b j = redPart (getD s (b + j) 0)
+
+abbrev pub greenAt : List ℕ → ℕ → ℕ → ℤ
+greenAt s b j = greenPart (getD s (b + j) 0) (getD s (b + 64 + j) 0)
+
+abbrev pub blueAt : List ℕ → ℕ → ℕ → ℤ
+blueAt s b j = bluePart (getD s (b + j) 0)
 
 -- number i of a list that has each of the list's numbers twice
 abbrev pub Twice : List ℤ → ℕ → ℤ → Type 0

@@ -12,10 +12,9 @@ ghost use lib.Dec.{eqb};
 ghost use lib.ListN.{length, getD};
 ghost use Rattle.reading.specs.Tests.{_and_, over};
 ghost use Rattle.reading.specs.Reading.{pixel, picture};
-ghost use Rattle.jpeg_color.specs.Parts.{redPart, greenPart, bluePart};
 ghost use Rattle.jpeg.specs.Drawn.{written, pixels};
 ghost use Rattle.jpeg.specs.Rows.{Drawable, RunsFit, ColourFits, McuFits, three, shown, inRun, inRuns, inMcu, Spread, Gathered};
-ghost use Rattle.jpeg.specs.Tinted.{First, Part, Twice, TintFits, tinted};
+ghost use Rattle.jpeg.specs.Tinted.{First, Part, redAt, greenAt, blueAt, Twice, TintFits, tinted};
 
 // The smaller of two numbers.
 fn least(a: usize, b: usize) -> usize
@@ -184,7 +183,7 @@ fn mcu_wide(
 // kept in 16 bits: so they are compiled to vector code.
 fn red_parts(samples: &[u8], cr: usize, parts: &mut [i16; 8])
     requires { ⌜ (cr + 8 ≤ length (now samples)) × (length (now parts) ≡ 8) ⌝ }
-    ensures { λ _. ⌜ First (λ j. Part (redPart (getD (now (samples .entry)) (cr + j) 0))) 8 (now (parts .exit)) ⌝ }
+    ensures { λ _. ⌜ First (λ j. Part (redAt (now (samples .entry)) cr j)) 8 (now (parts .exit)) ⌝ }
 {
     let mut j = 0usize;
     while j < 8 {
@@ -196,7 +195,7 @@ fn red_parts(samples: &[u8], cr: usize, parts: &mut [i16; 8])
 // What each of 8 pairs of chroma samples adds in green; the block of the second chroma channel stands behind that of the first.
 fn green_parts(samples: &[u8], cb: usize, parts: &mut [i16; 8])
     requires { ⌜ (cb + 72 ≤ length (now samples)) × (length (now parts) ≡ 8) ⌝ }
-    ensures { λ _. ⌜ First (λ j. Part (greenPart (getD (now (samples .entry)) (cb + j) 0) (getD (now (samples .entry)) (cb + 64 + j) 0))) 8 (now (parts .exit)) ⌝ }
+    ensures { λ _. ⌜ First (λ j. Part (greenAt (now (samples .entry)) cb j)) 8 (now (parts .exit)) ⌝ }
 {
     let mut j = 0usize;
     while j < 8 {
@@ -208,7 +207,7 @@ fn green_parts(samples: &[u8], cb: usize, parts: &mut [i16; 8])
 // What each of 8 chroma samples adds in blue.
 fn blue_parts(samples: &[u8], cb: usize, parts: &mut [i16; 8])
     requires { ⌜ (cb + 8 ≤ length (now samples)) × (length (now parts) ≡ 8) ⌝ }
-    ensures { λ _. ⌜ First (λ j. Part (bluePart (getD (now (samples .entry)) (cb + j) 0))) 8 (now (parts .exit)) ⌝ }
+    ensures { λ _. ⌜ First (λ j. Part (blueAt (now (samples .entry)) cb j)) 8 (now (parts .exit)) ⌝ }
 {
     let mut j = 0usize;
     while j < 8 {
@@ -231,7 +230,7 @@ fn twice(parts: &[i16; 8], spread: &mut [i16; 16])
     }
 }
 
-// Pixels in colour from their luma samples and what is added to them.
+// Pixels in colour from their luma samples and what is added to them. Sums and clamps stay in 16 bits, which makes the loop quick.
 fn tint(
     luma: &[u8; 32],
     reds: &[i16; 16],
@@ -254,7 +253,8 @@ fn tint(
     }
 }
 
-// The same in colour, sampling 2 across. Two pixels have one chroma sample: what it adds is worked out once, before it is spread.
+// An MCU of three channels in one row in colour, sampling 2 across. Two pixels have one chroma sample: what it adds is worked out once,
+// before it is spread over them.
 fn coloured_2(samples: &[u8], luma: usize, chroma: usize, n: usize, out: &mut [u8], at: usize)
     requires { ⌜ ColourFits (now samples) (now out) luma chroma 2 n at ⌝ }
     ensures { λ _. ⌜ now (out .exit) ≡ pixels (inMcu (now (samples .entry)) luma chroma 2 true) 3 at n (now (out .entry)) ⌝ }

@@ -34,7 +34,8 @@ blue-is y cb = behind y (pos 116130 *ℤ chroma cb) (pos 32768)
 
 -- ---- the sum at a width: x is the number p, as each part's function ensures
 
-module _ (w : Width) {y : ℕ} {x p : ℤ} (byte : Fits w8 y) (part : (x ≡ p) × (natAbs x ≤ 1024)) (wide : T (ltb 1279 (2 ^ hbits w))) where
+module _ (w : Width) {y : ℕ} {x p : ℤ} (byte : Fits w8 y) (part : (x ≡ p) × (natAbs x ≤ 1024))
+    (wide : T (ltb 1279 (2 ^ hbits w))) where
   luma : Held w (toZ w (ofZ w (pos y))) (pos y) 255
   luma = input (fits-abs {n = 1279} (omega arith) wide) (omega arith)
 

@@ -1,15 +1,13 @@
 -- `jpeg::render::green_parts` meets its contract. The loop's invariant: j parts are written. Assumes nothing.
-use Prim.Native.Nat.{_+_, _-_}
+use Prim.Native.Nat.{_-_}
 use native.Mathlib.Omega.{arith}
-use lib.ListN.{getD}
-use Rattle.jpeg_color.specs.Parts.{greenPart}
-use Rattle.jpeg.specs.Tinted.{Part}
+use Rattle.jpeg.specs.Tinted.{Part, greenAt}
 use Rattle.jpeg.proofs.Tinting.{FilledTo, filled-none, filled-next, filled-all, short-fits, short-part}
 use Rattle.jpeg.proofs.render.green_parts.Statement.{statement}
 use Rattle.jpeg.proofs.render.green_parts.Tie as tie
 
 abbrev Inv-loop : tie.InvT-loop
-Inv-loop samples cb parts₀ j₀ parts j = FilledTo (λ k. Part (greenPart (getD samples (cb + k) 0) (getD samples (cb + 64 + k) 0))) 8 j parts
+Inv-loop samples cb parts₀ j₀ parts j = FilledTo (λ k. Part (greenAt samples cb k)) 8 j parts
 
 abbrev μ-loop : tie.MeasureT-loop
 μ-loop samples cb parts₀ j₀ parts j = 8 - j

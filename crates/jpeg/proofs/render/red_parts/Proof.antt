@@ -1,15 +1,13 @@
 -- `jpeg::render::red_parts` meets its contract. The loop's invariant: j parts are written. Assumes nothing.
-use Prim.Native.Nat.{_+_, _-_}
+use Prim.Native.Nat.{_-_}
 use native.Mathlib.Omega.{arith}
-use lib.ListN.{getD}
-use Rattle.jpeg_color.specs.Parts.{redPart}
-use Rattle.jpeg.specs.Tinted.{Part}
+use Rattle.jpeg.specs.Tinted.{Part, redAt}
 use Rattle.jpeg.proofs.Tinting.{FilledTo, filled-none, filled-next, filled-all, short-fits, short-part}
 use Rattle.jpeg.proofs.render.red_parts.Statement.{statement}
 use Rattle.jpeg.proofs.render.red_parts.Tie as tie
 
 abbrev Inv-loop : tie.InvT-loop
-Inv-loop samples cr parts₀ j₀ parts j = FilledTo (λ k. Part (redPart (getD samples (cr + k) 0))) 8 j parts
+Inv-loop samples cr parts₀ j₀ parts j = FilledTo (λ k. Part (redAt samples cr k)) 8 j parts
 
 abbrev μ-loop : tie.MeasureT-loop
 μ-loop samples cr parts₀ j₀ parts j = 8 - j
