@@ -6,59 +6,20 @@ use Rattle.jpeg.proofs.Tinting.{FilledTo, filled-none, filled-next, fil
 use Rattle.jpeg.proofs.render.red_parts.Statement.{statement}
 use Rattle.jpeg.proofs.render.red_parts.Tie as tie
 
-abbrev Inv-loop : tie.InvT-loop
-Inv-loop samples cr parts₀ j₀ parts j = FilledTo (λ k. Part (redAt samples cr k)) 8 j parts
-
-abbrev μ-loop : tie.MeasureT-loop
-μ-loop samples cr parts₀ j₀ parts j = 8 - j
-
-loop-holds : tie.Need-loop-holds Inv-loop μ-loop
-loop-holds c = filled-none _ _ _ (c .before .pre .1)
-
-add-red-part : tie.Need-add-red-part Inv-loop μ-loop
-add-red-part c = omega arith
-
-shared-slice-read-red-part : tie.Need-shared-slice-read-red-part Inv-loop μ-loop
-shared-slice-read-red-part c = omega arith
-
-red-part-requires : tie.Need-red-part-requires Inv-loop μ-loop
-red-part-requires c κs = tt
-
-cast-parts : tie.Need-cast-parts Inv-loop μ-loop
-cast-parts c = short-fits (c .red-part .ensures)
-
-mul-t11 : tie.Need-mul-t11 Inv-loop μ-loop
-mul-t11 c = omega arith
-
-element-set-from-parts : tie.Need-element-set-from-parts Inv-loop μ-loop
-element-set-from-parts c = omega arith
-
-add-j : tie.Need-add-j Inv-loop μ-loop
-add-j c = omega arith
-
-loop-less : tie.Need-loop-less Inv-loop μ-loop
-loop-less c = omega arith
-
-loop-again : tie.Need-loop-again Inv-loop μ-loop
-loop-again c = filled-next _ _ _ _ _ (c .before .before .before .loop .inv) (c .before .before .loop-test .taken) (short-part (c .red-part .ensures))
-
-returns : tie.Need-returns Inv-loop μ-loop
-returns c = filled-all _ _ _ _ (c .before .loop .inv) (c .loop-test .left)
-
 pub red-parts-spec : {M : Type 1} → statement M
 red-parts-spec =
     tie.close
     (tie.spec
-    Inv-loop
-    μ-loop
-    loop-holds
-    add-red-part
-    shared-slice-read-red-part
-    red-part-requires
-    cast-parts
-    mul-t11
-    element-set-from-parts
-    add-j
-    loop-less
-    loop-again
-    returns)
+    (λ samples cr parts₀ j₀ parts j. FilledTo (λ k. Part (redAt samples cr k)) 8 j parts)
+    (λ samples cr parts₀ j₀ parts j. 8 - j)
+    (λ c. filled-none _ _ _ (c .before .pre .1))
+    (λ c. omega arith)
+    (λ c. omega arith)
+    (λ c κs. tt)
+    (λ c. short-fits (c .red-part .ensures))
+    (λ c. omega arith)
+    (λ c. omega arith)
+    (λ c. omega arith)
+    (λ c. omega arith)
+    (λ c. filled-next _ _ _ _ _ (c .before .before .before .loop .inv) (c .before .before .loop-test .taken) (short-part (c .red-part .ensures)))
+    (λ c. filled-all _ _ _ _ (c .before .loop .inv) (c .loop-test .left)))
