@@ -1,10 +1,14 @@
 -- A field of a file, bit after bit, in the code's terms.
-use Prim.Native.Nat.{ℕ, zero, suc, _+_, _-_, _*_, _<_, _≤_}
-use mathlib.Core.Path.{_≡_, _∙_}
+use Prim.Native.Nat.{ℕ, zero, suc, _+_, _-_, _*_, _/_, _%_, _^_, _<_, _≤_}
+use mathlib.Core.Path.{_≡_, sym, ap, ap₂, _∙_}
 use mathlib.Core.List.{List}
-use native.Mathlib.Nat.{not-suc-le-zero}
+use native.Mathlib.Omega.{arith}
+use native.Mathlib.Nat.{not-suc-le-zero, add-zero, add-suc, mod-lt}
 use native.Mathlib.Numerals.{sub-one}
 use borrow.Author.Tests.{le-leb, lt-leb}
+use lib.Arith.{digits-lt}
+use lib.Pow.{pow-pos, pow-add, shr-shr}
+use Rattle.whole.specs.Powers.{one-more}
 use Rattle.reading.specs.declared.Bits.{Bits}
 use Rattle.reading.specs.declared.Fault.{Fault}
 use Rattle.reading.specs.declared.Fault.the-variants.{Broken}
@@ -44,3 +48,33 @@ module _ (s : List ℕ) (b : Bits) (v n : ℕ) (h : 0 < n) {r : BitRead} (e : bi
 
   pub field-cut : {f : Fault} → r ≡ bit.Stop f → further s n v b ≡ fault f
   field-cut g = step s b v n h ∙ rw (← e, g)
+
+-- ---- several bits at once
+
+module _ (s : List ℕ) (at byte : ℕ) where
+  abbrev cursor : ℕ → Bits
+  cursor left = record { at = at; byte = byte; left = left }
+
+  taken : (rest k m v : ℕ) → further s (m + k) v (cursor (rest + k)) ≡ further s m (v * 2 ^ k + byte / 2 ^ rest % 2 ^ k) (cursor rest)
+  unfolding further one
+  taken rest zero m v = rw (add-zero m, add-zero rest) (ap (λ w. further s m w (cursor rest)) (omega arith))
+  taken rest (suc k) m v =
+      rw (add-suc m k, add-suc rest k)
+      (taken rest k m (2 * v + byte / 2 ^ (rest + k) % 2)
+      ∙ ap (λ w. further s m w (cursor rest)) (rw (← (shr-shr byte rest k)) (one-more k v (byte / 2 ^ rest))))
+
+-- a field of n bits is k bits and then n - k: k bits of the current byte, which make of v the number w
+pub field-part :
+    (s : List ℕ) (b : Bits) (v n k rest : ℕ) {w : ℕ} → k ≤ n → rest + k ≡ b .left → w ≡ v * 2 ^ k + b .byte / 2 ^ rest % 2 ^ k
+    → further s n v b ≡ further s (n - k) w (record { at = b .at; byte = b .byte; left = rest })
+field-part s b v n k rest h e g =
+    ap₂ (λ m left. further s m v (record { at = b .at; byte = b .byte; left = left })) (omega arith) (sym e)
+    ∙ taken s (b .at) (b .byte) rest k (n - k) v
+    ∙ ap (λ w. further s (n - k) w (record { at = b .at; byte = b .byte; left = rest })) (sym g)
+
+-- of n bits `more` are to come; k of those are read
+pub field-grown :
+    (n more k x : ℕ) {v w : ℕ} → k ≤ more → more ≤ n → v < 2 ^ (n - more) → w ≡ v * 2 ^ k + x % 2 ^ k → w < 2 ^ (n - (more - k))
+field-grown n more k x h l small g =
+    let e : n - (more - k) ≡ n - more + k = omega arith in
+    rw (g, e, pow-add 2 (n - more) k) (digits-lt small (mod-lt x (pow-pos k)))

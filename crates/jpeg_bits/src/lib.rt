@@ -1,5 +1,6 @@
 // The bits of a scan, highest first (the rules' 'Bits, symbols, blocks'): one bit, and a field of bits.
 // Each function equals its definition for every cursor, so nothing is asked of a caller.
+ghost use Prim.Native.Nat.{_+_, _*_, _/_, _%_, _^_, _<_, _≤_};
 ghost use mathlib.Core.Path.{_≡_};
 ghost use Rattle.reading.specs.Bits.{fresh, one, shortField};
 ghost use Rattle.reading.specs.Answers.{bitRead, numberRead};
@@ -65,7 +66,19 @@ pub fn bit(s: &[u8], b: Bits) -> BitRead
     )
 }
 
-// A field of `n` bits, at most 16, one bit after another.
+// The number v, and behind it k bits of a byte: those above its lowest `rest`. Above a byte there are zeros.
+fn behind(v: usize, byte: u8, rest: usize, k: usize) -> usize
+    requires { ⌜ (v < 65536) × (k ≤ 16) ⌝ }
+    ensures { λ r. ⌜ r ≡ v * 2 ^ k + byte / 2 ^ rest % 2 ^ k ⌝ }
+{
+    if 8 <= rest {
+        return v << k;
+    }
+    let part = (byte as usize >> rest) % (1 << k);
+    (v << k) + part
+}
+
+// A field of `n` bits, at most 16: as many at once as the current byte still has.
 pub fn read(s: &[u8], b: Bits, n: usize) -> NumberRead
     ensures { λ r. ⌜ numberRead r ≡ shortField (one (now (s .entry))) n b ⌝ }
 {
@@ -76,10 +89,21 @@ pub fn read(s: &[u8], b: Bits, n: usize) -> NumberRead
     let mut value = 0usize;
     let mut more = n;
     'field: loop {
-        if more == 0 {
-            break 'field NumberRead::Got(value, here);
+        let left = here.left as usize;
+        if more <= left {
+            let rest = left - more;
+            let all = behind(value, here.byte, rest, more);
+            break 'field NumberRead::Got(
+                all,
+                Bits {
+                    left: rest as u8,
+                    ..here
+                },
+            );
         }
-        match bit(s, here) {
+        value = behind(value, here.byte, 0, left);
+        more -= left;
+        match fresh(s, here.at) {
             BitRead::Stop(f) => {
                 break 'field NumberRead::Stop(f);
             }
