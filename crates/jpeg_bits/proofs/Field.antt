@@ -1,13 +1,12 @@
--- A field of a file, bit after bit, in the code's terms.
+-- A field of a file, bit after bit and several bits at once, in the code's terms.
 use Prim.Native.Nat.{ℕ, zero, suc, _+_, _-_, _*_, _/_, _%_, _^_, _<_, _≤_}
 use mathlib.Core.Path.{_≡_, sym, ap, ap₂, _∙_}
 use mathlib.Core.List.{List}
 use native.Mathlib.Omega.{arith}
-use native.Mathlib.Nat.{not-suc-le-zero, add-zero, add-suc, mod-lt}
+use native.Mathlib.Nat.{not-suc-le-zero, add-zero, add-suc}
 use native.Mathlib.Numerals.{sub-one}
 use borrow.Author.Tests.{le-leb, lt-leb}
-use lib.Arith.{digits-lt}
-use lib.Pow.{pow-pos, pow-add, shr-shr}
+use lib.Pow.{shr-shr}
 use Rattle.whole.specs.Powers.{one-more}
 use Rattle.reading.specs.declared.Bits.{Bits}
 use Rattle.reading.specs.declared.Fault.{Fault}
@@ -55,6 +54,7 @@ module _ (s : List ℕ) (at byte : ℕ) where
   abbrev cursor : ℕ → Bits
   cursor left = record { at = at; byte = byte; left = left }
 
+  -- k bits of the byte, and then m more
   taken : (rest k m v : ℕ) → further s (m + k) v (cursor (rest + k)) ≡ further s m (v * 2 ^ k + byte / 2 ^ rest % 2 ^ k) (cursor rest)
   unfolding further one
   taken rest zero m v = rw (add-zero m, add-zero rest) (ap (λ w. further s m w (cursor rest)) (omega arith))
@@ -71,10 +71,3 @@ field-part s b v n k rest h e g =
     ap₂ (λ m left. further s m v (record { at = b .at; byte = b .byte; left = left })) (omega arith) (sym e)
     ∙ taken s (b .at) (b .byte) rest k (n - k) v
     ∙ ap (λ w. further s (n - k) w (record { at = b .at; byte = b .byte; left = rest })) (sym g)
-
--- of n bits `more` are to come; k of those are read
-pub field-grown :
-    (n more k x : ℕ) {v w : ℕ} → k ≤ more → more ≤ n → v < 2 ^ (n - more) → w ≡ v * 2 ^ k + x % 2 ^ k → w < 2 ^ (n - (more - k))
-field-grown n more k x h l small g =
-    let e : n - (more - k) ≡ n - more + k = omega arith in
-    rw (g, e, pow-add 2 (n - more) k) (digits-lt small (mod-lt x (pow-pos k)))

@@ -1,11 +1,11 @@
--- Powers of two as the code meets them: `1 << n` in 64 bits, and a number that takes one bit more. Assumes nothing.
+-- Powers of two as the code meets them: `1 << n` in 64 bits, and a number that takes bits behind it. Assumes nothing.
 use Prim.Native.Nat.{ℕ, suc, _+_, _-_, _*_, _/_, _%_, _^_, _<_, _≤_}
 use mathlib.Core.Path.{_≡_, refl, sym, _∙_}
 use native.Mathlib.Omega.{arith}
 use native.Mathlib.Nat.{pow-suc, mul-comm, mul-assoc, add-mul, add-assoc}
 use lib.Dec.{lit<}
-use lib.Arith.{mod-mul}
-use lib.Pow.{pow-mono, pow-pos}
+use lib.Arith.{mod-mul, digits-lt}
+use lib.Pow.{pow-add, pow-mono, pow-pos}
 
 -- 1 << n
 pub power-is : (n : ℕ) → n ≤ 63 → (1 * 2 ^ n) % 18446744073709551616 ≡ 2 ^ n
@@ -13,11 +13,15 @@ power-is n h =
     let m : 2 ^ n ≤ 2 ^ 63 = pow-mono {j = 63} h in
     omega arith
 
--- of n bits `more` are to come; one of those is read
+-- of n bits `more` are to come; k of those are read
+pub grown-by : (n more k : ℕ) {v r : ℕ} → k ≤ more → more ≤ n → v < 2 ^ (n - more) → r < 2 ^ k → v * 2 ^ k + r < 2 ^ (n - (more - k))
+grown-by n more k h le small l =
+    let e : n - (more - k) ≡ n - more + k = omega arith in
+    rw (e, pow-add 2 (n - more) k) (digits-lt small l)
+
+-- one of those is read
 pub grown : (n more : ℕ) {v c : ℕ} → 0 < more → more ≤ n → v < 2 ^ (n - more) → c < 2 → 2 * v + c < 2 ^ (n - (more - 1))
-grown n more p le h l =
-    let e : n - (more - 1) ≡ suc (n - more) = omega arith in
-    rw e (omega (arith, pow-suc 2 (n - more)))
+grown n more p le h l = omega (arith, grown-by n more 1 p le h l)
 
 -- at most 16 bits make a number below 65536
 pub small : (n more : ℕ) {v : ℕ} → n ≤ 16 → v < 2 ^ (n - more) → v < 65536

@@ -2,15 +2,16 @@
 use Prim.Native.Nat.{ℕ, _-_, _^_, _<_, _≤_}
 use mathlib.Core.Path.{_≡_, refl, _∙_, sym}
 use native.Mathlib.Omega.{arith}
+use native.Mathlib.Nat.{mod-lt}
 use lib.Pow.{pow-pos}
 use borrow.Author.Needs.{needs}
-use Rattle.whole.specs.Powers.{grown, small}
+use Rattle.whole.specs.Powers.{grown, grown-by, small}
 use Rattle.reading.specs.declared.Bits.{Bits}
 use Rattle.reading.specs.Bits.{one}
 use Rattle.reading.specs.Answers.{bitRead}
 use Rattle.reading.proofs.BitAnswers.{bit-below}
 use Rattle.jpeg_bits.proofs.Next.{one-fresh}
-use Rattle.jpeg_bits.proofs.Field.{further, field-wide, field-is, field-done, field-more, field-cut, field-part, field-grown}
+use Rattle.jpeg_bits.proofs.Field.{further, field-wide, field-is, field-done, field-more, field-cut, field-part}
 use Rattle.jpeg_bits.proofs.read.Statement.{statement}
 use Rattle.jpeg_bits.proofs.read.Tie as tie
 
@@ -65,7 +66,7 @@ module _ (c : tie.After-behind2 Inv-field μ-field) where
       ∙ field-part _ _ _ _ (c .before .before .before .field .here .left) 0 (omega arith) (omega arith) (c .behind2 .ensures)
 
   value-small : c .behind2 .result < 2 ^ (c .before .before .before .before .before .before .args .n - wanted)
-  value-small = field-grown _ _ _ _ (omega arith) (omega arith) (c .before .before .before .field .inv .1) (c .behind2 .ensures)
+  value-small = rw (c .behind2 .ensures) (grown-by _ _ (c .before .before .before .field .here .left) (omega arith) (omega arith) (c .before .before .before .field .inv .1) (mod-lt _ (pow-pos _)))
 
 module _ (c : tie.After-fresh Inv-field μ-field) where
   opened : bitRead (c .fresh .result) ≡ one (c .before .before .before .before .before .before .before .args .s .now) (emptied (c .before))
