@@ -45,6 +45,12 @@ module _ (s : List ℕ) (at : ℕ) where
 
 -- ---- the next bit
 
+-- above a byte there are zeros
+pub none-above : {x m : ℕ} → x < 256 → 7 < m → x / 2 ^ m ≡ 0
+none-above {x} {m} byte h =
+    let power : 2 ^ 8 ≤ 2 ^ m = pow-mono {i = 8} h in
+    div-eq-of-lt (omega arith)
+
 unread : (s : List ℕ) (at byte left : ℕ) → (left ≡ 0 → ⊥) → oneAt s at byte left ≡ got ((byte / 2 ^ (left - 1)) % 2) (record { at = at; byte = byte; left = left - 1 })
 unread s at byte zero n = absurd (n refl)
 unread s at byte (suc left) n = rw sub-one
@@ -59,9 +65,5 @@ module _ (s : List ℕ) (b : Bits) where
     unfolding one
     one-unread = unread s (b .at) (b .byte) (b .left) n
 
-    -- above a byte there are zeros
     pub one-above : 7 < b .left - 1 → b .byte < 256 → one s b ≡ got 0 (record { at = b .at; byte = b .byte; left = b .left - 1 })
-    one-above h byte =
-        let power : 2 ^ 8 ≤ 2 ^ (b .left - 1) = pow-mono {i = 8} h in
-        let none-left : b .byte / 2 ^ (b .left - 1) ≡ 0 = div-eq-of-lt (omega arith) in
-        one-unread ∙ rw none-left
+    one-above h byte = one-unread ∙ rw (none-above byte h)

@@ -2,11 +2,12 @@
 use Prim.Native.Nat.{ℕ, _+_, _*_, _/_, _%_, _^_, _<_, _≤_}
 use mathlib.Core.Path.{_≡_, ap₂}
 use native.Mathlib.Omega.{arith}
-use native.Mathlib.Nat.{div-eq-of-lt, div-le-self, mod-eq-of-lt, mod-le, mul-le-mul, mul-pos, le-of-lt}
+use native.Mathlib.Nat.{div-le-self, mod-eq-of-lt, mod-le, mul-le-mul, mul-pos, le-of-lt}
 use lib.Dec.{lit<}
 use lib.Pow.{pow-pos, pow-mono, shl-exact}
 use borrow.Author.Needs.{needs}
 use Rattle.whole.specs.Powers.{power-is}
+use Rattle.jpeg_bits.proofs.Next.{none-above}
 use Rattle.jpeg_bits.proofs.behind.Statement.{statement}
 use Rattle.jpeg_bits.proofs.behind.Tie as tie
 
@@ -21,14 +22,12 @@ module _ (c : tie.Start) where
   product : {y : ℕ} → y < 65536 → y * 2 ^ c .args .k ≤ 65536 * 65536
   product h = mul-le-mul (le-of-lt h) (pow-mono {j = 16} (c .pre .1))
 
+  -- whatever it is the remainder by, part of a byte is small
   part-small : {q : ℕ} → 0 < q → c .args .byte / 2 ^ c .args .rest % q < 65536
   part-small {q} h = omega (arith, c .fits .byte, mod-le (c .args .byte / 2 ^ c .args .rest) q, div-le-self (c .args .byte) (2 ^ c .args .rest))
 
   above : 8 ≤ c .args .rest → c .args .byte / 2 ^ c .args .rest % 2 ^ c .args .k ≡ 0
-  above h =
-      let high : 2 ^ 8 ≤ 2 ^ c .args .rest = pow-mono {i = 8} h in
-      let none : c .args .byte / 2 ^ c .args .rest ≡ 0 = div-eq-of-lt (omega (arith, c .fits .byte)) in
-      rw none (mod-eq-of-lt (pow-pos (c .args .k)))
+  above h = rw (none-above {x = c .args .byte} (omega (arith, c .fits .byte)) h) (mod-eq-of-lt (pow-pos (c .args .k)))
 
 shl-result : tie.Need-shl-result
 shl-result c = search needs
