@@ -31,7 +31,7 @@ unfoldable pub coefficients : List ℕ → List ℤ → List ℤ
 unfolding from
 coefficients q l = listOf 64 (λ i. dequantizedAt q l (zigzagPlace i))
 
--- the 64-entry basis: row x has the weights of the eight inputs in output x
+-- the 64-entry basis: row x has the weights of the eight inputs in output x (what they are nearest to: `Cosine`)
 unfoldable pub basis : List (List ℤ)
 basis =
     (pos 11585 ∷ pos 16069 ∷ pos 15137 ∷ pos 13623 ∷ pos 11585 ∷ pos 9102 ∷ pos 6270 ∷ pos 3196 ∷ [])
