@@ -1,0 +1,97 @@
+-- Flattening and its inverse undo each other, and numbers that are no record's are refused as a record that is not the file's.
+use Prim.Native.Nat.{ℕ, zero, suc, _+_, _<_}
+use mathlib.Core.Path.{_≡_, refl, sym, ap, _∙_}
+use mathlib.Core.Bool.{Bool, true, false, cond}
+use mathlib.Core.List.{List}
+use native.Mathlib.Omega.{arith}
+use borrow.Author.Tests.{lt-ltb, le-ltb, ne-eqb, ltb-true, ltb-false}
+use lib.Dec.{T, ltb, eqb, ltb→lt}
+use lib.ListN.{length}
+use lib.IntN.{ℤ}
+use Rattle.reading.specs.declared.Record.{Record}
+use Rattle.reading.specs.declared.Budget.{Budget}
+use Rattle.reading.specs.declared.Refusal.the-variants.{OverBudget, ShortRoom, NotItsRecord}
+use Rattle.reading.specs.declared.Bits.{Bits}
+use Rattle.reading.specs.Tests.{_and_, _or_}
+use Rattle.reading.specs.Reader.{Read, got, fault}
+use Rattle.reading.specs.Header.{Stage, more, done, stop, header}
+use Rattle.reading.specs.Scan.{levels}
+use Rattle.reading.specs.Reading.{scanned, readFrom}
+use Rattle.reading.specs.Calls.{same, sameFrame, undecoded, decodedFrom, decode, headerPrice, remaining}
+use Rattle.reading.proofs.FileBytes.{AllBytes}
+use Rattle.reading.proofs.Plain.{and-false}
+use Rattle.reading.proofs.Accepted.{header-accepted}
+use Rattle.c_functions.specs.declared.FlatRecord.{FlatRecord}
+use Rattle.c_functions.specs.Flat.{digit, flat, recordOf, isRecord, notItsRecord, channelless, asked, decodeFlat}
+
+-- ---- flattening
+
+eqb-digit : (b : Bool) → eqb (digit b) 1 ≡ b
+eqb-digit true = refl
+eqb-digit false = refl
+
+pub record-of-flat : (r : Record) → recordOf (flat r) ≡ r
+record-of-flat r = rw (eqb-digit (r .colour)) refl
+
+past : (n : ℕ) → suc (suc n) < 2 → ⊥
+past n p = omega arith
+
+digit-eqb : (n : ℕ) → T (ltb n 2) → digit (eqb n 1) ≡ n
+digit-eqb zero t = refl
+digit-eqb (suc zero) t = refl
+digit-eqb (suc (suc n)) t = absurd (past n (ltb→lt (suc (suc n)) 2 t))
+
+pub flat-of-record : (f : FlatRecord) → T (isRecord f) → flat (recordOf f) ≡ f
+flat-of-record f t = rw (digit-eqb (f .colour) t) refl
+
+pub flat-is-record : (r : Record) → T (isRecord (flat r))
+flat-is-record r = go (r .colour)
+  where
+    go : (b : Bool) → T (ltb (digit b) 2)
+    go true = tt
+    go false = tt
+
+-- ---- numbers that are no record's
+
+and-first : (a b : Bool) → a ≡ false → (a and b) ≡ false
+and-first a b e = rw e refl
+
+-- a record without channels is not equal to one with channels
+other : (q : Record) (f : FlatRecord) → eqb (q .channels) 0 ≡ false → same q (channelless f) ≡ false
+unfolding same
+other q f e =
+    and-first (sameFrame q (channelless f)) _
+    (and-false (eqb (q .width) (f .width)) _ (and-false (eqb (q .height) (f .height)) _ (and-first (eqb (q .channels) 0) _ e)))
+
+some : (n : ℕ) → 0 < n → eqb n 0 ≡ false
+some n p = ne-eqb n 0 (λ e. omega (arith, p, e))
+
+module _ (s : List ℕ) (y : AllBytes s) (f : FlatRecord) (out scratch : List ℕ) where
+  -- whatever is read, it is not the file's record
+  refused-so : (rest : Budget) (st : Stage) → header s (eqb (f .colour) 1) ≡ st → decodedFrom s (channelless f) out scratch rest (readFrom s st) ≡ undecoded NotItsRecord rest out scratch
+  refused-so rest (more h) e = refl
+  refused-so rest (stop x) e = refl
+  refused-so rest (done q) e = by (levels s q)
+    where
+      by : (l : Read Bits (List (List ℤ))) → decodedFrom s (channelless f) out scratch rest (scanned q l) ≡ undecoded NotItsRecord rest out scratch
+      by (fault x) = refl
+      by (got ls b) = rw (other q f (some (q .channels) (header-accepted (eqb (f .colour) 1) s y q e .frame .few .0))) refl
+
+  channelless-decodes : (budget : Budget) → decode s (channelless f) out scratch budget ≡ notItsRecord s f out scratch budget
+  unfolding decode
+  channelless-decodes budget =
+      ap (λ d. cond (ltb (length out) (f .output) or ltb (length scratch) (f .scratch)) (undecoded ShortRoom budget out scratch)
+      (cond (ltb (budget .left) (headerPrice s + f .work)) (undecoded OverBudget budget out scratch) d))
+      (refused-so (remaining budget (headerPrice s + f .work)) (header s (eqb (f .colour) 1)) refl)
+
+  -- what the code decodes by gives what the numbers are to give
+  pub asked-decodes : (budget : Budget) → decode s (asked f) out scratch budget ≡ decodeFlat s f out scratch budget
+  unfolding decodeFlat
+  asked-decodes budget = by (ltb 1 (f .colour)) refl
+    where
+      by : (t : Bool) → ltb 1 (f .colour) ≡ t → decode s (asked f) out scratch budget ≡ decodeFlat s f out scratch budget
+      by true e = rw (e, le-ltb (f .colour) 2 (ltb-true 1 (f .colour) e)) (channelless-decodes budget)
+      by false e = rw (e, lt-ltb (f .colour) 2 (below (f .colour) e)) refl
+        where
+          below : (n : ℕ) → ltb 1 n ≡ false → n < 2
+          below n e = omega (arith, ltb-false 1 n e)
