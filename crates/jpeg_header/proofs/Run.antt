@@ -1,11 +1,11 @@
 -- The loop of the header: what holds between two steps, and what each way out of a step says of the whole header.
 use Prim.Native.Nat.{ℕ, zero, suc, _+_, _*_, _-_, _<_, _≤_}
-use mathlib.Core.Path.{_≡_, sym, ap, _∙_, subst⁻¹}
+use mathlib.Core.Path.{_≡_, refl, sym, ap, _∙_, subst⁻¹}
 use mathlib.Core.Bool.{Bool, true, false, not}
 use mathlib.Core.List.{List}
 use native.Mathlib.Omega.{arith}
 use native.Mathlib.Nat.{not-suc-le-zero}
-use lib.Dec.{lit<}
+use lib.Dec.{eqb, lit<}
 use lib.ListN.{length, drop, length-take}
 use borrow.Author.Tests.{le-leb, lt-leb, eq-eqb, ne-eqb}
 use Rattle.reading.specs.declared.Refusal.{Refusal}
@@ -107,11 +107,8 @@ module _ (s : List ℕ) where
     pub opens-first : (byte s 0 ≡ 255 → ⊥) → opens s ≡ false
     opens-first n = rw (le-leb 2 (length s) two, ne-eqb (byte s 0) 255 n)
 
-    pub opens-second : byte s 0 ≡ 255 → (byte s 1 ≡ 216 → ⊥) → opens s ≡ false
-    opens-second p n = rw (le-leb 2 (length s) two, eq-eqb (byte s 0) 255 p, ne-eqb (byte s 1) 216 n)
-
-    pub opens-so : byte s 0 ≡ 255 → byte s 1 ≡ 216 → opens s ≡ true
-    opens-so p q = rw (le-leb 2 (length s) two, eq-eqb (byte s 0) 255 p, eq-eqb (byte s 1) 216 q)
+    pub opens-told : byte s 0 ≡ 255 → eqb (byte s 1) 216 ≡ opens s
+    opens-told p = rw (le-leb 2 (length s) two, eq-eqb (byte s 0) 255 p) refl
 
 -- ---- a step's answer
 

@@ -1,5 +1,6 @@
 -- A step's answer as a stage of the header, and where a state stands in the file.
 use Prim.Native.Nat.{ℕ, _≤_}
+use mathlib.Core.Bool.{Bool, true, false}
 use Rattle.reading.specs.declared.Case.{Case}
 use Rattle.reading.specs.declared.Case.the-variants.{Marker, Quantizers, Huffman}
 use Rattle.reading.specs.declared.Header.{Header}
@@ -8,6 +9,12 @@ use Rattle.reading.specs.Header.{Stage, more, done, stop}
 use Rattle.jpeg_header.specs.declared.Progress.{Progress}
 use Rattle.jpeg_header.specs.declared.Progress.the-variants.{More, Done, Stop}
 use Rattle.jpeg_header.specs.declared.Stepped.{Stepped}
+
+-- the header goes on
+abbrev pub goesOn : Progress → Bool
+goesOn More = true
+goesOn Done = false
+goesOn (Stop x) = false
 
 abbrev pub stageBy : Progress → Header → Record → Stage
 stageBy More h r = more h

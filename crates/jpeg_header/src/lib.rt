@@ -7,16 +7,20 @@ ghost use lib.Dec.{eqb};
 ghost use lib.ListN.{length, set};
 ghost use Rattle.reading.specs.declared.Refusal.the-variants.{Malformed};
 ghost use Rattle.reading.specs.Layout.{ceiling, blockCount, outputLength};
-ghost use Rattle.reading.specs.Header.{more, done, stop, refuse-if, moved, window, quantizer, huffman, frame, interval, shapeOf, recordOf, scan, kindOf, segment, marker, step, header, headed};
+ghost use Rattle.reading.specs.Header.{more, done, stop, refuse-if, moved, window, quantizer, huffman, frame, interval, shapeOf, recordOf, scan, kindOf, segment, marker, step, opens, header, headed};
+ghost use Rattle.reading.specs.Comments.{textAt, atComment, comments, sought};
 ghost use Rattle.reading.proofs.Frames.{FrameOk, Framed};
-ghost use Rattle.jpeg_header.specs.Steps.{stageOf, Inside};
+ghost use Rattle.reading.proofs.HeaderEnds.{Room};
+ghost use Rattle.jpeg_header.specs.Steps.{goesOn, stageOf, Inside};
 use reading::Budget;
 use reading::Case;
 use reading::Frame;
 use reading::Head;
 use reading::Header;
+use reading::Part;
 use reading::Record;
 use reading::Refusal;
+use reading::Sought;
 use reading::Verdict;
 
 // What a step leads to.
@@ -333,19 +337,26 @@ fn step(s: &[u8], colour: bool, state: Header) -> Stepped
     }
 }
 
+// The file opens 255 216.
+fn opens(s: &[u8]) -> bool
+    ensures { λ r. ⌜ r ≡ opens (now (s .entry)) ⌝ }
+{
+    if s.len() < 2 {
+        return false;
+    }
+    let first = s[0];
+    if first != 255 {
+        return false;
+    }
+    let second = s[1];
+    second == 216
+}
+
 // The header of a file, limits set aside.
 pub fn header(s: &[u8], colour: bool) -> Head
     ensures { λ r. ⌜ r ≡ headed (header (now (s .entry)) colour) ⌝ }
 {
-    if s.len() < 2 {
-        return Head::refused(Refusal::Malformed);
-    }
-    let first = s[0];
-    if first != 255 {
-        return Head::refused(Refusal::Malformed);
-    }
-    let second = s[1];
-    if second != 216 {
+    if !opens(s) {
         return Head::refused(Refusal::Malformed);
     }
     let mut state = Header::fresh();
@@ -368,5 +379,71 @@ pub fn header(s: &[u8], colour: bool) -> Head
                 return Head::refused(why);
             }
         }
+    }
+}
+
+// ---- comments
+
+// The header goes on behind this step.
+fn goes_on(progress: Progress) -> bool
+    ensures { λ r. ⌜ r ≡ goesOn progress ⌝ }
+{
+    match progress {
+        Progress::More => true,
+        Progress::Done => false,
+        Progress::Stop(_) => false,
+    }
+}
+
+// The marker of a comment is read next.
+fn at_comment(s: &[u8], state: Header) -> bool
+    requires { ⌜ state .at ≤ length (now s) ⌝ }
+    ensures { λ r. ⌜ r ≡ atComment (now (s .entry)) (state .at) (state .case) ⌝ }
+{
+    let at = state.at;
+    let case = state.case;
+    match case {
+        Case::Marker => jpeg_segments::byte_at(s, at + 1) == 254,
+        Case::Quantizers(_) => false,
+        Case::Huffman(_) => false,
+    }
+}
+
+// The text of the segment whose marker stands at a place.
+fn text_at(s: &[u8], at: usize) -> Part
+    requires { ⌜ Room (now s) at ⌝ }
+    ensures { λ r. ⌜ r ≡ textAt (now (s .entry)) at ⌝ }
+{
+    let size = jpeg_segments::word_at(s, at + 2);
+    Part {
+        at: at + 4,
+        length: size - 2,
+    }
+}
+
+// Comment i of those before the scan, limits set aside. The steps are the header's; those that go over a comment are counted.
+pub fn comment(s: &[u8], i: usize) -> Sought
+    ensures { λ r. ⌜ r ≡ sought (comments (now (s .entry))) i ⌝ }
+{
+    if !opens(s) {
+        return Sought::Absent;
+    }
+    let mut state = Header::fresh();
+    let mut before = i;
+    loop {
+        let r = step(s, false, state);
+        let progress = r.progress;
+        if !goes_on(progress) {
+            return Sought::Absent;
+        }
+        let at = state.at;
+        if at_comment(s, state) {
+            if before == 0 {
+                return Sought::There(text_at(s, at));
+            }
+            before -= 1;
+        }
+        let next = r.state;
+        state = next;
     }
 }

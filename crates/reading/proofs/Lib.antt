@@ -40,3 +40,4 @@ pub mod SettledLength
 pub mod Decodings
 pub mod Upstream
 pub mod SettledCalls
+pub mod Comments

@@ -15,4 +15,5 @@ pub mod Scan
 pub mod Reading
 pub mod Settled
 pub mod Calls
+pub mod Comments
 pub mod Bench

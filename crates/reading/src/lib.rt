@@ -389,6 +389,25 @@ pub struct Settling {
     pub length: usize,
 }
 
+// A part of a file: its place and its length.
+pub struct Part {
+    pub at: usize,
+    pub length: usize,
+}
+
+// What looking for a comment in the header answers.
+pub enum Sought {
+    Absent,
+    There(Part),
+}
+
+// What has_comment answers.
+pub struct Presence {
+    pub verdict: Verdict,
+    pub budget: Budget,
+    pub there: bool,
+}
+
 // What reading a bit answers.
 pub enum BitRead {
     Got(u8, Bits),
