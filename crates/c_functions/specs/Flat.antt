@@ -7,10 +7,14 @@ use lib.ListN.{length}
 use Rattle.reading.specs.declared.Record.{Record}
 use Rattle.reading.specs.declared.Budget.{Budget}
 use Rattle.reading.specs.declared.Inspection.{Inspection}
+use Rattle.reading.specs.declared.Part.{Part}
+use Rattle.reading.specs.declared.Presence.{Presence}
 use Rattle.reading.specs.declared.Refusal.the-variants.{OverBudget, ShortRoom, NotItsRecord}
 use Rattle.reading.specs.Tests.{_or_}
 use Rattle.reading.specs.Calls as calls
 use Rattle.c_functions.specs.declared.FlatRecord.{FlatRecord}
+use Rattle.c_functions.specs.declared.FlatPart.{FlatPart}
+use Rattle.c_functions.specs.declared.FlatPresence.{FlatPresence}
 use Rattle.c_functions.specs.declared.Inspected.{Inspected}
 use Rattle.c_functions.specs.declared.Decoded.{Decoded}
 use Rattle.c_functions.specs.declared.Settled.{Settled}
@@ -147,3 +151,11 @@ settled t =
     remade
     (record { number = calls.number (t .answer .verdict); left = t .answer .budget .left; length = t .answer .length })
     (t .output)
+
+-- ---- comments
+
+abbrev pub flatPart : Part → FlatPart
+flatPart p = record { at = p .at; length = p .length }
+
+abbrev pub flatPresence : Presence → FlatPresence
+flatPresence q = record { number = calls.number (q .verdict); left = q .budget .left; there = digit (q .there) }

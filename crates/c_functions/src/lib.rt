@@ -2,7 +2,8 @@
 // is a pointer and a length. Each contract is the call's own, through the flattening.
 ghost use mathlib.Core.Path.{_≡_};
 ghost use Rattle.reading.specs.Calls.{number, inspect, settle};
-ghost use Rattle.c_functions.specs.Flat.{digit, flat, recordOf, asked, inspected, drawn, decoded, decodeFlat, remade, settled};
+ghost use Rattle.c_functions.specs.Flat.{digit, flat, recordOf, asked, inspected, drawn, decoded, decodeFlat, remade, settled, flatPart, flatPresence};
+ghost use Rattle.reading.specs.Comments.{commentPart, hasComment};
 use reading::Budget;
 use reading::Limits;
 use reading::Record;
@@ -50,6 +51,20 @@ pub struct Settled {
     pub number: usize,
     pub left: u64,
     pub length: usize,
+}
+
+// A part of the bytes: its place and its length.
+#[repr(C)]
+pub struct FlatPart {
+    pub at: usize,
+    pub length: usize,
+}
+
+#[repr(C)]
+pub struct FlatPresence {
+    pub number: usize,
+    pub left: u64,
+    pub there: usize,
 }
 
 // The number of a verdict, 0 where accepted.
@@ -231,5 +246,45 @@ pub extern "C" fn tillsparrow_settle(
         number: number(verdict),
         left: rest.left,
         length: seen.length,
+    }
+}
+
+// Where the text of comment i stands in the bytes.
+#[no_mangle]
+pub extern "C" fn tillsparrow_comment(bytes: &[u8], i: usize) -> FlatPart
+    ensures { λ r. ⌜ r ≡ flatPart (commentPart (now (bytes .entry)) i) ⌝ }
+{
+    let part = jpeg_comment::comment_part(bytes, i);
+    FlatPart {
+        at: part.at,
+        length: part.length,
+    }
+}
+
+// Whether comment i is there, at inspect's price and with its numbers.
+#[no_mangle]
+pub extern "C" fn tillsparrow_has_comment(
+    bytes: &[u8],
+    i: usize,
+    input: usize,
+    side: usize,
+    output: usize,
+    budget: u64,
+) -> FlatPresence
+    ensures { λ r. ⌜ r ≡ flatPresence (hasComment (now (bytes .entry)) i (record { input = input; side = side; output = output }) (record { left = budget })) ⌝ }
+{
+    let seen = jpeg_comment::has_comment(
+        bytes,
+        i,
+        limits(input, side, output),
+        Budget::fresh(budget),
+    );
+    let verdict = seen.verdict;
+    let rest = seen.budget;
+    let there = digit(seen.there);
+    FlatPresence {
+        number: number(verdict),
+        left: rest.left,
+        there: there,
     }
 }

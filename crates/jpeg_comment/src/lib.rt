@@ -36,10 +36,7 @@ fn part_of(sought: Sought) -> Part
     ensures { λ r. ⌜ r ≡ partOf sought ⌝ }
 {
     match sought {
-        Sought::Absent => Part {
-            at: 0,
-            length: 0,
-        },
+        Sought::Absent => Part { at: 0, length: 0 },
         Sought::There(part) => part,
     }
 }
