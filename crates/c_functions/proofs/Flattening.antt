@@ -1,5 +1,5 @@
 -- Flattening and its inverse undo each other, and numbers that are no record's are refused as a record that is not the file's.
-use Prim.Native.Nat.{ℕ, zero, suc, _+_, _<_}
+use Prim.Native.Nat.{ℕ, zero, suc, _+_, _<_, _≤_}
 use mathlib.Core.Path.{_≡_, refl, sym, ap, _∙_}
 use mathlib.Core.Bool.{Bool, true, false, cond}
 use mathlib.Core.List.{List}
@@ -52,6 +52,12 @@ flat-is-record r = go (r .colour)
     go false = tt
 
 -- ---- numbers that are no record's
+
+pub asked-none : (f : FlatRecord) → 1 < f .colour → asked f ≡ channelless f
+asked-none f p = rw (lt-ltb 1 (f .colour) p) refl
+
+pub asked-so : (f : FlatRecord) → f .colour ≤ 1 → asked f ≡ recordOf f
+asked-so f p = rw (le-ltb 1 (f .colour) p) refl
 
 and-first : (a b : Bool) → a ≡ false → (a and b) ≡ false
 and-first a b e = rw e refl

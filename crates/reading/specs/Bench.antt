@@ -16,6 +16,7 @@ use Rattle.reading.specs.Colour.{red, green, blue}
 use Rattle.reading.specs.Transform.{clamped, coefficients, samples}
 use Rattle.reading.specs.Layout.{Shape, factorsOf, blockCount, outputLength, workOf}
 use Rattle.reading.specs.Calls.{inspect, decode, settle, number, eqList}
+use Rattle.reading.specs.Comments.{comments, commentPart, comment, hasComment}
 
 -- ---- files
 
@@ -71,6 +72,13 @@ falling coded = file 16 (replicate 64 1) [] (1 ∷ 1 ∷ 1 ∷ replicate 13 0 ++
 abbrev restarting : List ℕ
 restarting = file 16 (16 ∷ replicate 63 1) (segment 221 (0 ∷ 1 ∷ [])) (oneCode 3) (oneCode 0) (87 ∷ 255 ∷ 208 ∷ 87 ∷ [])
 
+-- F with three comments before its tables, the second empty, fill before the third; between them a segment whose body looks like one
+abbrev noted : List ℕ → List ℕ
+noted coded =
+    file 8 (replicate 64 1)
+    (segment 254 (65 ∷ 66 ∷ []) ++ segment 225 (255 ∷ 254 ∷ 0 ∷ 3 ∷ 9 ∷ []) ++ segment 254 [] ++ 255 ∷ segment 254 (67 ∷ []))
+    (oneCode 0) (oneCode 0) coded
+
 -- ---- answers as numbers
 
 abbrev wide : Limits
@@ -97,15 +105,26 @@ decoded s room budget =
     let d = decode s (inspect s false wide plenty .found) (replicate room 7) (replicate room 9) (holding budget) in
     number (d .answer .verdict) ∷ d .answer .budget .left ∷ d .output ++ d .scratch
 
+-- 1 for yes
+abbrev flag : Bool → ℕ
+flag true = 1
+flag false = 0
+
+-- where comment i stands, its length and its text
+abbrev text : List ℕ → ℕ → List ℕ
+text s i = commentPart s i .at ∷ commentPart s i .length ∷ comment s i
+
+-- has_comment's number, what it leaves of the budget, and whether comment i is there
+abbrev there : List ℕ → ℕ → ℕ → List ℕ
+there s i budget =
+    let q = hasComment s i wide (holding budget) in
+    number (q .verdict) ∷ q .budget .left ∷ flag (q .there) ∷ []
+
 -- the samples of a block with only a DC coefficient
 abbrev flat : ℤ → List ℕ
 flat d = samples (d ∷ zeros 63)
 
 -- the record, field by field
-abbrev flag : Bool → ℕ
-flag true = 1
-flag false = 0
-
 abbrev pub numbers : Record → List ℕ
 numbers r =
     r .width ∷ r .height ∷ r .channels ∷ r .hs ∷ r .vs
@@ -191,9 +210,21 @@ table =
     -- the clamp's bounds
     ∷ gives (clamped (neg 1) ∷ clamped (pos 0) ∷ clamped (pos 1073741823) ∷ clamped (pos 1073741824) ∷ clamped (pos 273804165119) ∷ clamped (pos 273804165120) ∷ [])
     (0 ∷ 0 ∷ 0 ∷ 1 ∷ 254 ∷ 255 ∷ [])
+    -- the comments before the scan, and whether they are there at inspect's price
+    ∷ gives (text (noted (63 ∷ [])) 0) (88 ∷ 2 ∷ 65 ∷ 66 ∷ [])
+    ∷ gives (text (noted (63 ∷ [])) 1) (103 ∷ 0 ∷ [])
+    ∷ gives (text (noted (63 ∷ [])) 2) (108 ∷ 1 ∷ 67 ∷ [])
+    ∷ gives (text (noted (63 ∷ [])) 3) (0 ∷ 0 ∷ [])
+    ∷ gives (there (noted (63 ∷ [])) 1 3600) (0 ∷ 67 ∷ 1 ∷ [])
+    ∷ gives (there (noted (63 ∷ [])) 2 3600) (0 ∷ 67 ∷ 1 ∷ [])
+    ∷ gives (there (noted (63 ∷ [])) 3 3600) (0 ∷ 67 ∷ 0 ∷ [])
+    ∷ gives (there (noted (63 ∷ [])) 0 3500) (2 ∷ 3167 ∷ 0 ∷ [])
+    -- a file that is refused in its scan has none
+    ∷ gives (text (noted (255 ∷ 1 ∷ [])) 0) (0 ∷ 0 ∷ [])
+    ∷ gives (there (noted (255 ∷ 1 ∷ [])) 0 3600) (4 ∷ 65 ∷ 0 ∷ [])
     ∷ []
 
 -- every piece is as the rules say
 pub pieces : T (all right table)
-unfolding inspect decode settle samples coefficients clamped red green blue blockCount outputLength workOf
+unfolding inspect decode settle comments commentPart hasComment samples coefficients clamped red green blue blockCount outputLength workOf
 pieces = tt
