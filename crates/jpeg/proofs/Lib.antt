@@ -1,4 +1,4 @@
--- Laws of the calls and of rendering.
+-- Laws of the calls.
 pub mod Chain
 pub mod Admitted
 pub mod Inspected
@@ -6,10 +6,3 @@ pub mod Refiled
 pub mod SettledCode
 pub mod Decodes
 pub mod Draws
-pub mod Drawing
-pub mod RowPlaces
-pub mod Spreading
-pub mod Shades
-pub mod Tinting
-pub mod Mcus
-pub mod RowDrawn

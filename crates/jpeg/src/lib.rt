@@ -9,8 +9,6 @@ ghost use Rattle.jpeg.specs.Meets.{Meets};
 ghost use Rattle.jpeg.specs.Steps.{weighed, admitted, drawnAs, left, remade};
 
 mod equal;
-mod layout;
-mod render;
 mod rewrite;
 
 use reading::Budget;
@@ -177,7 +175,7 @@ fn draw(
         ScanRead::Stop(_) => undecoded(Refusal::NotItsRecord, rest),
         ScanRead::Done => {
             let n = found.scratch;
-            render::picture(found, &scratch[..n], out);
+            jpeg_render::picture(found, &scratch[..n], out);
             Decoding {
                 verdict: Verdict::Accepted,
                 budget: rest,
