@@ -8,7 +8,6 @@ ghost use Rattle.reading.specs.Calls.{tooLarge, gives, inspection, inspect, dec
 ghost use Rattle.jpeg.specs.Meets.{Meets};
 ghost use Rattle.jpeg.specs.Steps.{weighed, admitted, drawnAs, left, remade};
 
-mod equal;
 mod rewrite;
 
 use reading::Budget;
@@ -168,7 +167,7 @@ fn draw(
     requires { ⌜ Meets (now s) read found (now out) (now scratch) ⌝ }
     ensures { λ r. ⌜ left r (now (out .exit)) (now (scratch .exit)) ≡ drawnAs (now (s .entry)) read found (now (out .entry)) (now (scratch .entry)) rest ⌝ }
 {
-    if !equal::same(read, found) {
+    if !jpeg_equal::same(read, found) {
         return undecoded(Refusal::NotItsRecord, rest);
     }
     match jpeg_scan::draw(s, found, scratch) {

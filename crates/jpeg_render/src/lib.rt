@@ -1,5 +1,5 @@
 // The picture of a record from the samples of all its blocks (the rules' 'Samples, places, colour'). Any record may come in: one whose
-// numbers do not fit each other or the two buffers is not drawn, and the output stays as it was. The test costs a few comparisons a picture.
+// numbers do not fit each other or the two buffers is not drawn, and the output stays as it was. The test is made once a picture.
 ghost use mathlib.Core.Path.{_≡_};
 ghost use lib.Dec.{eqb};
 ghost use Rattle.reading.specs.Tests.{_and_, _or_, within};
