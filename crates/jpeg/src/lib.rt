@@ -6,10 +6,8 @@ ghost use Rattle.reading.specs.Tests.{_or_};
 ghost use Rattle.reading.specs.declared.Verdict.the-variants.{Refused};
 ghost use Rattle.reading.specs.Calls.{tooLarge, gives, inspection, inspect, decode, settle};
 ghost use Rattle.jpeg.specs.Meets.{Meets};
-ghost use Rattle.jpeg.specs.Steps.{weighed, admitted, drawnAs, left, remade};
-
-mod rewrite;
-
+ghost use Rattle.jpeg_rewrite.specs.Refiled.{remade};
+ghost use Rattle.jpeg.specs.Steps.{weighed, admitted, drawnAs, left};
 use reading::Budget;
 use reading::Decoding;
 use reading::Inspection;
@@ -229,7 +227,7 @@ pub fn settle(s: &[u8], limits: Limits, budget: Budget, out: &mut [u8]) -> Settl
     let rest = seen.budget;
     let found = seen.found;
     match verdict {
-        Verdict::Refused(x) => rewrite::unsettled(x, rest, 0),
-        Verdict::Accepted => rewrite::file(s, found, rest, out),
+        Verdict::Refused(x) => jpeg_rewrite::unsettled(x, rest, 0),
+        Verdict::Accepted => jpeg_rewrite::file(s, found, rest, out),
     }
 }

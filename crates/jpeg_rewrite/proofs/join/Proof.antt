@@ -1,7 +1,7 @@
-use Rattle.jpeg.proofs.Refiled.{joined-short, joined-all}
+use Rattle.jpeg_rewrite.proofs.Refiling.{joined-short, joined-all}
 use borrow.Author.Needs.{needs}
-use Rattle.jpeg.proofs.rewrite.join.Statement.{statement}
-use Rattle.jpeg.proofs.rewrite.join.Tie as tie
+use Rattle.jpeg_rewrite.proofs.join.Statement.{statement}
+use Rattle.jpeg_rewrite.proofs.join.Tie as tie
 
 add-whole : tie.Need-add-whole
 add-whole c = search needs

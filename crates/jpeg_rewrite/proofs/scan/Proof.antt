@@ -1,8 +1,8 @@
 use Rattle.reading.specs.Settled.{settledOf}
-use Rattle.jpeg.proofs.Refiled.{laid-short, laid-long}
+use Rattle.jpeg_rewrite.proofs.Refiling.{laid-short, laid-long}
 use borrow.Author.Needs.{needs}
-use Rattle.jpeg.proofs.rewrite.scan.Statement.{statement}
-use Rattle.jpeg.proofs.rewrite.scan.Tie as tie
+use Rattle.jpeg_rewrite.proofs.scan.Statement.{statement}
+use Rattle.jpeg_rewrite.proofs.scan.Tie as tie
 
 slice-relend-prefix-settled : tie.Need-slice-relend-prefix-settled
 slice-relend-prefix-settled c = search needs

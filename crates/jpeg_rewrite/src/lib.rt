@@ -1,12 +1,12 @@
 // Settle behind its tests: the scan is settled at its place in the buffer, behind the head's, and then the head is copied before it.
+// Any record may come in.
 ghost use mathlib.Core.Path.{_≡_};
 ghost use mathlib.Core.List.{_++_};
 ghost use Prim.Native.Nat.{_+_, _≤_, _<_, _^_};
 ghost use lib.ListN.{length, take, drop};
 ghost use Rattle.reading.specs.declared.Verdict.the-variants.{Refused};
 ghost use Rattle.reading.specs.Settled.{settledOf, scanSettled};
-ghost use Rattle.jpeg.specs.Steps.{remade, scanLaid, joined, refiled};
-ghost use Rattle.jpeg.specs.Meets.{Founded};
+ghost use Rattle.jpeg_rewrite.specs.Refiled.{remade, scanLaid, joined, refiled};
 use reading::Budget;
 use reading::Record;
 use reading::Refusal;
@@ -14,7 +14,7 @@ use reading::ScanSettled;
 use reading::Settling;
 use reading::Verdict;
 
-pub(crate) fn unsettled(x: Refusal, rest: Budget, n: usize) -> Settling
+pub fn unsettled(x: Refusal, rest: Budget, n: usize) -> Settling
     ensures { λ r. ⌜ r ≡ record { verdict = Refused x; budget = rest; length = n } ⌝ }
 {
     Settling {
@@ -64,11 +64,14 @@ fn join(s: &[u8], start: usize, n: usize, rest: Budget, out: &mut [u8]) -> Settl
     }
 }
 
-// The settled file of a record whose scan is not yet read.
-pub(crate) fn file(s: &[u8], found: Record, rest: Budget, out: &mut [u8]) -> Settling
-    requires { ⌜ Founded (now s) found ⌝ }
+// The settled file of a record whose scan is not yet read. No slice is as long as is tested first: the test keeps the length whole
+// without that.
+pub fn file(s: &[u8], found: Record, rest: Budget, out: &mut [u8]) -> Settling
     ensures { λ r. ⌜ remade r (now (out .exit)) ≡ refiled (now (s .entry)) found rest (now (out .entry)) ⌝ }
 {
+    if 9223372036854775808 <= s.len() {
+        return unsettled(Refusal::TooLong, rest, 0);
+    }
     match scan(s, found, out) {
         ScanSettled::Stop(f) => unsettled(Refusal::Scan(f), rest, 0),
         ScanSettled::NoCode => unsettled(Refusal::NoEndCode, rest, 0),

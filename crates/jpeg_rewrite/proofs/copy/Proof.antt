@@ -3,9 +3,9 @@ use mathlib.Core.List.{_++_}
 use Prim.Native.Nat.{ℕ, _≤_, _-_}
 use native.Mathlib.Omega.{arith}
 use lib.ListN.{take, drop}
-use Rattle.jpeg.proofs.Refiled.{copied-length, copied-next}
-use Rattle.jpeg.proofs.rewrite.copy.Statement.{statement}
-use Rattle.jpeg.proofs.rewrite.copy.Tie as tie
+use Rattle.jpeg_rewrite.proofs.Refiling.{copied-length, copied-next}
+use Rattle.jpeg_rewrite.proofs.copy.Statement.{statement}
+use Rattle.jpeg_rewrite.proofs.copy.Tie as tie
 
 same : (i n : ℕ) → i ≤ n → n ≤ i → i ≡ n
 same i n h k = omega arith
