@@ -28,7 +28,9 @@ use Rattle.reading.proofs.Accepted as H
 use Rattle.reading.proofs.Counted.{scan-is, scan-levels, samples-counted}
 use Rattle.reading.proofs.ScanAnswers as E
 use Rattle.jpeg.specs.Meets.{Meets}
-use Rattle.jpeg.specs.Rows.{Sized, Drawable}
+use Rattle.jpeg_render.specs.Rows.{Sized, Drawable}
+use Rattle.jpeg_render.specs.Rendered.{rendered}
+use Rattle.jpeg_render.proofs.Fitting.{rendered-drawable}
 use Rattle.jpeg.specs.Steps.{drawnAs, left}
 use Rattle.reading.proofs.States.{header-readable}
 use Rattle.jpeg.proofs.Decodes.{drawn-other, drawn-fault, drawn-done}
@@ -98,19 +100,18 @@ module _ (s : List ℕ) (y : AllBytes s) (q r : Record) (out scratch : List ℕ)
         pub draws-part : r .scratch ≡ length (take (r .scratch) scratch′)
         draws-part = sym (ap length part ∙ counted)
 
-        pub draws-drawable : Drawable r (take (r .scratch) scratch′) out
-        draws-drawable =
+        drawable : Drawable r (take (r .scratch) scratch′) out
+        drawable =
             record {
               sized = sized s y (r .colour) r head;
               output = accepted .output;
               room = m .out-room;
-              blocks = accepted .blocks;
-              whole = omega (arith, full);
+              whole = omega (arith, full, accepted .blocks);
             }
 
-        pub draws-done : {answer : Decoding} {out′ : List ℕ} → answer ≡ record { verdict = Accepted; budget = rest } → out′ ≡ over (picture r (take (r .scratch) scratch′)) out → left answer out′ scratch′ ≡ drawnAs s q r out scratch rest
+        pub draws-done : {answer : Decoding} {out′ : List ℕ} → answer ≡ record { verdict = Accepted; budget = rest } → out′ ≡ rendered r (take (r .scratch) scratch′) out → left answer out′ scratch′ ≡ drawnAs s q r out scratch rest
         unfolding all
         draws-done {answer} {out′} a b =
             ap (λ x. left x out′ scratch′) a
-            ∙ ap₂ (λ x z. left (record { verdict = Accepted; budget = rest }) x z) (b ∙ ap (λ x. over (picture r x) out) part) filled
+            ∙ ap₂ (λ x z. left (record { verdict = Accepted; budget = rest }) x z) (b ∙ rendered-drawable r (take (r .scratch) scratch′) out drawable ∙ ap (λ x. over (picture r x) out) part) filled
             ∙ drawn-done s q r out scratch rest (sym e ∙ f) (E.accepted (scanOf s r) e3 p .blocks-read) (E.accepted (scanOf s r) e3 p .behind) scanned

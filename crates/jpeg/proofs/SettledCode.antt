@@ -17,7 +17,7 @@ use Rattle.reading.specs.Reading.{reading}
 use Rattle.reading.specs.Calls.{inspect, Rewritten, settle}
 use Rattle.reading.proofs.Theorems.{coefficientsOf}
 use Rattle.reading.proofs.SettledCalls.{Enough, SettledBy, settled-by, settledBytes, bytes-are, settled-reads, record-is, settled-inspects, settled-again, one-picture-one-file}
-use Rattle.jpeg.specs.Steps.{remade}
+use Rattle.jpeg_rewrite.specs.Refiled.{remade}
 
 -- a call of settle that answered Accepted, and the buffer as it left it
 pub record Call (s : List ℕ) (l : Limits) (budget : Budget) (out : List ℕ) (answer : Settling) (left : List ℕ) : Type 0 where

@@ -1,6 +1,3 @@
 -- The calls in the parts that the code has.
 pub mod Steps
 pub mod Meets
-pub mod Drawn
-pub mod Rows
-pub mod Tinted

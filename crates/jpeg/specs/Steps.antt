@@ -1,27 +1,22 @@
 -- The calls in the parts that the code has: what inspect and settle test before the scan is read; a record that is compared before it
--- is drawn; a scan that is settled before its head is copied.
+-- is drawn.
 use mathlib.Core.Bool.{Bool, cond}
-use mathlib.Core.List.{List, _++_}
-use mathlib.Core.Option.{Option}
-use Prim.Native.Nat.{ℕ, _+_, _^_}
+use mathlib.Core.List.{List}
+use Prim.Native.Nat.{ℕ, _^_}
 use lib.Dec.{leb, ltb}
-use lib.ListN.{length, take, drop}
-use Rattle.reading.specs.declared.Bits.{Bits}
+use lib.ListN.{length}
 use Rattle.reading.specs.declared.Budget.{Budget}
 use Rattle.reading.specs.declared.Decoding.{Decoding}
 use Rattle.reading.specs.declared.Inspection.{Inspection}
 use Rattle.reading.specs.declared.Limits.{Limits}
 use Rattle.reading.specs.declared.Record.{Record}
-use Rattle.reading.specs.declared.Refusal.the-variants.{TooLong, OverBudget, CutShort, TooLarge, ShortRoom, Scan}
-use Rattle.reading.specs.declared.Settling.{Settling}
+use Rattle.reading.specs.declared.Refusal.the-variants.{TooLong, OverBudget, CutShort, TooLarge}
 use Rattle.reading.specs.declared.Verdict.the-variants.{Accepted}
 use Rattle.reading.specs.Tests.{_or_}
-use Rattle.reading.specs.Reader.{Read, got, fault}
 use Rattle.reading.specs.Header.{Stage, more, done, stop, header}
 use Rattle.reading.specs.Scan.{levels}
 use Rattle.reading.specs.Reading.{scanned}
-use Rattle.reading.specs.Settled.{behind, settledOf, laidOver}
-use Rattle.reading.specs.Calls.{headerPrice, gives, tooLarge, remaining, inspection, Decoded, decodedFrom, Rewritten, unsettled, settledInto}
+use Rattle.reading.specs.Calls.{headerPrice, gives, tooLarge, remaining, inspection, Decoded, decodedFrom}
 
 -- ---- before the scan
 
@@ -58,30 +53,3 @@ drawnAs s q r out scratch rest = decodedFrom s r out scratch rest (scanned q (le
 -- an answer and the two buffers as they are left
 abbrev pub left : Decoding → List ℕ → List ℕ → Decoded
 left answer out scratch = record { answer = answer; output = out; scratch = scratch }
-
--- ---- settle
-
--- an answer and the buffer as it is left
-abbrev pub remade : Settling → List ℕ → Rewritten
-remade answer out = record { answer = answer; output = out }
-
--- a settled scan laid from its first coded byte on, where the buffer reaches so far
-unfoldable pub scanLaid : ℕ → Read Bits (Option (List ℕ)) → List ℕ → List ℕ
-unfolding laidOver
-scanLaid start t out = cond (ltb (length out) start) out (take start out ++ laidOver t (drop start out))
-
--- behind a scan of n bytes: 7, or the head before it
-unfoldable pub joined : List ℕ → ℕ → ℕ → Budget → List ℕ → Rewritten
-joined s start n rest out =
-    cond (ltb (length out) (start + n)) (unsettled ShortRoom rest (start + n) out)
-    (remade (record { verdict = Accepted; budget = rest; length = start + n }) (take start s ++ drop start out))
-
--- what a scan that was read and settled makes of the buffer
-abbrev pub refiledBy : List ℕ → Record → Budget → List ℕ → Read Bits (Option (List ℕ)) → Rewritten
-refiledBy s r rest out (got t b) = settledInto out rest (behind (take (r .start) s) t)
-refiledBy s r rest out (fault f) = unsettled (Scan f) rest 0 out
-
--- settle behind the tests before the scan, which gave the record r
-unfoldable pub refiled : List ℕ → Record → Budget → List ℕ → Rewritten
-unfolding settledOf
-refiled s r rest out = refiledBy s r rest out (settledOf s r)

@@ -6,13 +6,8 @@ ghost use Rattle.reading.specs.Tests.{_or_};
 ghost use Rattle.reading.specs.declared.Verdict.the-variants.{Refused};
 ghost use Rattle.reading.specs.Calls.{tooLarge, gives, inspection, inspect, decode, settle};
 ghost use Rattle.jpeg.specs.Meets.{Meets};
-ghost use Rattle.jpeg.specs.Steps.{weighed, admitted, drawnAs, left, remade};
-
-mod equal;
-mod layout;
-mod render;
-mod rewrite;
-
+ghost use Rattle.jpeg_rewrite.specs.Refiled.{remade};
+ghost use Rattle.jpeg.specs.Steps.{weighed, admitted, drawnAs, left};
 use reading::Budget;
 use reading::Decoding;
 use reading::Inspection;
@@ -170,14 +165,14 @@ fn draw(
     requires { ⌜ Meets (now s) read found (now out) (now scratch) ⌝ }
     ensures { λ r. ⌜ left r (now (out .exit)) (now (scratch .exit)) ≡ drawnAs (now (s .entry)) read found (now (out .entry)) (now (scratch .entry)) rest ⌝ }
 {
-    if !equal::same(read, found) {
+    if !jpeg_equal::same(read, found) {
         return undecoded(Refusal::NotItsRecord, rest);
     }
     match jpeg_scan::draw(s, found, scratch) {
         ScanRead::Stop(_) => undecoded(Refusal::NotItsRecord, rest),
         ScanRead::Done => {
             let n = found.scratch;
-            render::picture(found, &scratch[..n], out);
+            jpeg_render::picture(found, &scratch[..n], out);
             Decoding {
                 verdict: Verdict::Accepted,
                 budget: rest,
@@ -232,7 +227,7 @@ pub fn settle(s: &[u8], limits: Limits, budget: Budget, out: &mut [u8]) -> Settl
     let rest = seen.budget;
     let found = seen.found;
     match verdict {
-        Verdict::Refused(x) => rewrite::unsettled(x, rest, 0),
-        Verdict::Accepted => rewrite::file(s, found, rest, out),
+        Verdict::Refused(x) => jpeg_rewrite::unsettled(x, rest, 0),
+        Verdict::Accepted => jpeg_rewrite::file(s, found, rest, out),
     }
 }

@@ -17,11 +17,11 @@ use Rattle.reading.specs.Huffman.{bitsOf, sum, tableAt, codeAt, codeAtPlace, co
 use Rattle.reading.specs.Settled.{Written, Coder, _then_, size, valueBits, skips, levelBits, restBits, blockBy}
 use Rattle.reading.specs.Tests.{placeOf}
 use Rattle.reading.proofs.Written.{found}
-use Rattle.jpeg_writer.specs.Words.{wordOf, codeWords, wordBits, coderOf}
-use Rattle.jpeg_writer.specs.Steps.{categoryOf}
-use Rattle.jpeg_writer.proofs.Digits.{bits-mod}
-use Rattle.jpeg_writer.proofs.Filled.{code-word, word-bits}
-use Rattle.jpeg_writer.proofs.Turns.{category-few}
+use Rattle.jpeg_codes.specs.Words.{wordOf, codeWords, wordBits, coderOf}
+use Rattle.jpeg_turns.specs.Turns.{categoryOf}
+use Rattle.jpeg_codes.proofs.Digits.{bits-mod}
+use Rattle.jpeg_codes.proofs.Filled.{code-word, word-bits}
+use Rattle.jpeg_turns.proofs.Turning.{category-few}
 
 -- ---- a code of a table in a file has 1 to 16 bits
 

@@ -22,10 +22,10 @@ use Rattle.reading.specs.Tables.{dcAt, acAt}
 use Rattle.reading.proofs.Unstuffed.{length-bitsOf}
 use Rattle.reading.proofs.Counted.{Whole, blocks-counted, blocks-whole}
 use Rattle.reading.proofs.SettledLength.{UpTo, up-then, up-wide, code-few, packed-length}
-use Rattle.jpeg_writer.specs.Steps.{categoryOf}
+use Rattle.jpeg_turns.specs.Turns.{categoryOf}
 use Rattle.jpeg_writer.specs.Page.{spot, bytesAt}
 use Rattle.jpeg_writer.proofs.Forwards.{bytes-laid}
-use Rattle.jpeg_writer.proofs.Turns.{category-few}
+use Rattle.jpeg_turns.proofs.Turning.{category-few}
 
 -- ---- bits
 

@@ -1,12 +1,9 @@
 pub mod Bytes
-pub mod Signs
 pub mod Forwards
-pub mod Digits
 pub mod Writing
 pub mod Turns
 pub mod Symbols
 pub mod Quiets
-pub mod Filled
 pub mod Coders
 pub mod Lengths
 pub mod Measured

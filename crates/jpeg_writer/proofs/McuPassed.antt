@@ -21,8 +21,9 @@ use Rattle.jpeg_scan.specs.Plans.{chan, Stands}
 use Rattle.jpeg_scan.proofs.Onward.{blockAt, past}
 use Rattle.jpeg_scan.proofs.OneMcu.{head, below, Along, along-none, along-at, along-more, along-whole, along-out, entered, entered-later, entered-out, entered-here}
 use Rattle.jpeg_writer.specs.declared.Outcome.{Outcome}
-use Rattle.jpeg_writer.specs.Words.{coderOf}
-use Rattle.jpeg_writer.specs.Sheets.{wordsIn, basesOf, Sheet}
+use Rattle.jpeg_codes.specs.Words.{coderOf}
+use Rattle.jpeg_codes.specs.Sheets.{wordsIn}
+use Rattle.jpeg_writer.specs.Sheets.{basesOf, Sheet}
 use Rattle.jpeg_writer.specs.Pass.{Fit, Moves, coming, resuming, Went}
 use Rattle.jpeg_writer.proofs.SheetFilled.{sheet-block}
 use Rattle.jpeg_writer.proofs.Comings.{resuming-none, coming-inside, resuming-stop, resuming-next}

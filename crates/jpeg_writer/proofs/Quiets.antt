@@ -14,7 +14,8 @@ use Rattle.reading.specs.Answers.{said, levelsOf}
 use Rattle.reading.specs.Reader.{Read}
 use Rattle.reading.proofs.BlockAnswers.{Taken, told}
 use Rattle.reading.proofs.Reach.{places-some, places-zero}
-use Rattle.jpeg_writer.specs.Steps.{zerosOf, zerosAt, Quiet}
+use Rattle.jpeg_turns.specs.Turns.{zerosOf, zerosAt}
+use Rattle.jpeg_writer.specs.Steps.{Quiet}
 
 all-zero : (l : List ℤ) → ((i : ℕ) → getD l i (pos 0) ≡ pos 0) → length l ≡ zerosOf l
 unfolding zerosOf

@@ -1,78 +1,25 @@
--- The words of one table more leave those before it.
-use Prim.Native.Nat.{ℕ, zero, suc, _+_, _*_, _≤_, _<_}
-use mathlib.Core.Path.{_≡_, refl, sym, ap, ap₂, _∙_, subst, subst⁻¹}
-use mathlib.Core.List.{List, _++_}
-use native.Mathlib.Decide.{ℕ-discrete}
+-- A block is written by the words of its channel as the plan has it.
+use Prim.Native.Nat.{ℕ, zero, suc, _+_, _*_, _<_}
+use mathlib.Core.Path.{_≡_, refl, sym, ap, ap₂, _∙_, subst}
+use mathlib.Core.List.{List}
 use native.Mathlib.Nat.{not-suc-le-zero, le-of-suc-le-suc}
 use native.Mathlib.Omega.{arith}
 use lib.IntN.{ℤ}
-use lib.ListN.{length, getD, take, drop, length-append, length-take, length-drop, take-append-drop}
-use lib.Seq.{length-take-le, take-append-le, drop-append-le, take-at, drop-at}
-use Rattle.whole.specs.Lists.{length-from}
+use lib.ListN.{length, getD}
 use Rattle.reading.specs.Huffman.{Table, tableAt, codeOf}
 use Rattle.reading.specs.Settled.{blockBy, blockBits}
 use Rattle.reading.specs.Scan as scan
 use Rattle.jpeg_scan.specs.declared.Plan.{Plan}
 use Rattle.jpeg_scan.specs.Plans.{Stands}
-use Rattle.jpeg_writer.specs.Words.{wordOf, codeWords, coderOf}
-use Rattle.jpeg_writer.specs.Sheets.{wordsIn, basesOf, Sheet}
+use Rattle.jpeg_codes.specs.Words.{codeWords, coderOf}
+use Rattle.jpeg_codes.specs.Sheets.{wordsIn, Sheeted}
+use Rattle.jpeg_writer.specs.Sheets.{basesOf, Sheet}
 use Rattle.jpeg_writer.proofs.Coders.{block-alike, words-alike}
 
--- ---- filling
-
-pub sheet-none : (t bases ws : List ℕ) → length ws ≡ 1536 → Sheet t bases 0 ws
-sheet-none t bases ws e = record { size = e; each = λ i h. absurd (not-suc-le-zero h) }
-
-words-length : (t : Table) (n : ℕ) → length (codeWords t n) ≡ n
-unfolding codeWords
-words-length t n = length-from (λ x. wordOf (codeOf t x)) 0 n
-
--- a part that lies before the place at which others are put
-part-before : (a j : ℕ) (ws rest : List ℕ) → a ≤ length ws → j + 256 ≤ a → wordsIn j (take a ws ++ rest) ≡ wordsIn j ws
-part-before a j ws rest h l =
-    let size : length (take a ws) ≡ a = length-take-le a ws h in
-    let front : List ℕ = take a ws in
-    let same : (r : List ℕ) → wordsIn j (front ++ r) ≡ take 256 (drop j front) =
-    (λ r. ap (take 256) (drop-append-le j front r (omega arith)) ∙ take-append-le 256 (drop j front) r (omega (arith, length-drop j front))) in
-    same rest ∙ sym (same (drop a ws)) ∙ ap (wordsIn j) (take-append-drop a ws)
-
-part-here : (a : ℕ) (ws y rest : List ℕ) → a ≤ length ws → length y ≡ 256 → wordsIn a (take a ws ++ (y ++ rest)) ≡ y
-part-here a ws y rest h e = ap (take 256) (drop-at (take a ws) (y ++ rest) a (length-take-le a ws h)) ∙ take-at y rest 256 e
-
-module _ {t bases ws : List ℕ} {i : ℕ} (w : Sheet t bases i ws) (h : i < 6) {n : ℕ} (k : n ≡ 256) {y : List ℕ}
-    (f : y ≡ codeWords (tableAt t (getD bases i 0)) (length (take n (drop (256 * i) ws)))) where
-  there : y ≡ codeWords (tableAt t (getD bases i 0)) 256
-  there =
-      let size : length (take n (drop (256 * i) ws)) ≡ 256 = length-take n (drop (256 * i) ws) ∙ omega (arith, length-drop (256 * i) ws, w .size, k) in
-      f ∙ ap (codeWords (tableAt t (getD bases i 0))) size
-
-  pub sheet-next : Sheet t bases (i + 1) (take (256 * i) ws ++ (y ++ drop n (drop (256 * i) ws)))
-  sheet-next =
-      let long : length y ≡ 256 = ap length there ∙ words-length (tableAt t (getD bases i 0)) 256 in
-      let fits : 256 * i ≤ length ws = omega (arith, w .size) in
-      record {
-        size =
-            length-append (take (256 * i) ws) (y ++ drop n (drop (256 * i) ws))
-            ∙ omega (arith, length-append y (drop n (drop (256 * i) ws)), length-take-le (256 * i) ws fits, length-drop n (drop (256 * i) ws), length-drop (256 * i) ws, w .size, long, k);
-        each = λ j l. go j l long fits (ℕ-discrete j i);
-      }
-    where
-      go : (j : ℕ) → j < i + 1 → length y ≡ 256 → 256 * i ≤ length ws → Dec (j ≡ i) → wordsIn (256 * j) (take (256 * i) ws ++ (y ++ drop n (drop (256 * i) ws))) ≡ codeWords (tableAt t (getD bases j 0)) 256
-      go j l long fits (yes e) =
-          subst⁻¹ (λ (x : ℕ). wordsIn (256 * x) (take (256 * i) ws ++ (y ++ drop n (drop (256 * i) ws))) ≡ codeWords (tableAt t (getD bases x 0)) 256) e
-          (part-here (256 * i) ws y (drop n (drop (256 * i) ws)) fits long ∙ there)
-      go j l long fits (no e) =
-          let less : j < i = lower j l e in
-          part-before (256 * i) (256 * j) ws (y ++ drop n (drop (256 * i) ws)) fits (omega arith) ∙ w .each j less
-        where
-          lower : (j : ℕ) → j < i + 1 → (j ≡ i → ⊥) → j < i
-          lower j l e = omega arith
-
-pub sheet-all : {t bases ws : List ℕ} {i : ℕ} → Sheet t bases i ws → 6 ≤ i → Sheet t bases 6 ws
-sheet-all w h = record { size = w .size; each = λ j l. w .each j (omega arith) }
-
-pub sheet-as : {t a b ws : List ℕ} → a ≡ b → Sheet t a 6 ws → Sheet t b 6 ws
-sheet-as {t} {a} {b} {ws} e w = subst (λ (x : List ℕ). Sheet t x 6 ws) e w
+-- what was filled is a sheet
+pub sheet-as : {t a b ws : List ℕ} → a ≡ b → Sheeted t a ws → length ws ≡ 1536 → Sheet t b 6 ws
+sheet-as {t} {a} {b} {ws} e w long =
+    subst (λ (x : List ℕ). Sheet t x 6 ws) e (record { size = long; each = λ i h. w .each i h (omega (arith, long)) })
 
 -- ---- a block by the words of its channel
 

@@ -10,7 +10,7 @@ use native.Mathlib.Omega.{arith}
 use lib.Dec.{eqb, ltb}
 use lib.IntN.{ℤ}
 use lib.ListN.{length, getD, take}
-use borrow.Author.Tests.{lt-ltb, le-ltb, ltb-false, eqb-false, eq-eqb, ne-eqb}
+use borrow.Author.Tests.{ltb-false, eqb-false}
 use Rattle.whole.specs.Lists.{getD-from}
 use Rattle.reading.specs.declared.Bits.{Bits}
 use Rattle.reading.specs.declared.Fault.{Fault}
@@ -34,34 +34,14 @@ use Rattle.reading.proofs.SettledLength.{settled-short}
 use Rattle.reading.proofs.WantOfCode.{ZeroCoded, no-want}
 use Rattle.jpeg_scan.specs.declared.Plan.{Plan}
 use Rattle.jpeg_scan.proofs.Standing.{Readable, readable-says, lumas-some, Ready}
-use Rattle.jpeg_writer.specs.Words.{wordOf, codeWords}
-use Rattle.jpeg_writer.specs.Sheets.{wordsIn, basesOf, Sheet, zerosCoded}
-use Rattle.jpeg_writer.specs.Pass.{sure, foretold}
+use Rattle.jpeg_codes.specs.Words.{wordOf, codeWords}
+use Rattle.jpeg_codes.specs.Sheets.{wordsIn, zerosCoded, sure}
+use Rattle.jpeg_writer.specs.Sheets.{basesOf, Sheet}
+use Rattle.jpeg_writer.specs.Pass.{foretold}
 use Rattle.jpeg_writer.proofs.SettledAnswers.{Passed, settled-is, stays-stop, stays-lacking, stays-short, writes-all}
 use Rattle.jpeg_writer.proofs.SheetFilled.{words-dc, words-ac}
 
--- ---- the test
-
-pub coded-all : (ws : List ℕ) (i : ℕ) → i ≤ 0 → true ≡ zerosCoded ws i
-unfolding zerosCoded
-coded-all ws zero h = refl
-coded-all ws (suc i) h = absurd (not-suc-le-zero h)
-
-module _ (ws : List ℕ) where
-  pub coded-lacks : (i : ℕ) → 0 < i → getD ws (256 * (i - 1)) 0 ≡ 0 → false ≡ zerosCoded ws i
-  unfolding zerosCoded
-  coded-lacks zero h e = let z : ⊥ = omega arith in absurd z
-  coded-lacks (suc n) h e =
-      let down : suc n - 1 ≡ n = omega arith in
-      rw (eq-eqb (getD ws (256 * n) 0) 0 (subst (λ (k : ℕ). getD ws (256 * k) 0 ≡ 0) down e)) refl
-
-  pub coded-more : (i : ℕ) → 0 < i → (getD ws (256 * (i - 1)) 0 ≡ 0 → ⊥) → zerosCoded ws i ≡ zerosCoded ws (i - 1)
-  unfolding zerosCoded
-  coded-more zero h e = let z : ⊥ = omega arith in absurd z
-  coded-more (suc n) h e =
-      let down : suc n - 1 ≡ n = omega arith in
-      let one : zerosCoded ws (suc n) ≡ zerosCoded ws n = rw (ne-eqb (getD ws (256 * n) 0) 0 (subst (λ (k : ℕ). getD ws (256 * k) 0 ≡ 0 → ⊥) down e)) refl in
-      one ∙ ap (zerosCoded ws) (sym down)
+-- ---- what the test says
 
 coded-each : (ws : List ℕ) (n : ℕ) → zerosCoded ws n ≡ true → (i : ℕ) → i < n → getD ws (256 * i) 0 ≡ 0 → ⊥
 unfolding zerosCoded
@@ -80,22 +60,14 @@ coded-each ws (suc n) e i h = go (eqb (getD ws (256 * n) 0) 0) refl e (coded-eac
         here (no d) = ih f i (below d)
 
 module _ (r : Record) (ws : List ℕ) (coded room : ℕ) where
-  pub sure-short : room < 2 * coded + 4 * r .blocks → false ≡ sure r ws coded room
-  unfolding sure
-  sure-short h = rw (lt-ltb room (2 * coded + 4 * r .blocks) h) refl
-
-  pub sure-room : 2 * coded + 4 * r .blocks ≤ room → zerosCoded ws (2 * r .channels) ≡ sure r ws coded room
-  unfolding sure
-  sure-room h = rw (le-ltb room (2 * coded + 4 * r .blocks) h) refl
-
-  -- and what it says
   sure-says : sure r ws coded room ≡ true → (2 * coded + 4 * r .blocks ≤ room) × (zerosCoded ws (2 * r .channels) ≡ true)
   unfolding sure
-  sure-says e = go (ltb room (2 * coded + 4 * r .blocks)) refl e
+  sure-says e = go (ltb room (2 * coded + 4 * r .blocks)) refl (ltb 3 (r .channels)) e
     where
-      go : (t : Bool) → ltb room (2 * coded + 4 * r .blocks) ≡ t → cond t false (zerosCoded ws (2 * r .channels)) ≡ true → (2 * coded + 4 * r .blocks ≤ room) × (zerosCoded ws (2 * r .channels) ≡ true)
-      go true q f = absurd (suc-ne-zero 0 cc)
-      go false q f = (ltb-false room (2 * coded + 4 * r .blocks) q, f)
+      go : (t : Bool) → ltb room (2 * coded + 4 * r .blocks) ≡ t → (k : Bool) → cond t false (cond k false (zerosCoded ws (2 * r .channels))) ≡ true → (2 * coded + 4 * r .blocks ≤ room) × (zerosCoded ws (2 * r .channels) ≡ true)
+      go true q k f = absurd (suc-ne-zero 0 cc)
+      go false q true f = absurd (suc-ne-zero 0 cc)
+      go false q false f = (ltb-false room (2 * coded + 4 * r .blocks) q, f)
 
 -- ---- a word for the symbol 0 is a code for it
 

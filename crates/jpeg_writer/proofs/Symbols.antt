@@ -8,8 +8,8 @@ use lib.Dec.{lit<}
 use lib.Pow.{pow-pos, pow-mono}
 use borrow.Author.Tests.{le-leb, lt-leb}
 use Rattle.reading.specs.Huffman.{bitsOf}
-use Rattle.jpeg_writer.specs.Words.{wordBits, wordCode}
-use Rattle.jpeg_writer.proofs.Digits.{bits-append}
+use Rattle.jpeg_codes.specs.Words.{wordBits, wordCode}
+use Rattle.jpeg_codes.proofs.Digits.{bits-append}
 
 module _ (w field n : ℕ) where
   pub code-none : w / 65536 ≡ 0 → wordCode w field n ≡ none

@@ -1,5 +1,4 @@
 pub mod Page
-pub mod Words
 pub mod Steps
 pub mod Join
 pub mod Sheets

@@ -4,12 +4,10 @@ use mathlib.Core.Path.{_≡_}
 use mathlib.Core.Bool.{Bool, true, false, cond}
 use mathlib.Core.List.{List, [], _∷_}
 use mathlib.Core.Option.{Option, none, some}
-use lib.Dec.{ltb}
 use lib.IntN.{ℤ, pos}
 use lib.ListN.{length, getD, set, take}
 use Rattle.reading.specs.declared.Bits.{Bits}
 use Rattle.reading.specs.declared.Fault.the-variants.{Broken}
-use Rattle.reading.specs.declared.Record.{Record}
 use Rattle.reading.specs.declared.ScanCursor.{ScanCursor}
 use Rattle.reading.specs.declared.ScanSettled.{ScanSettled}
 use Rattle.reading.specs.declared.ScanSettled.the-variants as answer
@@ -28,7 +26,6 @@ use Rattle.jpeg_writer.specs.declared.Outcome.{Outcome}
 use Rattle.jpeg_writer.specs.declared.Outcome.the-variants.{Done, NoCode}
 use Rattle.jpeg_writer.specs.Page.{Spot, page, fresh, Proper}
 use Rattle.jpeg_writer.specs.Join.{finalAt}
-use Rattle.jpeg_writer.specs.Sheets.{zerosCoded}
 
 -- ---- what is written
 
@@ -120,13 +117,7 @@ pub record Measures (s : List ℕ) (n : Plan) (r : ScanSettled) : Type 0 where
 
 -- ---- what is known before a scan is written
 
--- whatever its levels, a record's scan has room and lacks no code: n blocks that are read from `coded` bytes make at most
--- 2 coded + 4 n bytes, and each channel's two tables have a code for the symbol 0
-unfoldable pub sure : Record → List ℕ → ℕ → ℕ → Bool
-unfolding zerosCoded
-sure r ws coded room = cond (ltb room (2 * coded + 4 * r .blocks)) false (zerosCoded ws (2 * r .channels))
-
--- of such a scan, where it was accepted, that it fits; of any other what it comes to
+-- of a scan that is sure to be written, where it was accepted, that it fits; of any other what it comes to
 unfoldable pub foretold : Bool → ℕ → Read Bits (Option (List ℕ)) → ScanSettled
 unfolding scanSettled
 foretold true room (got w b) = answer.Done room

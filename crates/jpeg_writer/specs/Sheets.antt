@@ -1,18 +1,13 @@
 -- The words of the six tables that a scan is written by, one list of 256 after the other: of each channel the words of its first
 -- level's table and then those of its later levels'.
-use Prim.Native.Nat.{ℕ, zero, suc, _*_, _<_}
+use Prim.Native.Nat.{ℕ, _*_, _<_}
 use mathlib.Core.Path.{_≡_}
 use mathlib.Core.List.{List, [], _∷_}
-use mathlib.Core.Bool.{Bool, true, false, cond}
-use lib.Dec.{eqb}
-use lib.ListN.{length, getD, take, drop}
+use lib.ListN.{length, getD}
 use Rattle.reading.specs.Huffman.{tableAt}
 use Rattle.jpeg_scan.specs.declared.Plan.{Plan}
-use Rattle.jpeg_writer.specs.Words.{codeWords}
-
--- the 256 words from a place on
-abbrev pub wordsIn : ℕ → List ℕ → List ℕ
-wordsIn a ws = take 256 (drop a ws)
+use Rattle.jpeg_codes.specs.Words.{codeWords}
+use Rattle.jpeg_codes.specs.Sheets.{wordsIn}
 
 -- where the six tables stand
 abbrev pub basesOf : Plan → List ℕ
@@ -23,8 +18,3 @@ basesOf n =
 pub record Sheet (t bases : List ℕ) (n : ℕ) (ws : List ℕ) : Type 0 where
   pub size : length ws ≡ 1536
   pub each : (i : ℕ) → i < n → wordsIn (256 * i) ws ≡ codeWords (tableAt t (getD bases i 0)) 256
-
--- in each of the first n tables the symbol 0 has a word
-unfoldable pub zerosCoded : List ℕ → ℕ → Bool
-zerosCoded ws zero = true
-zerosCoded ws (suc n) = cond (eqb (getD ws (256 * n) 0) 0) false (zerosCoded ws n)

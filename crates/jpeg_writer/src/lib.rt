@@ -1,21 +1,21 @@
-// A record's scan, read and written settled: bits into bytes, the words of a table's codes, blocks, padding and markers, and the
-// pass over a whole scan. It carries the rules' part on the settled scan. A byte is stored where the lent buffer has room and is
+// A record's scan, read and written settled: bits into bytes, blocks, padding and markers, and the pass over a whole scan. It carries the rules' part on the settled scan. A byte is stored where the lent buffer has room and is
 // counted in any case, so that one path both measures and writes.
 ghost use mathlib.Core.Path.{_≡_};
 ghost use mathlib.Core.List.{[], _∷_};
 ghost use mathlib.Core.Option.{some};
 ghost use Prim.Native.Nat.{_+_, _*_, _-_, _≤_, _<_, _^_};
-ghost use lib.IntN.{natAbs};
-ghost use lib.ListN.{length, getD, replicate, take};
-ghost use Rattle.reading.specs.Huffman.{bitsOf, tableAt};
+ghost use lib.ListN.{length, take};
+ghost use Rattle.reading.specs.Huffman.{bitsOf};
 ghost use Rattle.reading.specs.Layout.{dueBefore, restartBefore};
-ghost use Rattle.reading.specs.Settled.{fieldOf, blockBy, onto, cut, settledOf, scanSettled, laidOver};
+ghost use Rattle.reading.specs.Settled.{blockBy, onto, cut, settledOf, scanSettled, laidOver};
 ghost use Rattle.jpeg_writer.specs.Page.{spot, byteAt, stuffedAt, bytesAt, page, fresh, Proper, Grown, Puts, closedAt, restarted};
-ghost use Rattle.jpeg_writer.specs.Words.{codeWords, wordCode, coderOf, kept};
-ghost use Rattle.jpeg_writer.specs.Steps.{categoryOf, zerosAt, Quiet, over, valueAt, turnAt, wordAt};
+ghost use Rattle.jpeg_codes.specs.Words.{wordCode, coderOf};
+ghost use Rattle.jpeg_turns.specs.Turns.{zerosAt};
+ghost use Rattle.jpeg_writer.specs.Steps.{Quiet, wordAt};
 ghost use Rattle.jpeg_scan.specs.Plans.{planFor};
-ghost use Rattle.jpeg_writer.specs.Sheets.{wordsIn, basesOf, Sheet, zerosCoded};
-ghost use Rattle.jpeg_writer.specs.Pass.{finalBy, Fit, Moves, lastPart, Closes, Went, Ran, Measures, sure, foretold};
+ghost use Rattle.jpeg_codes.specs.Sheets.{wordsIn, sure};
+ghost use Rattle.jpeg_writer.specs.Sheets.{basesOf, Sheet};
+ghost use Rattle.jpeg_writer.specs.Pass.{finalBy, Fit, Moves, lastPart, Closes, Went, Ran, Measures, foretold};
 use jpeg_scan::Halt;
 use jpeg_scan::Plan;
 use reading::BlockRead;
@@ -150,91 +150,14 @@ fn put_end(out: &mut [u8], p: Pen) -> usize
     put_marker(out, at, 217)
 }
 
-// No symbol has a word yet.
-fn clear(words: &mut [u32])
-    ensures { λ r. ⌜ now (words .exit) ≡ replicate (length (now (words .entry))) 0 ⌝ }
-{
-    let mut i = 0usize;
-    while i < words.len() {
-        words[i] = 0;
-        i += 1;
-    }
-}
-
-// The first word that a symbol is given stays.
-fn keep(words: &mut [u32], x: usize, word: u32)
-    ensures { λ r. ⌜ now (words .exit) ≡ kept (now (words .entry)) x word ⌝ }
-{
-    if x < words.len() {
-        if words[x] == 0 {
-            words[x] = word;
-        }
-    }
-}
-
-// The words of the table at `base`, in one pass over its symbols: `left` more codes have `bits` bits, and `code` is the next.
-fn fill(t: &[u8], base: usize, words: &mut [u32])
-    requires { ⌜ (base + 16 ≤ length (now t)) × (now words ≡ replicate (length (now words)) 0) ⌝ }
-    ensures { λ r. ⌜ now (words .exit) ≡ codeWords (tableAt (now (t .entry)) base) (length (now (words .entry))) ⌝ }
-{
-    let mut at = base + 16;
-    let mut bits = 0usize;
-    let mut left = 0usize;
-    let mut code = 0usize;
-    'walk: loop {
-        if left == 0 {
-            if bits == 16 {
-                break 'walk;
-            }
-            left = t[base + bits] as usize;
-            bits += 1;
-            code = 2 * code;
-        } else {
-            if t.len() <= at {
-                break 'walk;
-            }
-            let word = 65536 * bits + code % power(bits);
-            keep(words, t[at] as usize, word as u32);
-            at += 1;
-            left -= 1;
-            code += 1;
-        }
-    }
-}
-
-// For each symbol below the number of words its first code in the table at `base` of t: 65536 times its length, and the code; 0
-// where the table lists no such symbol.
-pub fn codes(t: &[u8], base: usize, words: &mut [u32])
-    ensures { λ r. ⌜ now (words .exit) ≡ codeWords (tableAt (now (t .entry)) base) (length (now (words .entry))) ⌝ }
-{
-    clear(words);
-    if t.len() < 16 {
-        return;
-    }
-    if t.len() - 16 < base {
-        return;
-    }
-    fill(t, base, words);
-}
-
-// The word of a symbol; 0 behind the last.
-fn word_of(words: &[u32], x: usize) -> usize
-    ensures { λ r. ⌜ r ≡ getD (now (words .entry)) x 0 ⌝ }
-{
-    if x < words.len() {
-        return words[x] as usize;
-    }
-    0
-}
-
 // The word of a symbol that stands at a place: the first place has a table of its own.
 fn word_at(dc: &[u32], ac: &[u32], place: usize, x: usize) -> usize
     ensures { λ r. ⌜ r ≡ wordAt (now (dc .entry)) (now (ac .entry)) place x ⌝ }
 {
     if place == 0 {
-        return word_of(dc, x);
+        return jpeg_codes::word_of(dc, x);
     }
-    word_of(ac, x)
+    jpeg_codes::word_of(ac, x)
 }
 
 // The code of a word, and the low `size` bits of a field behind it.
@@ -254,73 +177,6 @@ fn put_symbol(out: &mut [u8], p: Pen, word: usize, field: usize, size: usize) ->
     Outcome::Done(put(out, p, x, bits + size))
 }
 
-// The distance from 0.
-fn magnitude(d: i64) -> usize
-    requires { ⌜ natAbs d < 2 ^ 62 ⌝ }
-    ensures { λ r. ⌜ r ≡ natAbs d ⌝ }
-{
-    if d < 0 {
-        return (0 - d) as usize;
-    }
-    d as usize
-}
-
-// The smallest category, at most 12, of a value at the distance m from 0.
-fn category(m: usize) -> usize
-    ensures { λ r. ⌜ r ≡ categoryOf m ⌝ }
-{
-    if m < 4096 {
-        return 64 - usize::leading_zeros(m) as usize;
-    }
-    12
-}
-
-// The n-bit field that means d.
-fn field_of(n: usize, d: i64) -> usize
-    requires { ⌜ (n ≤ 12) × (natAbs d < 2 ^ 62) ⌝ }
-    ensures { λ r. ⌜ r ≡ fieldOf n d ⌝ }
-{
-    let m = magnitude(d);
-    if d < 0 {
-        let top = power(n) - 1;
-        if m <= top {
-            return top - m;
-        }
-        return 0;
-    }
-    m
-}
-
-// The value that stands for the level at a place: of the first its difference from the prediction.
-fn value_at(levels: &[i16], pred: i32, place: usize) -> i64
-    requires { ⌜ place < length (now levels) ⌝ }
-    ensures { λ r. ⌜ (r ≡ valueAt (now (levels .entry)) pred place) × (natAbs r < 2 ^ 62) ⌝ }
-{
-    if place == 0 {
-        return levels[0] as i64 - pred as i64;
-    }
-    levels[place] as i64
-}
-
-// How many levels from a place on are zero; none at the first place, whose level is written in any case.
-fn zeros_from(levels: &[i16], place: usize) -> usize
-    ensures { λ r. ⌜ r ≡ zerosAt (now (levels .entry)) place ⌝ }
-{
-    if place == 0 {
-        return 0;
-    }
-    let mut k = place;
-    'walk: loop {
-        if levels.len() <= k {
-            break 'walk k - place;
-        }
-        if levels[k] != 0 {
-            break 'walk k - place;
-        }
-        k += 1;
-    }
-}
-
 // The same, where the levels from `reach` on are known to be zero and need not be looked at.
 fn zeros_to(levels: &[i16], place: usize, reach: usize) -> usize
     requires { ⌜ Quiet reach (now levels) × (place ≤ length (now levels)) ⌝ }
@@ -329,60 +185,7 @@ fn zeros_to(levels: &[i16], place: usize, reach: usize) -> usize
     if reach <= place {
         return levels.len() - place;
     }
-    zeros_from(levels, place)
-}
-
-// All is written: the levels are at their end, and no zeros wait for the end code.
-fn is_over(count: usize, place: usize, run: usize) -> bool
-    ensures { λ r. ⌜ r ≡ over count place run ⌝ }
-{
-    if count <= place {
-        return run == 0;
-    }
-    false
-}
-
-// What is written next of a block: a symbol, the low `size` bits of a field behind it; and from which place on, behind how
-// many zeros, the block goes on.
-struct Turn {
-    symbol: usize,
-    field: usize,
-    size: usize,
-    place: usize,
-    run: usize,
-}
-
-// The end code behind the last level, 240 for sixteen of the zeros that wait, or a level that is not zero.
-fn next(levels: &[i16], pred: i32, place: usize, run: usize) -> Turn
-    ensures { λ r. ⌜ r ≡ turnAt (now (levels .entry)) pred place run ⌝ }
-{
-    if levels.len() <= place {
-        return Turn {
-            symbol: 0,
-            field: 0,
-            size: 0,
-            place: place,
-            run: 0,
-        };
-    }
-    if 16 <= run {
-        return Turn {
-            symbol: 240,
-            field: 0,
-            size: 0,
-            place: place,
-            run: run - 16,
-        };
-    }
-    let d = value_at(levels, pred, place);
-    let n = category(magnitude(d));
-    Turn {
-        symbol: 16 * run + n,
-        field: field_of(n, d),
-        size: n,
-        place: place + 1,
-        run: 0,
-    }
+    jpeg_turns::zeros_from(levels, place)
 }
 
 // A block of levels by the words of its two tables, behind the prediction; the levels from `reach` on
@@ -410,10 +213,10 @@ fn put_block(
         let zeros = zeros_to(levels, place, reach);
         place += zeros;
         run += zeros;
-        if is_over(levels.len(), place, run) {
+        if jpeg_turns::is_over(levels.len(), place, run) {
             break 'walk Outcome::Done(q);
         }
-        let turn = next(levels, pred, place, run);
+        let turn = jpeg_turns::next(levels, pred, place, run);
         let word = word_at(dc, ac, place, turn.symbol);
         match put_symbol(out, q, word, turn.field, turn.size) {
             Outcome::NoCode => {
@@ -435,20 +238,6 @@ fn bases(plan: Plan) -> [usize; 6]
     let dcs = plan.dcs;
     let acs = plan.acs;
     [dcs[0], acs[0], dcs[1], acs[1], dcs[2], acs[2]]
-}
-
-// The words of six tables, 256 for each.
-fn fill_sheet(t: &[u8], places: [usize; 6], words: &mut [u32])
-    requires { ⌜ length (now words) ≡ 1536 ⌝ }
-    ensures { λ r. ⌜ Sheet (now (t .entry)) places 6 (now (words .exit)) ⌝ }
-{
-    let mut i = 0usize;
-    while i < 6 {
-        let a = 256 * i;
-        let e = a + 256;
-        codes(t, places[i], &mut words[a..e]);
-        i += 1;
-    }
 }
 
 // A block of channel c behind what is written. After the want of a code nothing more is written.
@@ -615,39 +404,6 @@ fn measure(s: &[u8], plan: Plan, words: &[u32]) -> ScanSettled
     run(s, plan, words, &mut none)
 }
 
-// In each of the first tables of the sheet the symbol 0 has a word.
-fn zeros_coded(words: &[u32], tables: usize) -> bool
-    requires { ⌜ (tables ≤ 6) × (length (now words) ≡ 1536) ⌝ }
-    ensures { λ r. ⌜ r ≡ zerosCoded (now (words .entry)) tables ⌝ }
-{
-    let mut i = tables;
-    while 0 < i {
-        i -= 1;
-        if words[256 * i] == 0 {
-            return false;
-        }
-    }
-    true
-}
-
-// Whether a scan of `coded` bytes, if it can be read, can be written too. It never has more than twice those bytes, and 4 for each
-// block: the room is taken by halves, so that no sum is past 64 bits. A code can be wanting only for the symbol 0: it ends a block,
-// and a place behind a table's symbols reads as it.
-fn sure(found: Record, words: &[u32], coded: usize, room: usize) -> bool
-    requires { ⌜ (found .blocks < 2 ^ 32) × (found .channels ≤ 3) × (length (now words) ≡ 1536) ⌝ }
-    ensures { λ r. ⌜ r ≡ sure found (now (words .entry)) coded room ⌝ }
-{
-    let half = room / 2;
-    let ends = 2 * found.blocks;
-    if half < ends {
-        return false;
-    }
-    if half - ends < coded {
-        return false;
-    }
-    zeros_coded(words, 2 * found.channels)
-}
-
 // What is known of a scan before it is written. Measuring it takes longer than reading it, so it is measured only where reading
 // alone does not tell.
 fn foretell(s: &[u8], found: Record, plan: Plan, words: &[u32], room: usize) -> ScanSettled
@@ -655,7 +411,7 @@ fn foretell(s: &[u8], found: Record, plan: Plan, words: &[u32], room: usize) -> 
     ensures { λ r. ⌜ r ≡ foretold (sure found (now (words .entry)) (length (now (s .entry)) - plan .start) room) room (settledOf (now (s .entry)) found) ⌝ }
 {
     let coded = s.len() - plan.start;
-    if !sure(found, words, coded, room) {
+    if !jpeg_codes::sure(found, words, coded, room) {
         return measure(s, plan, words);
     }
     match jpeg_scan::validate(s, found) {
@@ -678,7 +434,7 @@ pub fn settled(s: &[u8], found: Record, out: &mut [u8]) -> ScanSettled
     }
     let start = plan.start;
     let mut words = [0u32; 1536];
-    fill_sheet(&s[..start], bases(plan), &mut words);
+    jpeg_codes::fill_sheet(&s[..start], bases(plan), &mut words);
     match foretell(s, found, plan, &words, out.len()) {
         ScanSettled::Stop(f) => ScanSettled::Stop(f),
         ScanSettled::NoCode => ScanSettled::NoCode,

@@ -2,7 +2,7 @@ use mathlib.Core.Path.{refl}
 use native.Mathlib.Omega.{arith}
 use borrow.Author.Tests.{not-true, not-false}
 use Rattle.reading.proofs.FileBytes.{all-bytes}
-use Rattle.jpeg.proofs.Draws.{draws-other, draws-stop, draws-part, draws-drawable, draws-done}
+use Rattle.jpeg.proofs.Draws.{draws-other, draws-stop, draws-part, draws-done}
 use borrow.Author.Needs.{needs}
 use Rattle.jpeg.proofs.draw.Statement.{statement}
 use Rattle.jpeg.proofs.draw.Tie as tie
@@ -35,7 +35,7 @@ slice-aggregate-picture : tie.Need-slice-aggregate-picture
 slice-aggregate-picture c = draws-part (c .before .before .before .before .before .before .before .before .before .before .before .before .args .s .now) (all-bytes (c .before .before .before .before .before .before .before .before .before .before .before .before .args .s .now) (λ i. omega (arith, c .before .before .before .before .before .before .before .before .before .before .before .shared-slice-known .given i))) (c .before .before .before .before .before .before .before .before .before .before .before .before .args .read) (c .before .before .before .before .before .before .before .before .before .before .before .before .args .found) (c .before .before .before .before .before .before .before .before .before .before .before .before .args .out .now) (c .before .before .before .before .before .before .before .before .before .before .before .before .args .scratch .now) (c .before .before .before .before .before .before .before .before .before .before .before .before .args .rest) (c .before .before .before .before .before .before .before .before .before .before .before .before .pre) _ (c .before .before .before .before .before .before .before .before .same .ensures) (not-false _ (c .before .before .before .before .before .before .before .if1 .left)) _ (c .before .before .before .before .before .draw .ensures .0) _ (c .before .before .before .before .before .draw .ensures .1) (c .before .enum-told2 .given .1)
 
 picture-requires : tie.Need-picture-requires
-picture-requires c κs = draws-drawable (c .before .before .before .before .before .before .before .before .before .before .before .before .before .args .s .now) (all-bytes (c .before .before .before .before .before .before .before .before .before .before .before .before .before .args .s .now) (λ i. omega (arith, c .before .before .before .before .before .before .before .before .before .before .before .before .shared-slice-known .given i))) (c .before .before .before .before .before .before .before .before .before .before .before .before .before .args .read) (c .before .before .before .before .before .before .before .before .before .before .before .before .before .args .found) (c .before .before .before .before .before .before .before .before .before .before .before .before .before .args .out .now) (c .before .before .before .before .before .before .before .before .before .before .before .before .before .args .scratch .now) (c .before .before .before .before .before .before .before .before .before .before .before .before .before .args .rest) (c .before .before .before .before .before .before .before .before .before .before .before .before .before .pre) _ (c .before .before .before .before .before .before .before .before .before .same .ensures) (not-false _ (c .before .before .before .before .before .before .before .before .if1 .left)) _ (c .before .before .before .before .before .before .draw .ensures .0) _ (c .before .before .before .before .before .before .draw .ensures .1) (c .before .before .enum-told2 .given .1)
+picture-requires c κs = tt
 
 same-length : tie.Need-same-length
 same-length c = search needs

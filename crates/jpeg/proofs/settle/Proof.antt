@@ -3,7 +3,7 @@ use mathlib.Core.Bool.{false}
 use native.Mathlib.Omega.{arith}
 use Rattle.reading.proofs.FileBytes.{all-bytes}
 use Rattle.jpeg.proofs.Admitted.{stops, goes}
-use Rattle.jpeg.proofs.Refiled.{settle-stops, founded, settle-goes}
+use Rattle.jpeg.proofs.Refiled.{settle-stops, settle-goes}
 use borrow.Author.Needs.{needs}
 use Rattle.jpeg.proofs.settle.Statement.{statement}
 use Rattle.jpeg.proofs.settle.Tie as tie
@@ -21,7 +21,7 @@ enum-told : tie.Need-enum-told
 enum-told c = search needs
 
 file-requires : tie.Need-file-requires
-file-requires c κs = founded (c .before .before .before .before .before .before .before .before .args .s .now) (c .before .before .before .before .before .before .before .before .args .limits) (c .before .before .before .before .before .before .before .before .args .budget) (c .before .before .before .before .before .before .before .before .args .out .now) (goes (c .before .before .before .before .before .before .before .before .args .s .now) false (c .before .before .before .before .before .before .before .before .args .limits) (c .before .before .before .before .before .before .before .before .args .budget) (c .before .before .before .before .before .admit .ensures) (c .before .enum-told .given .1))
+file-requires c κs = tt
 
 returns : tie.Need-returns
 returns c = settle-stops (c .before .before .before .before .before .before .before .before .before .args .s .now) (c .before .before .before .before .before .before .before .before .before .args .limits) (c .before .before .before .before .before .before .before .before .before .args .budget) (c .before .before .before .before .before .before .before .before .before .args .out .now) (stops (c .before .before .before .before .before .before .before .before .before .args .s .now) false (c .before .before .before .before .before .before .before .before .before .args .limits) (c .before .before .before .before .before .before .before .before .before .args .budget) (c .before .before .before .before .before .before .admit .ensures) (c .before .before .verdict .given .1)) (c .unsettled .ensures)

@@ -8,8 +8,9 @@ use borrow.Author.Needs.{needs}
 use borrow.Author.Tests.{not-true, not-false}
 use Rattle.reading.specs.Settled.{settledOf}
 use Rattle.jpeg_scan.specs.declared.Plan.{Plan}
-use Rattle.jpeg_scan.proofs.Standing.{Ready, ready, readable-says}
-use Rattle.jpeg_writer.specs.Pass.{sure, foretold}
+use Rattle.jpeg_scan.proofs.Standing.{Ready, ready}
+use Rattle.jpeg_codes.specs.Sheets.{sure}
+use Rattle.jpeg_writer.specs.Pass.{foretold}
 use Rattle.jpeg_writer.proofs.SettledAnswers.{measured-settled}
 use Rattle.jpeg_writer.proofs.SureScans.{foretold-measured, read-stop, read-done}
 use Rattle.jpeg_writer.proofs.foretell.Statement.{statement}
@@ -28,7 +29,7 @@ sub-coded : tie.Need-sub-coded
 sub-coded c = set-up (c .before) .inside
 
 sure-requires : tie.Need-sure-requires
-sure-requires c κs = (c .before .before .before .pre .2, readable-says (c .before .before .before .args .s .now) (c .before .before .before .args .found) (set-up (c .before) .readable-is) .channels-few, c .before .before .before .pre .3 .size)
+sure-requires c κs = tt
 
 measure-requires : tie.Need-measure-requires
 measure-requires c κs = (set-up (c .before .before .before) .inside, c .before .before .before .before .before .pre .1, omega (arith, c .before .before .before .before .before .pre .2, ap (λ (n : Plan). n .blocks) (set-up (c .before .before .before) .plan-is)), c .before .before .before .before .before .pre .3)

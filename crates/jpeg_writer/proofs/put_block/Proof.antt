@@ -12,7 +12,7 @@ use borrow.Author.Needs.{needs}
 use Rattle.reading.specs.Settled.{Written, _then_, blockBy}
 use Rattle.jpeg_writer.specs.declared.Pen.{Pen}
 use Rattle.jpeg_writer.specs.Page.{page}
-use Rattle.jpeg_writer.specs.Words.{coderOf, wordCode}
+use Rattle.jpeg_codes.specs.Words.{coderOf, wordCode}
 use Rattle.jpeg_writer.specs.Steps.{onwards}
 use Rattle.jpeg_writer.proofs.Writing.{Onto, onto-start, onto-more, onto-end, onto-lacks, lacks-then, puts-as, puts-done, puts-lack, is-done, is-lack}
 use Rattle.jpeg_writer.proofs.Turns.{Behind, zeros-behind, Fits, turn-within, onwards-block, onwards-over, onwards-turn, block-empty}

@@ -9,8 +9,8 @@ use mir.Syntax.{w32}
 use mir.Val.{SFits, toZ, ofZ}
 use mir.Facts.{toZ-ofZ}
 use Rattle.reading.specs.Settled.{blockBy}
-use Rattle.jpeg_writer.specs.Words.{coderOf}
-use Rattle.jpeg_writer.specs.Sheets.{wordsIn}
+use Rattle.jpeg_codes.specs.Words.{coderOf}
+use Rattle.jpeg_codes.specs.Sheets.{wordsIn}
 use Rattle.jpeg_writer.proofs.Inks.{fit-pen, moves-none, moves-block}
 use borrow.Author.Needs.{needs}
 use Rattle.jpeg_writer.proofs.put_on.Statement.{statement}

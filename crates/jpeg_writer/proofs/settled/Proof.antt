@@ -41,13 +41,13 @@ slice-aggregate-fill-sheet-2 : tie.Need-slice-aggregate-fill-sheet-2
 slice-aggregate-fill-sheet-2 c = search needs
 
 fill-sheet-requires : tie.Need-fill-sheet-requires
-fill-sheet-requires c κs = search needs
+fill-sheet-requires c κs = tt
 
 slice-aggregate-foretell : tie.Need-slice-aggregate-foretell
 slice-aggregate-foretell c = search needs
 
 foretell-requires : tie.Need-foretell-requires
-foretell-requires c κs = (c .before .before .before .before .before .before .before .before .of .ensures, set-up (c .before .before .before .before .before .before) .numbers .some, few (c .before .before .before .before .before .before .before .before .before), sheet-as (c .before .before .before .before .bases .ensures) (c .before .before .fill-sheet .ensures))
+foretell-requires c κs = (c .before .before .before .before .before .before .before .before .of .ensures, set-up (c .before .before .before .before .before .before) .numbers .some, few (c .before .before .before .before .before .before .before .before .before), sheet-as (c .before .before .before .before .bases .ensures) (c .before .before .fill-sheet .ensures) (search needs))
 
 enum-known-f : tie.Need-enum-known-f
 enum-known-f c = search needs
@@ -65,7 +65,7 @@ slice-aggregate-run : tie.Need-slice-aggregate-run
 slice-aggregate-run c = search needs
 
 run-requires : tie.Need-run-requires
-run-requires c κs = (set-up (c .before .before .before .before .before .before .before .before .before .before .before .before .before) .inside, set-up (c .before .before .before .before .before .before .before .before .before .before .before .before .before) .numbers .some, blocks-few (c .before .before .before .before .before .before .before .before .before .before .before .before .before), sheet-as (c .before .before .before .before .before .before .before .before .before .before .before .bases .ensures) (c .before .before .before .before .before .before .before .before .before .fill-sheet .ensures))
+run-requires c κs = (set-up (c .before .before .before .before .before .before .before .before .before .before .before .before .before) .inside, set-up (c .before .before .before .before .before .before .before .before .before .before .before .before .before) .numbers .some, blocks-few (c .before .before .before .before .before .before .before .before .before .before .before .before .before), sheet-as (c .before .before .before .before .before .before .before .before .before .before .before .bases .ensures) (c .before .before .before .before .before .before .before .before .before .fill-sheet .ensures) (search needs))
 
 returns-4 : tie.Need-returns-4
 returns-4 c = told-stop (c .before .before .before .before .before .before .before .before .before .before .before .before .before .before .before .before .before .args .out .now) _ _ (c .before .before .before .foretell .ensures) (c .before .f .given .1)
@@ -79,7 +79,7 @@ same-length c = search needs
 returns-6 : tie.Need-returns-6
 returns-6 c =
     let a = passed-settled (set-up (c .before .before .before .before .before .before .before .before .before .before .before .before .before .before .before .before)) (few (c .before .before .before .before .before .before .before .before .before .before .before .before .before .before .before .before .before .before .before)) (c .before .before .run .ensures) in
-    let sheet = sheet-as (c .before .before .before .before .before .before .before .before .before .before .before .before .before .before .bases .ensures) (c .before .before .before .before .before .before .before .before .before .before .before .before .fill-sheet .ensures) in
+    let sheet = sheet-as (c .before .before .before .before .before .before .before .before .before .before .before .before .before .before .bases .ensures) (c .before .before .before .before .before .before .before .before .before .before .before .before .fill-sheet .ensures) (search needs) in
     let bytes = all-bytes (c .before .before .before .before .before .before .before .before .before .before .before .before .before .before .before .before .before .before .before .before .before .before .before .args .s .now) (λ i. omega (arith, c .before .before .before .before .before .before .before .before .before .before .before .before .before .before .before .before .before .before .before .before .before .before .shared-slice-known .given i)) in
     (a .says, sure-written (set-up (c .before .before .before .before .before .before .before .before .before .before .before .before .before .before .before .before)) sheet (few (c .before .before .before .before .before .before .before .before .before .before .before .before .before .before .before .before .before .before .before)) bytes (c .before .before .before .before .before .before .before .before .before .before .before .before .before .before .before .before .before .before .before .before .before .before .before .args .out .now) (c .before .before .before .before .before .before .before .before .before .foretell .ensures) (c .before .before .before .before .before .before .before .n .given .1) (omega (arith, c .before .before .before .before .before .if3 .left)) a)
 

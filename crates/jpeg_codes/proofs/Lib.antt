@@ -1,0 +1,4 @@
+pub mod Digits
+pub mod Filled
+pub mod SheetFilled
+pub mod Sureness

@@ -1,0 +1,63 @@
+-- The channels of a pixel, in colour or as the samples are.
+use Prim.Native.Nat.{ℕ, zero, suc, _+_, _*_, _<_}
+use mathlib.Core.Path.{_≡_, refl, ap, ap₂}
+use mathlib.Core.Bool.{Bool, true, false}
+use mathlib.Core.List.{List}
+use native.Mathlib.Omega.{arith}
+use lib.ListN.{getD, set}
+use Rattle.reading.specs.Tests.{_and_}
+use Rattle.reading.specs.Colour.{red, green, blue}
+use Rattle.jpeg_render.specs.Drawn.{written}
+use Rattle.jpeg_render.specs.Rows.{three, shown, lumaAt, inRun, inRuns, inMcu, Spread, Gathered}
+use Rattle.jpeg_render.proofs.Drawing.{three-channels}
+
+pub and-true : (b : Bool) → b and true ≡ b
+and-true true = refl
+and-true false = refl
+
+pub and-false : (b : Bool) → b and false ≡ false
+and-false true = refl
+and-false false = refl
+
+-- the stores of a pixel's channels
+module _ (y b r : ℕ) {colour : Bool} where
+  pub in-colour : colour ≡ true → (a : ℕ) (d : List ℕ) {k l m : ℕ} → k ≡ red y r → l ≡ green y b r → m ≡ blue y b
+      → set (set (set d a k) (a + 1) l) (a + 2) m ≡ written (shown colour (three y b r)) a 3 d
+  in-colour e a d p q s = three-channels (shown colour (three y b r)) a d (rw e p) (rw e q) (rw e s)
+
+  pub as-they-are : colour ≡ false → (a : ℕ) (d : List ℕ) → set (set (set d a y) (a + 1) b) (a + 2) r ≡ written (shown colour (three y b r)) a 3 d
+  as-they-are e a d = three-channels (shown colour (three y b r)) a d (rw e) (rw e) (rw e)
+
+-- what is shown depends on the three samples alone
+pub shown-cong : (b : Bool) (v w : ℕ → ℕ) → v 0 ≡ w 0 → v 1 ≡ w 1 → v 2 ≡ w 2 → (c : ℕ) → c < 3 → shown b v c ≡ shown b w c
+shown-cong true v w p q r c h = rw (p, q, r)
+shown-cong false v w p q r zero h = p
+shown-cong false v w p q r (suc zero) h = q
+shown-cong false v w p q r (suc (suc zero)) h = r
+shown-cong false v w p q r (suc (suc (suc c))) h = let z : ⊥ = omega arith in absurd z
+
+pub shown-one : (b : Bool) (v w : ℕ → ℕ) → b ≡ false → v 0 ≡ w 0 → (c : ℕ) → c < 1 → shown b v c ≡ shown b w c
+shown-one b v w e p zero h = rw e p
+shown-one b v w e p (suc c) h = let z : ⊥ = omega arith in absurd z
+
+-- the luma samples of a run are those that were gathered
+pub run-in-runs : (s : List ℕ) (a n : ℕ) (luma cb cr : List ℕ) (b : Bool) → Gathered s a n luma → (i c : ℕ) → i < n
+    → inRun luma cb cr b i c ≡ inRuns s a cb cr b i c
+unfolding inRun inRuns
+run-in-runs s a n luma cb cr b g i c h = ap (λ k. shown b (three k (getD cb i 0) (getD cr i 0)) c) (g i h)
+
+-- the chroma samples of an MCU are those that were spread
+pub runs-in-mcu : (s : List ℕ) (a b hs : ℕ) (cb cr : List ℕ) (coloured : Bool) → Spread s b hs cb → Spread s (b + 64) hs cr
+    → (i c : ℕ) → i < 8 * hs → inRuns s a cb cr coloured i c ≡ inMcu s a b hs coloured i c
+unfolding inRuns inMcu
+runs-in-mcu s a b hs cb cr coloured p q i c h =
+    ap₂ (λ k l. shown coloured (three (getD s (lumaAt a i) 0) k l) c) (p i h) (q i h)
+
+-- one channel, of one block's width
+pub gray-in-mcu : (s : List ℕ) (a b hs i c : ℕ) → i < 8 → c < 1 → getD s (a + i) 0 ≡ inMcu s a b hs false i c
+unfolding inMcu
+gray-in-mcu s a b hs i zero h l = ap (λ k. getD s k 0) place
+  where
+    place : a + i ≡ lumaAt a i
+    place = omega arith
+gray-in-mcu s a b hs i (suc c) h l = let z : ⊥ = omega arith in absurd z

@@ -1,0 +1,107 @@
+-- `jpeg_render::render::row` meets its contract. The loop's invariant: the pixels of some MCUs are written, and the places are those of the
+-- next one. Assumes nothing.
+use Prim.Native.Nat.{_*_, _-_, _≤_}
+use mathlib.Core.Path.{ap}
+use native.Mathlib.Omega.{arith}
+use native.Mathlib.Nat.{mul-le-mul, mul-le-mul-right}
+use Rattle.jpeg_render.proofs.Drawing.{drawn-all}
+use Rattle.jpeg_render.proofs.RowPlaces.{channels-in, per-most, row-room}
+use Rattle.jpeg_render.proofs.RowDrawn.{RowTo, row-none, luma-most, chroma-counted, next-fits, row-next}
+use Rattle.jpeg_render.proofs.render.row.Statement.{statement}
+use Rattle.jpeg_render.proofs.render.row.Tie as tie
+
+abbrev Inv-loop : tie.InvT-loop
+Inv-loop found y samples out₀ start step luma₀ chroma₀ x₀ out luma chroma x = RowTo found y samples out₀ luma chroma x out
+
+abbrev μ-loop : tie.MeasureT-loop
+μ-loop found y samples out₀ start step luma₀ chroma₀ x₀ out luma chroma x = found .width - x
+
+pixels-most : (c : tie.Start Inv-loop μ-loop) → c .args .found .width * c .args .found .channels ≤ 196605
+pixels-most c = mul-le-mul (c .pre .0 .sized .width-most) (channels-in _ (c .pre .0 .sized) .1)
+
+mul-start : tie.Need-mul-start Inv-loop μ-loop
+mul-start c = omega (arith, pixels-most (c .before .before .before))
+
+mul-start-2 : tie.Need-mul-start-2 Inv-loop μ-loop
+mul-start-2 c = omega (arith, row-room _ _ _ (c .before .before .before .pre .0) _ (c .before .before .before .pre .1), c .before .before .before .good)
+
+per-mcu-requires : tie.Need-per-mcu-requires Inv-loop μ-loop
+per-mcu-requires c κs = c .before .before .before .pre .0 .sized
+
+mul-step : tie.Need-mul-step Inv-loop μ-loop
+mul-step c = omega (arith, c .per-mcu .ensures, per-most _ (c .before .before .before .before .pre .0 .sized))
+
+luma-of-row-requires : tie.Need-luma-of-row-requires Inv-loop μ-loop
+luma-of-row-requires c κs = (c .before .before .before .before .pre .0 .sized, c .before .before .before .before .pre .1)
+
+chroma-of-row-requires : tie.Need-chroma-of-row-requires Inv-loop μ-loop
+chroma-of-row-requires c κs = (c .before .before .before .before .before .pre .0 .sized, c .before .before .before .before .before .pre .1)
+
+loop-holds : tie.Need-loop-holds Inv-loop μ-loop
+loop-holds c = row-none _ _ _ (c .before .before .before .before .before .before .pre .0) _ (c .before .before .before .before .before .before .pre .1) (c .before .luma-of-row .ensures) (c .chroma-of-row .ensures)
+
+sub-least : tie.Need-sub-least Inv-loop μ-loop
+sub-least c = omega (arith, c .before .if1 .taken)
+
+mul-least : tie.Need-mul-least Inv-loop μ-loop
+mul-least c = omega (arith, c .before .before .before .before .before .before .before .before .before .before .before .pre .0 .sized)
+
+least-requires : tie.Need-least-requires Inv-loop μ-loop
+least-requires c κs = tt
+
+mul-mcu : tie.Need-mul-mcu Inv-loop μ-loop
+mul-mcu c = omega (arith, pixels-most (c .before .before .before .before .before .before .before .before .before .before .before .before .before .before), mul-le-mul-right (c .before .before .before .before .before .before .before .before .before .before .before .before .before .before .args .found .channels) (c .before .before .before .before .before .before .before .loop .inv .drawn .within))
+
+add-mcu : tie.Need-add-mcu Inv-loop μ-loop
+add-mcu c = omega (arith, row-room _ _ _ (c .before .before .before .before .before .before .before .before .before .before .before .before .before .before .pre .0) _ (c .before .before .before .before .before .before .before .before .before .before .before .before .before .before .pre .1), mul-le-mul-right (c .before .before .before .before .before .before .before .before .before .before .before .before .before .before .args .found .channels) (c .before .before .before .before .before .before .before .loop .inv .drawn .within), c .before .before .before .before .before .before .before .before .before .before .before .before .before .before .good)
+
+mcu-requires : tie.Need-mcu-requires Inv-loop μ-loop
+mcu-requires c κs = next-fits _ _ _ (c .before .before .before .before .before .before .before .before .before .before .before .before .before .before .pre .0) _ (c .before .before .before .before .before .before .before .before .before .before .before .before .before .before .pre .1) (c .before .before .before .before .before .before .before .loop .inv) (c .before .before .before .before .before .if1 .taken) _ (c .before .before .least .ensures)
+
+add-luma : tie.Need-add-luma Inv-loop μ-loop
+add-luma c = omega (arith, luma-most _ _ _ (c .before .before .before .before .before .before .before .before .before .before .before .before .before .before .before .before .before .pre .0) _ (c .before .before .before .before .before .before .before .before .before .before .before .before .before .before .before .before .before .pre .1) (c .before .before .before .before .before .before .before .before .before .before .loop .inv) (c .before .before .before .before .before .before .before .before .if1 .taken), c .before .before .before .before .before .before .before .before .before .before .before .before .before .per-mcu .ensures, per-most _ (c .before .before .before .before .before .before .before .before .before .before .before .before .before .before .before .before .before .pre .0 .sized), c .before .before .before .before .before .before .before .before .before .before .before .before .before .before .before .before .before .good)
+
+add-chroma : tie.Need-add-chroma Inv-loop μ-loop
+add-chroma c = omega (arith, chroma-counted _ _ _ (c .before .before .before .before .before .before .before .before .before .before .before .before .before .before .before .before .before .pre .0) _ (c .before .before .before .before .before .before .before .before .before .before .before .before .before .before .before .before .before .pre .1) (c .before .before .before .before .before .before .before .before .before .before .loop .inv) (c .before .before .before .before .before .before .before .before .if1 .taken), c .before .before .before .before .before .before .before .before .before .before .before .before .before .per-mcu .ensures, per-most _ (c .before .before .before .before .before .before .before .before .before .before .before .before .before .before .before .before .before .pre .0 .sized), c .before .before .before .before .before .before .before .before .before .before .before .before .before .before .before .before .before .good)
+
+add-x : tie.Need-add-x Inv-loop μ-loop
+add-x c = omega (arith, c .before .before .before .before .before .least .ensures, c .before .before .before .before .before .before .before .before .if1 .taken, c .before .before .before .before .before .before .before .before .before .before .before .before .before .before .before .before .before .pre .0 .sized)
+
+loop-less : tie.Need-loop-less Inv-loop μ-loop
+loop-less c = omega (arith, c .before .before .before .before .before .least .ensures, c .before .before .before .before .before .before .before .before .if1 .taken, c .before .before .before .before .before .before .before .before .before .before .before .before .before .before .before .before .before .pre .0 .sized)
+
+loop-again : tie.Need-loop-again Inv-loop μ-loop
+loop-again c = row-next _ _ _ (c .before .before .before .before .before .before .before .before .before .before .before .before .before .before .before .before .before .pre .0) _ (c .before .before .before .before .before .before .before .before .before .before .before .before .before .before .before .before .before .pre .1) (c .before .before .before .before .before .before .before .before .before .before .loop .inv) (c .before .before .before .before .before .before .before .before .if1 .taken) _ (c .before .before .before .before .before .least .ensures) (ap (λ k. 64 * k) (c .before .before .before .before .before .before .before .before .before .before .before .before .before .per-mcu .ensures)) (c .before .before .mcu .ensures)
+
+same-length : tie.Need-same-length Inv-loop μ-loop
+same-length c = c .before .before .loop .inv .drawn .size
+
+returns : tie.Need-returns Inv-loop μ-loop
+returns c = drawn-all (c .before .before .loop .inv .drawn) (c .if1 .left)
+
+pub row-spec : {M : Type 1} → statement M
+row-spec =
+    tie.close
+    (tie.spec
+    Inv-loop
+    μ-loop
+    mul-start
+    mul-start-2
+    per-mcu-requires
+    mul-step
+    luma-of-row-requires
+    chroma-of-row-requires
+    loop-holds
+    sub-least
+    mul-least
+    least-requires
+    mul-mcu
+    add-mcu
+    mcu-requires
+    add-luma
+    add-chroma
+    add-x
+    loop-less
+    loop-again
+    same-length
+    returns)
