@@ -3,6 +3,9 @@
 
 use crate::Record;
 
+#[cfg(not(target_arch = "x86_64"))]
+compile_error!("the archive of Tillsparrow is for x86-64 alone");
+
 #[repr(C)]
 pub struct Inspected {
     pub number: u64,

@@ -194,9 +194,12 @@ fn a_changed_record_is_not_the_files() {
         assert_eq!(tried(&changed(&record, at)), Err(8), "number {at}");
     }
     assert_eq!(tried(&Record::default()), Err(8));
-    // The last number is the choice of colour, and both choices are the file's.
+    // The last number is the choice of colour: both choices are the file's, and no other number is.
     assert!(tried(&changed(&record, 35)).is_ok());
     assert!(tried(&record).is_ok());
+    for colour in [2, 256, 1 << 32, u64::MAX] {
+        assert_eq!(tried(&Record { colour, ..record }), Err(8), "colour {colour}");
+    }
 }
 
 #[test]
