@@ -146,14 +146,19 @@ class Held(unittest.TestCase):
                 self.assertRaises(BufferError, lent.append, 1)
         with self.during("tillsparrow_decode", check):
             tillsparrow.decode(data, OWN, output, scratch)
-        for record, rooms in ((OWN, (output, scratch)), (Record(), (output, scratch)), (OWN, (output, output)), (OWN, (output, bytes(9)))):
-            try:
-                tillsparrow.decode(data, record, *rooms)
-            except (Refused, ValueError, TypeError):
-                pass
+
+        def free():
             for lent in (data, output, scratch):
                 lent.append(1)
                 lent.pop()
+        free()
+        for record, rooms in ((Record(), (output, scratch)), (OWN, (output, output)), (OWN, (output, bytes(9)))):
+            try:
+                tillsparrow.decode(data, record, *rooms)
+                self.fail("accepted")
+            except (Refused, ValueError, TypeError):
+                # While the error is kept, and with it every frame that it came through.
+                free()
 
     def test_bytes_that_may_change_are_copied(self):
         for data, copied in ((bytearray(DATA), True), (memoryview(bytearray(DATA)).toreadonly(), True), (DATA, False),

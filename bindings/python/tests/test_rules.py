@@ -48,6 +48,14 @@ class Rules(unittest.TestCase):
         for scan in (79, 84):
             self.assertEqual(tillsparrow.settled(files.small(runs, bytes([scan]))), files.small(runs, b"\x3f"))
 
+    def test_a_settled_file_may_be_shorter(self):
+        """Two blocks, each written as three runs of zeros and the end code."""
+        runs = ((1, 0), (2, 240))
+        shorter = files.small(runs, b"\x0f", width=16)
+        made = tillsparrow.settle(files.small(runs, bytes([84, 84]), width=16))
+        self.assertEqual((made.output, made.length), (shorter, len(shorter)))
+        self.assertEqual(tillsparrow.settled(files.small(runs, bytes([84, 84]), width=16)), shorter)
+
     def test_a_settled_file_may_be_longer(self):
         """A block that ends in runs of zeros: with a long end code the settled file is longer, with none it is refused 9."""
         scan, ends = bytes([0b00110101, 0b01111111]), ((1, 0xe1), (2, 240), (16, 0))
@@ -72,7 +80,8 @@ class Rules(unittest.TestCase):
         self.assertEqual(drawn.output, b"\x80" * record.output)
         self.assertEqual((len(drawn.output), len(drawn.scratch)), (3 * width * height, record.scratch))
         # A record that asks for more than any file of this length can fill gets no memory.
-        for absurd in ({"output": 2**45}, {"scratch": 2**45}, {"output": MOST}, {"scratch": MOST}):
+        more = 512 * len(data) + 1
+        for absurd in ({"output": more}, {"scratch": more}, {"output": MOST}, {"scratch": MOST}):
             with self.assertRaises(Refused) as raised:
                 tillsparrow.decode(data, dataclasses.replace(record, **absurd))
             self.assertEqual((raised.exception.number, raised.exception.left), (7, MOST))

@@ -113,6 +113,18 @@ fn settled_files_are_known() {
     assert_eq!(settled(&file(runs, &[84])), Ok(file(runs, &[63])));
 }
 
+/// Two blocks, each written as three runs of zeros and the end code.
+#[test]
+fn a_settled_file_may_be_shorter() {
+    let runs: &[(usize, u8)] = &[(1, 0), (2, 240)];
+    let wide = |scan: &[u8]| {
+        let mut bytes = file(runs, scan);
+        bytes[79] = 16;
+        bytes
+    };
+    assert_eq!(settled(&wide(&[84, 84])), Ok(wide(&[15])));
+}
+
 /// A block that ends in runs of zeros: where the table has a long end code, the settled file is
 /// longer than the file, and where it has none, settling is refused 9.
 #[test]
