@@ -62,6 +62,13 @@ class WithNumpy(unittest.TestCase):
         tillsparrow.decode(data, record, both[:record.output], both[record.output:])
         self.assertTrue(both.any())
 
+    def test_arrays_of_any_shape_are_read(self):
+        noted = numpy.frombuffer(files.with_comment(files.small(), b"row B"), numpy.uint8).reshape(2, 25, 3)
+        self.assertEqual(tillsparrow.comments(noted), [b"row B"])
+        self.assertTrue(numpy.shares_memory(numpy.asarray(tillsparrow.comment(noted, 0)), noted))
+        self.assertEqual(tillsparrow.comment(numpy.zeros((0, 3), numpy.uint8), 0), b"")
+        self.assertEqual(tillsparrow.inspect(noted).record.width, 8)
+
     def test_numbers_of_numpy_are_numbers(self):
         data = files.small()
         self.assertEqual(tillsparrow.inspect(data, budget=numpy.uint64(3484)).left, 1)

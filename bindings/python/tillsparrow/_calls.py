@@ -164,7 +164,7 @@ def comment(data: Any, i: int) -> memoryview:
     with Lent() as lent:
         part = library.tillsparrow_comment(*lent.read("data", data), i)
     view = view_of("data", data)
-    # A view of no bytes cannot be cast, and has no part but the empty one.
+    # A view of no bytes in rows of some cannot be cast; it has no part but the empty one.
     flat = view.cast("B") if view.nbytes else memoryview(b"")
     return flat[part.at:part.at + part.length]
 

@@ -303,6 +303,21 @@ fn threads_read_one_file() {
         let readers: Vec<_> = (0..4).map(|_| scope.spawn(|| read(&file).unwrap())).collect();
         assert!(readers.into_iter().all(|reader| reader.join().unwrap() == picture));
     });
-    assert_eq!(picture.pixel(143, 143).unwrap(), &picture.samples[picture.samples.len() - 3..]);
-    assert_eq!((picture.pixel(144, 0), picture.pixel(0, 144)), (None, None));
+}
+
+#[test]
+fn a_pixel_is_where_it_was_painted() {
+    let flat =
+        |x: usize, y: usize| if x / 8 == 2 && y / 8 == 1 { [250, 0, 0] } else { [0, 0, 250] };
+    let picture = read(&encoded(&["-sample", "1x1", "-quality", "100"], flat, 40, 24)).unwrap();
+    for (x, y) in [(0, 0), (16, 8), (23, 15), (24, 15), (16, 16), (39, 23)] {
+        let pixel = picture.pixel(x, y).unwrap();
+        assert!(
+            pixel.iter().zip(flat(x, y)).all(|(&a, b)| a.abs_diff(b) <= 4),
+            "{x} {y}: {pixel:?}"
+        );
+    }
+    assert_eq!((picture.pixel(40, 0), picture.pixel(0, 24)), (None, None));
+    let grey = read(&encoded(&["-grayscale"], flat, 40, 24)).unwrap();
+    assert_eq!(grey.pixel(39, 23).unwrap(), &grey.samples[40 * 24 - 1..]);
 }
