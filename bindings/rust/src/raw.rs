@@ -3,9 +3,6 @@
 
 use crate::Record;
 
-#[cfg(not(target_arch = "x86_64"))]
-compile_error!("the archive of Tillsparrow is for x86-64 alone");
-
 #[repr(C)]
 pub struct Inspected {
     pub number: u64,
