@@ -2,7 +2,7 @@
 from __future__ import annotations
 
 import dataclasses
-from typing import Any, NamedTuple, Optional, Tuple
+from typing import Any, Dict, NamedTuple, Optional, Tuple
 
 from . import _native
 from ._lent import Lent, view_of
@@ -69,16 +69,22 @@ def _to_native(record: Record) -> _native.Record:
     if not isinstance(record, Record):
         raise TypeError(f"record must be a Record, not {type(record).__name__}")
     native = _native.Record()
-    for name, kind in _native.Record._fields_:
-        value, called = getattr(record, name), f"record.{name}"
-        count = getattr(kind, "_length_", None)
-        setattr(native, name, number(called, value) if count is None else kind(*_numbers(called, value, count)))
+    for field in dataclasses.fields(Record):
+        value, called = getattr(record, field.name), f"record.{field.name}"
+        place = getattr(native, field.name)
+        if isinstance(place, int):
+            setattr(native, field.name, number(called, value))
+        else:
+            place[:] = _numbers(called, value, len(place))
     return native
 
 
 def _from_native(native: _native.Record) -> Record:
-    values = (getattr(native, field.name) for field in dataclasses.fields(Record))
-    return Record(*(value if isinstance(value, int) else tuple(value) for value in values))
+    values: Dict[str, Any] = {}
+    for field in dataclasses.fields(Record):
+        value = getattr(native, field.name)
+        values[field.name] = value if isinstance(value, int) else tuple(value)
+    return Record(**values)
 
 
 def _fresh(length: int, most: int = MOST) -> bytearray:

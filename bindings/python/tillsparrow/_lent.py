@@ -37,7 +37,7 @@ def address(view: memoryview) -> int:
     buffer = _Buffer()
     _get(view, ctypes.byref(buffer), 0)
     try:
-        return buffer.buf
+        return int(buffer.buf)
     finally:
         _release(ctypes.byref(buffer))
 
