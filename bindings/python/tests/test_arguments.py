@@ -44,8 +44,10 @@ class Numbers(unittest.TestCase):
         self.assertRaises(TypeError, tillsparrow.inspect, DATA, True, (1, 2, 3))
         self.assertRaises(TypeError, tillsparrow.decode, DATA, (8, 8))
         self.assertRaises(TypeError, tillsparrow.decode, DATA, dataclasses.replace(OWN, ids=7))
-        self.assertRaises(ValueError, tillsparrow.decode, DATA, dataclasses.replace(OWN, ids=(1, 0)))
-        self.assertRaises(ValueError, tillsparrow.decode, DATA, dataclasses.replace(OWN, quants=(7, 0, 0, 0, 0)))
+        for wrong, said in (({"ids": (1, 0)}, "record.ids must be 3 whole numbers, not 2"),
+                            ({"quants": (7, 0, 0, 0, 0)}, "record.quants must be 4 whole numbers, not 5")):
+            with self.assertRaisesRegex(ValueError, said):
+                tillsparrow.decode(DATA, dataclasses.replace(OWN, **wrong))
 
 
 class Buffers(unittest.TestCase):
