@@ -1,0 +1,97 @@
+"""Pictures as numpy arrays, buffers that are numpy arrays, and what is said where numpy is not installed."""
+import contextlib
+import io
+import os
+import re
+import sys
+import unittest
+from unittest import mock
+
+import tillsparrow
+
+from . import files
+
+try:
+    import numpy
+except ImportError:
+    numpy = None
+
+
+@unittest.skipUnless(numpy, "numpy is not installed")
+class WithNumpy(unittest.TestCase):
+    def test_an_array_is_the_picture_and_no_copy(self):
+        for options, shape in ((["-grayscale"], (61, 97)), (["-sample", "2x2"], (61, 97, 3))):
+            picture = tillsparrow.read(files.encoded(options, files.gradient, 97, 61))
+            pixels = picture.array()
+            self.assertEqual((pixels.shape, pixels.dtype), (shape, numpy.uint8))
+            self.assertEqual(pixels.tobytes(), picture.samples)
+            self.assertEqual(pixels.ctypes.data, numpy.frombuffer(picture.samples, numpy.uint8).ctypes.data)
+            self.assertFalse(pixels.flags.writeable)
+            x, y = 40, 20
+            at = (y * 97 + x) * picture.channels
+            self.assertEqual(list(numpy.atleast_1d(pixels[y, x])), list(picture.samples[at:at + picture.channels]))
+
+    def test_arrays_are_lent(self):
+        data = files.docs_tray()
+        record = tillsparrow.inspect(numpy.frombuffer(data, numpy.uint8)).record
+        output, scratch = numpy.zeros((144, 144, 3), numpy.uint8), numpy.zeros(record.scratch, numpy.uint8)
+        drawn = tillsparrow.decode(numpy.frombuffer(data, numpy.uint8), record, output, scratch)
+        self.assertIs(drawn.output, output)
+        self.assertTrue((output == tillsparrow.read(data).array()).all())
+        room = numpy.full(len(data) + 9, 3, numpy.uint8)
+        made = tillsparrow.settle(data, room)
+        self.assertEqual(room[:made.length].tobytes(), tillsparrow.settled(data))
+        self.assertTrue((room[made.length:] == 3).all())
+
+    def test_arrays_that_do_not_serve_are_refused(self):
+        data = files.docs_tray()
+        record = tillsparrow.inspect(data).record
+        scratch = numpy.zeros(record.scratch, numpy.uint8)
+        fixed = numpy.zeros(record.output, numpy.uint8)
+        fixed.flags.writeable = False
+        wrong_type = (numpy.zeros(record.output, numpy.int8), numpy.zeros(record.output, bool), numpy.zeros(record.output), fixed)
+        for output in wrong_type:
+            self.assertRaises(TypeError, tillsparrow.decode, data, record, output, scratch)
+        wide = numpy.zeros((144, 288, 3), numpy.uint8)
+        for output in (wide[:, :144], wide[:, ::2], numpy.zeros((144, 144, 3), numpy.uint8, order="F")):
+            self.assertRaises(ValueError, tillsparrow.decode, data, record, output, scratch)
+        both = numpy.zeros(record.output + record.scratch, numpy.uint8)
+        with self.assertRaisesRegex(ValueError, "share memory"):
+            tillsparrow.decode(data, record, both[:record.output], both[record.output - 1:])
+        self.assertFalse(both.any() or wide.any())
+        tillsparrow.decode(data, record, both[:record.output], both[record.output:])
+        self.assertTrue(both.any())
+
+    def test_arrays_of_any_shape_are_read(self):
+        noted = numpy.frombuffer(files.with_comment(files.small(), b"row B"), numpy.uint8).reshape(2, 25, 3)
+        self.assertEqual(tillsparrow.comments(noted), [b"row B"])
+        self.assertTrue(numpy.shares_memory(numpy.asarray(tillsparrow.comment(noted, 0)), noted))
+        self.assertEqual(tillsparrow.comment(numpy.zeros((0, 3), numpy.uint8), 0), b"")
+        self.assertEqual(tillsparrow.inspect(noted).record.width, 8)
+
+    def test_numbers_of_numpy_are_numbers(self):
+        data = files.small()
+        self.assertEqual(tillsparrow.inspect(data, budget=numpy.uint64(3484)).left, 1)
+        self.assertRaises(ValueError, tillsparrow.inspect, data, budget=numpy.int64(-1))
+        self.assertRaises(TypeError, tillsparrow.inspect, data, budget=numpy.float64(4000))
+
+
+    def test_the_code_of_the_page_runs(self):
+        page = (files.ROOT / "bindings" / "python" / "README.md").read_text()
+        code, values, said, home = re.search(r"```python\n(.*?)```", page, re.S).group(1), {}, io.StringIO(), os.getcwd()
+        os.chdir(files.ROOT)
+        try:
+            with contextlib.redirect_stdout(said):
+                exec(code, values)
+        finally:
+            os.chdir(home)
+        self.assertEqual(said.getvalue(), "144 144 3 62208\n")
+        self.assertTrue(0 < values["green"] < 255)
+
+
+class WithoutNumpy(unittest.TestCase):
+    def test_the_rest_works_and_array_says_what_it_needs(self):
+        with mock.patch.dict(sys.modules, {"numpy": None}):
+            picture = tillsparrow.read(files.docs_tray())
+            self.assertEqual(len(picture.samples), 3 * 144 * 144)
+            self.assertRaisesRegex(ImportError, "needs numpy, which is not installed", picture.array)

@@ -1,0 +1,115 @@
+"""Worked pieces of the rules on small files made by hand: records, prices and the order of refusals, all known in advance."""
+import dataclasses
+import re
+import unittest
+
+import tillsparrow
+from tillsparrow import MEANINGS, MOST, Inspected, Record, Refused, _native
+
+from . import files
+
+SMALL = files.small()
+OWN = Record(width=8, height=8, channels=1, hs=1, vs=1, ids=(1, 0, 0), quants=(7, 0, 0, 0), dcs=(89, 0, 0, 0), acs=(111, 0, 0, 0),
+             start=138, blocks=1, scratch=64, output=64, work=3200, colour=1)
+
+
+class Rules(unittest.TestCase):
+    def test_the_record_is_known(self):
+        self.assertEqual(len(SMALL), 141)
+        self.assertEqual(tillsparrow.inspect(SMALL, budget=3483), Inspected(OWN, 0))
+        self.assertEqual(tillsparrow.inspect(SMALL, False, budget=3500), Inspected(dataclasses.replace(OWN, colour=0), 17))
+
+    def test_decode_refuses_in_order(self):
+        def at(record, output, scratch, budget):
+            try:
+                return 0, tillsparrow.decode(SMALL, record, bytearray(output), bytearray(scratch), budget).left
+            except Refused as refused:
+                return refused.number, refused.left
+        self.assertEqual(at(OWN, 63, 64, 0), (7, 0))
+        self.assertEqual(at(OWN, 64, 63, 9), (7, 9))
+        self.assertEqual(at(OWN, 64, 64, 3482), (2, 3482))
+        self.assertEqual(at(OWN, 64, 64, 3483), (0, 0))
+        self.assertEqual(at(Record(), 0, 0, 282), (2, 282))
+        self.assertEqual(at(Record(), 0, 0, 283), (8, 0))
+        self.assertEqual(at(dataclasses.replace(OWN, work=MOST - 282), 64, 64, MOST), (2, MOST))
+        self.assertEqual(at(dataclasses.replace(OWN, work=MOST - 283), 64, 64, MOST), (8, 0))
+        self.assertEqual(at(dataclasses.replace(OWN, output=MOST), 64, 64, 1), (7, 1))
+
+    def test_samples_go_to_the_front_of_the_buffers(self):
+        output, scratch = bytearray(b"\x09" * 65), bytearray(b"\x07" * 66)
+        drawn = tillsparrow.decode(SMALL, OWN, output, scratch, 3484)
+        self.assertIs(drawn.output, output)
+        self.assertIs(drawn.scratch, scratch)
+        self.assertEqual((drawn.left, output, scratch), (1, b"\x80" * 64 + b"\x09", b"\x80" * 64 + b"\x07\x07"))
+
+    def test_settled_files_are_known(self):
+        runs = ((1, 0), (2, 240))
+        self.assertEqual(tillsparrow.settled(SMALL), SMALL)
+        for scan in (79, 84):
+            self.assertEqual(tillsparrow.settled(files.small(runs, bytes([scan]))), files.small(runs, b"\x3f"))
+
+    def test_a_settled_file_may_be_shorter(self):
+        """Two blocks, each written as three runs of zeros and the end code."""
+        runs = ((1, 0), (2, 240))
+        shorter = files.small(runs, b"\x0f", width=16)
+        made = tillsparrow.settle(files.small(runs, bytes([84, 84]), width=16))
+        self.assertEqual((made.output, made.length), (shorter, len(shorter)))
+        self.assertEqual(tillsparrow.settled(files.small(runs, bytes([84, 84]), width=16)), shorter)
+
+    def test_a_settled_file_may_be_longer(self):
+        """A block that ends in runs of zeros: with a long end code the settled file is longer, with none it is refused 9."""
+        scan, ends = bytes([0b00110101, 0b01111111]), ((1, 0xe1), (2, 240), (16, 0))
+        longer = files.small(ends, bytes([0b00111000, 0, 0b00011111]))
+        made = tillsparrow.settle(files.small(ends, scan))
+        self.assertEqual((made.output, made.length), (longer, len(longer)))
+        self.assertEqual(tillsparrow.settled(files.small(ends, scan)), longer)
+        none = files.small(ends[:2], scan)
+        self.assertEqual(len(tillsparrow.read(none).samples), 64)
+        with self.assertRaises(Refused) as raised:
+            tillsparrow.settle(none)
+        self.assertEqual((raised.exception.number, raised.exception.needed), (9, None))
+
+    def test_fresh_buffers_suffice_for_the_most_that_a_byte_can_give(self):
+        """Two bits a block, six blocks for 768 bytes of output: 12 bits of 0 for each MCU."""
+        width, height = 2048, 1024
+        bits = 12 * (width // 16) * (height // 16)
+        data = files.small(scan=bytes(bits // 8), width=width, height=height, sampling=34)
+        record = tillsparrow.inspect(data).record
+        self.assertGreater(record.output, 500 * len(data))
+        drawn = tillsparrow.decode(data, record)
+        self.assertEqual(drawn.output, b"\x80" * record.output)
+        self.assertEqual((len(drawn.output), len(drawn.scratch)), (3 * width * height, record.scratch))
+        # A record that asks for more than any file of this length can fill gets no memory.
+        more = 512 * len(data) + 1
+        for absurd in ({"output": more}, {"scratch": more}, {"output": MOST}, {"scratch": MOST}):
+            with self.assertRaises(Refused) as raised:
+                tillsparrow.decode(data, dataclasses.replace(record, **absurd))
+            self.assertEqual((raised.exception.number, raised.exception.left), (7, MOST))
+
+
+class Header(unittest.TestCase):
+    text = (files.ROOT / "include" / "tillsparrow.h").read_text()
+
+    def test_structs_are_those_of_the_header(self):
+        found = re.findall(r"typedef struct tillsparrow_(\w+) \{(.*?)\}", self.text, re.S)
+        self.assertEqual(len(found), 6)
+        for name, body in found:
+            wanted = re.findall(r"(\w+) (\w+)(?:\[(\d)\])?;", re.sub(r"/\*.*?\*/", "", body, flags=re.S))
+            kinds = {"uint64_t": _native.Number, "tillsparrow_record": _native.Record}
+            ours = [(field, kind._type_, kind._length_) if hasattr(kind, "_length_") else (field, kind, None)
+                    for field, kind in getattr(_native, name.capitalize())._fields_]
+            self.assertEqual(ours, [(field, kinds[kind], int(count) if count else None) for kind, field, count in wanted], name)
+
+    def test_functions_take_what_the_header_says(self):
+        kinds = {"const uint8_t *": _native.Address, "uint8_t *": _native.Address, "bool ": _native.ctypes.c_bool,
+                 "size_t ": _native.Number, "uint64_t ": _native.Number, "tillsparrow_record ": _native.Record}
+        found = re.findall(r"^tillsparrow_(\w+) (tillsparrow_\w+)\((.*?)\);", self.text, re.S | re.M)
+        ours = {name: (answer, takes) for name, (answer, takes) in _native.FUNCTIONS.items()}
+        header = {name: (getattr(_native, answer.capitalize()),
+                         [kinds[re.sub(r"\w+$", "", argument.strip())] for argument in arguments.split(",")])
+                  for answer, name, arguments in found}
+        self.assertEqual(ours, header)
+
+    def test_meanings_are_those_of_the_header(self):
+        found = re.findall(r"TILLSPARROW_\w+ = (\d),?\s*/\* (.*?) \*/", self.text)
+        self.assertEqual({int(number): meaning.replace("settle: ", "") for number, meaning in found}, MEANINGS)

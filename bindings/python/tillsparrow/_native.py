@@ -1,0 +1,87 @@
+"""The shared library and the structs of its functions, as include/tillsparrow.h declares them."""
+from __future__ import annotations
+
+import ctypes
+import os
+from pathlib import Path
+
+VARIABLE = "TILLSPARROW_LIBRARY"
+#: Where ./library puts it at the top of the repository.
+BUILT = Path(__file__).resolve().parents[3] / "target" / "library" / "libtillsparrow.so"
+
+Number = ctypes.c_uint64
+Address = ctypes.c_void_p
+
+
+class Record(ctypes.Structure):
+    _fields_ = [
+        ("width", Number), ("height", Number), ("channels", Number), ("hs", Number), ("vs", Number),
+        ("ids", Number * 3), ("qids", Number * 3), ("dcids", Number * 3), ("acids", Number * 3),
+        ("quants", Number * 4), ("dcs", Number * 4), ("acs", Number * 4),
+        ("interval", Number), ("start", Number), ("blocks", Number), ("scratch", Number), ("output", Number),
+        ("work", Number), ("colour", Number),
+    ]
+
+
+class Inspected(ctypes.Structure):
+    _fields_ = [("number", Number), ("left", Number), ("found", Record)]
+
+
+class Decoded(ctypes.Structure):
+    _fields_ = [("number", Number), ("left", Number)]
+
+
+class Settled(ctypes.Structure):
+    _fields_ = [("number", Number), ("left", Number), ("length", Number)]
+
+
+class Part(ctypes.Structure):
+    _fields_ = [("at", Number), ("length", Number)]
+
+
+class Presence(ctypes.Structure):
+    _fields_ = [("number", Number), ("left", Number), ("there", Number)]
+
+
+LIMITS = [Number, Number, Number]
+BUFFER = [Address, Number]
+
+#: Each function: what it answers and what it takes.
+FUNCTIONS = {
+    "tillsparrow_inspect": (Inspected, [*BUFFER, ctypes.c_bool, *LIMITS, Number]),
+    "tillsparrow_decode": (Decoded, [*BUFFER, Record, *BUFFER, *BUFFER, Number]),
+    "tillsparrow_settle": (Settled, [*BUFFER, *LIMITS, Number, *BUFFER]),
+    "tillsparrow_comment": (Part, [*BUFFER, Number]),
+    "tillsparrow_has_comment": (Presence, [*BUFFER, Number, *LIMITS, Number]),
+}
+
+
+def place() -> Path:
+    """The path of the shared library; an empty variable counts as none."""
+    named = os.environ.get(VARIABLE)
+    if named:
+        return Path(named).absolute()
+    if not BUILT.is_file():
+        raise ImportError(
+            f"tillsparrow: there is no {BUILT}: run ./library at the top of the repository, "
+            f"or set {VARIABLE} to the path of libtillsparrow.so")
+    return BUILT
+
+
+def load() -> ctypes.CDLL:
+    """The library with its functions declared, or an ImportError that says what is wrong with it."""
+    path = place()
+    try:
+        library = ctypes.CDLL(str(path))
+    except OSError as error:
+        raise ImportError(f"tillsparrow: {path} cannot be loaded: {error}") from None
+    for name, (answer, takes) in FUNCTIONS.items():
+        try:
+            function = getattr(library, name)
+        except AttributeError:
+            raise ImportError(f"tillsparrow: {path} has no function {name}") from None
+        function.restype, function.argtypes = answer, takes
+    return library
+
+
+library = load()

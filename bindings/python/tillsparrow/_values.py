@@ -1,0 +1,108 @@
+"""The values that go in and come out beside bytes: numbers, limits, records, refusals."""
+from __future__ import annotations
+
+import operator
+from dataclasses import dataclass
+from typing import Optional, Tuple
+
+#: The largest number that a call takes: as a limit no limit, and as a budget enough for every file.
+MOST = 2**64 - 1
+
+#: What each number of a refusal means.
+MEANINGS = {
+    1: "more bytes than the limit on input",
+    2: "the price is above the budget",
+    3: "the header is cut short",
+    4: "a rule of the format is broken, in the header or in the scan",
+    5: "a form of JPEG that is not read",
+    6: "a side, or the samples, above a limit",
+    7: "a lent buffer is too short",
+    8: "the record is not the file's",
+    9: "a block wants an end-of-block code, and its table has none",
+}
+
+
+def number(name: str, value: int) -> int:
+    """The value, where it is a whole number of 64 bits; it is never cut down to one."""
+    try:
+        whole = operator.index(value)
+    except TypeError:
+        raise TypeError(f"{name} must be a whole number, not {type(value).__name__}") from None
+    if not 0 <= whole <= MOST:
+        raise ValueError(f"{name} must be from 0 to 2**64 - 1, not {whole}")
+    return whole
+
+
+class Refused(Exception):
+    """Why a call did not do what was asked. Every lent buffer is as it was."""
+
+    def __init__(self, number: int, meaning: str, left: int, needed: Optional[int] = None):
+        # The arguments are kept as they came, so that a refusal can be sent to another process.
+        super().__init__(number, meaning, left, needed)
+        #: 1 to 9.
+        self.number = number
+        #: What the number means, for people.
+        self.meaning = meaning
+        #: What is left of the budget.
+        self.left = left
+        #: The bytes of the settled file, where settle is refused for want of room; else None.
+        self.needed = needed
+
+    def __str__(self) -> str:
+        line = f"refused {self.number}: {self.meaning}"
+        return line if self.needed is None else f"{line}; {self.needed} bytes are needed"
+
+
+@dataclass(frozen=True)
+class Limits:
+    """What a file may hold before it is refused. A value equal to its limit passes."""
+
+    #: The bytes of the file; above it the file is refused 1.
+    input: int = MOST
+    #: The width and the height; above it the file is refused 6.
+    side: int = MOST
+    #: The bytes of the picture, and those of the scratch; above it the file is refused 6.
+    output: int = MOST
+
+
+NO_LIMITS = Limits()
+
+Three = Tuple[int, int, int]
+Four = Tuple[int, int, int, int]
+
+
+@dataclass(frozen=True)
+class Record:
+    """What inspect finds in a file. Any numbers may come back into decode, which refuses a record that is not the file's;
+    ``dataclasses.replace`` makes a changed one."""
+
+    width: int = 0
+    height: int = 0
+    #: 1 or 3.
+    channels: int = 0
+    #: The first channel's sampling, across and down.
+    hs: int = 0
+    vs: int = 0
+    #: For each channel its id, and the ids of its quantizer, DC table and AC table; 0 behind the last channel.
+    ids: Three = (0, 0, 0)
+    qids: Three = (0, 0, 0)
+    dcids: Three = (0, 0, 0)
+    acids: Three = (0, 0, 0)
+    #: By id, the place in the file of each quantizer, DC table and AC table; 0 where there is none.
+    quants: Four = (0, 0, 0, 0)
+    dcs: Four = (0, 0, 0, 0)
+    acs: Four = (0, 0, 0, 0)
+    #: MCUs between restarts, or 0.
+    interval: int = 0
+    #: The place of the first coded byte.
+    start: int = 0
+    #: The blocks of the picture.
+    blocks: int = 0
+    #: The bytes that decode needs for the samples of all blocks.
+    scratch: int = 0
+    #: The bytes of the picture.
+    output: int = 0
+    #: The price of the scan.
+    work: int = 0
+    #: 1: the picture of three channels is red, green, blue; 0: the channels as they are coded.
+    colour: int = 0

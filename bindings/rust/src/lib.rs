@@ -1,0 +1,43 @@
+//! Reads baseline JPEG files with the proved library Tillsparrow.
+//!
+//! The calls allocate nothing, keep nothing and answer by number. Any bytes, limits, budget and
+//! record may come in; on a refusal every lent buffer is as it was.
+//!
+//! | call | answers |
+//! |---|---|
+//! | [`inspect`] | the file's [`Record`] |
+//! | [`decode`] | the picture and the samples of its blocks, in two lent buffers |
+//! | [`settle`] | the settled file, in a lent buffer |
+//! | [`comment`], [`has_comment`] | a comment, as a part of the file's own bytes |
+//!
+//! [`read`], [`settled`] and [`comments`] do the same with memory of their own:
+//!
+//! ```
+//! let file = std::fs::read("../../docs/tray.jpg")?;
+//! let picture = tillsparrow::read(&file)?;
+//! assert_eq!((picture.width, picture.height, picture.channels), (144, 144, 3));
+//! assert_eq!(picture.samples.len(), 144 * 144 * 3);
+//! # Ok::<(), Box<dyn std::error::Error>>(())
+//! ```
+//!
+//! A call has a price: 2 for each byte of the file and 1, and the record's work where it comes to
+//! the scan. What a call may take is its budget; `u64::MAX` always suffices for a file that is
+//! read without a given record.
+
+#![deny(missing_docs, unsafe_op_in_unsafe_fn)]
+
+mod calls;
+mod own;
+mod raw;
+mod record;
+mod refused;
+
+pub use calls::{comment, decode, has_comment, inspect, settle, Inspected, Settled};
+pub use own::{comments, read, read_within, settled, Picture};
+pub use record::{Colour, Limits, Record};
+pub use refused::Refused;
+
+/// The code of the crate's page is run as an example too.
+#[cfg(doctest)]
+#[doc = include_str!("../README.md")]
+struct Page;

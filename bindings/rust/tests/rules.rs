@@ -1,0 +1,145 @@
+//! Worked pieces of the rules on a file of 141 bytes, one grey block of 8 by 8: its record, its
+//! prices and the order of refusals, all known in advance.
+
+use tillsparrow::*;
+
+/// A Huffman segment of one table: codes given as (length, symbol), shortest first.
+fn huffman(class_and_id: u8, codes: &[(usize, u8)]) -> Vec<u8> {
+    let mut counts = [0; 16];
+    codes.iter().for_each(|&(length, _)| counts[length - 1] += 1);
+    let mut bytes = vec![255, 196, 0, 19 + codes.len() as u8, class_and_id];
+    bytes.extend(counts);
+    bytes.extend(codes.iter().map(|&(_, symbol)| symbol));
+    bytes
+}
+
+fn file(ac: &[(usize, u8)], scan: &[u8]) -> Vec<u8> {
+    let mut bytes = vec![255, 216, 255, 219, 0, 67, 0];
+    bytes.extend([1; 64]);
+    bytes.extend([255, 192, 0, 11, 8, 0, 8, 0, 8, 1, 1, 17, 0]);
+    bytes.extend(huffman(0, &[(1, 0)]));
+    bytes.extend(huffman(16, ac));
+    bytes.extend([255, 218, 0, 8, 1, 1, 0, 0, 63, 0]);
+    bytes.extend(scan);
+    bytes.extend([255, 217]);
+    bytes
+}
+
+fn small() -> Vec<u8> {
+    file(&[(1, 0)], &[63])
+}
+
+fn record() -> Record {
+    Record {
+        width: 8,
+        height: 8,
+        channels: 1,
+        hs: 1,
+        vs: 1,
+        ids: [1, 0, 0],
+        quants: [7, 0, 0, 0],
+        dcs: [89, 0, 0, 0],
+        acs: [111, 0, 0, 0],
+        start: 138,
+        blocks: 1,
+        scratch: 64,
+        output: 64,
+        work: 3200,
+        colour: 1,
+        ..Record::default()
+    }
+}
+
+#[test]
+fn the_record_is_known() {
+    let file = small();
+    assert_eq!(file.len(), 141);
+    let seen = inspect(&file, Colour::RedGreenBlue, Limits::NONE, 3483);
+    assert_eq!(seen, Ok(Inspected { record: record(), left: 0 }));
+    let coded = Record { colour: 0, ..record() };
+    let seen = inspect(&file, Colour::AsCoded, Limits::default(), 3500);
+    assert_eq!(seen, Ok(Inspected { record: coded, left: 17 }));
+}
+
+#[test]
+fn inspect_takes_its_price_in_two_steps() {
+    let file = small();
+    let at = |budget| {
+        let refused = inspect(&file, Colour::AsCoded, Limits::NONE, budget).unwrap_err();
+        assert_eq!(has_comment(&file, 0, Limits::NONE, budget), Err(refused));
+        assert_eq!(settle(&file, Limits::NONE, budget, &mut [0; 200]), Err(refused));
+        assert_eq!(refused.needed, None);
+        (refused.number, refused.left)
+    };
+    assert_eq!([0, 282, 283, 3482].map(at), [(2, 0), (2, 282), (2, 0), (2, 3199)]);
+}
+
+#[test]
+fn decode_refuses_in_order() {
+    let file = small();
+    let at = |record: Record, rooms: (usize, usize), budget| {
+        let (mut output, mut scratch) = (vec![5; rooms.0], vec![6; rooms.1]);
+        match decode(&file, &record, &mut output, &mut scratch, budget) {
+            Ok(left) => (0, left),
+            Err(refused) => (refused.number, refused.left),
+        }
+    };
+    let own = record();
+    assert_eq!(at(own, (63, 64), 0), (7, 0));
+    assert_eq!(at(own, (64, 63), 9), (7, 9));
+    assert_eq!(at(own, (64, 64), 3482), (2, 3482));
+    assert_eq!(at(own, (64, 64), 3483), (0, 0));
+    assert_eq!(at(Record::default(), (0, 0), 282), (2, 282));
+    assert_eq!(at(Record::default(), (0, 0), 283), (8, 0));
+    let heavy = |work| Record { work, ..own };
+    assert_eq!(at(heavy(u64::MAX - 282), (64, 64), u64::MAX), (2, u64::MAX));
+    assert_eq!(at(heavy(u64::MAX - 283), (64, 64), u64::MAX), (8, 0));
+    assert_eq!(at(Record { output: u64::MAX, ..own }, (64, 64), 1), (7, 1));
+}
+
+#[test]
+fn samples_go_to_the_front_of_the_buffers() {
+    let (mut output, mut scratch) = ([9; 65], [7; 66]);
+    assert_eq!(decode(&small(), &record(), &mut output, &mut scratch, 3484), Ok(1));
+    assert_eq!((&output[..64], output[64]), (&[128; 64][..], 9));
+    assert_eq!((&scratch[..64], &scratch[64..]), (&[128; 64][..], &[7, 7][..]));
+}
+
+#[test]
+fn settled_files_are_known() {
+    assert_eq!(settled(&small()), Ok(small()));
+    let runs: &[(usize, u8)] = &[(1, 0), (2, 240)];
+    assert_eq!(settled(&file(runs, &[79])), Ok(file(runs, &[63])));
+    assert_eq!(settled(&file(runs, &[84])), Ok(file(runs, &[63])));
+}
+
+/// Two blocks, each written as three runs of zeros and the end code.
+#[test]
+fn a_settled_file_may_be_shorter() {
+    let runs: &[(usize, u8)] = &[(1, 0), (2, 240)];
+    let wide = |scan: &[u8]| {
+        let mut bytes = file(runs, scan);
+        bytes[79] = 16;
+        bytes
+    };
+    assert_eq!(settled(&wide(&[84, 84])), Ok(wide(&[15])));
+}
+
+/// A block that ends in runs of zeros: where the table has a long end code, the settled file is
+/// longer than the file, and where it has none, settling is refused 9.
+#[test]
+fn a_settled_file_may_be_longer() {
+    let scan = [0b0011_0101, 0b0111_1111];
+    let ends: &[(usize, u8)] = &[(1, 0xe1), (2, 240), (16, 0)];
+    let longer = file(ends, &[0b0011_1000, 0, 0b0001_1111]);
+    assert_eq!(settled(&file(ends, &scan)), Ok(longer.clone()));
+    let mut room = vec![3; longer.len() - 1];
+    let refused = settle(&file(ends, &scan), Limits::NONE, 4000, &mut room).unwrap_err();
+    assert_eq!((refused.number, refused.needed), (7, Some(longer.len() as u64)));
+    assert_eq!(refused.left, 4000 - 2 * (longer.len() as u64 - 1) - 1 - 3200);
+    let none = file(&[(1, 0xe1), (2, 240)], &scan);
+    assert_eq!(read(&none).unwrap().samples.len(), 64);
+    let refused = settle(&none, Limits::NONE, u64::MAX, &mut room).unwrap_err();
+    assert_eq!((refused.number, refused.needed), (9, None));
+    assert!(room.iter().all(|&byte| byte == 3));
+}
