@@ -7,6 +7,7 @@ import sys
 ROOT = os.path.dirname(os.path.dirname(os.path.dirname(os.path.abspath(__file__))))
 sys.dont_write_bytecode = True
 sys.path.insert(0, os.path.join(ROOT, "tests"))
+import expected  # noqa: E402
 import unsettled  # noqa: E402
 
 # tool: the Debian package that has it
@@ -39,6 +40,13 @@ def run(command, data=b"", ok=(0,), env=None):
         said = done.stderr.decode(errors="replace").strip() or "nothing is said"
         raise Off(f"{' '.join(command)} ended with {done.returncode}: {said}")
     return done
+
+
+def write(folder, name, data):
+    path = os.path.join(folder, name)
+    with open(path, "wb") as file:
+        file.write(data)
+    return path
 
 
 def build_library():
@@ -91,6 +99,16 @@ def near_djpeg(name, pnm, jpeg):
         raise Off(f"{name}: a sample differs from djpeg's by {max(gaps)}")
     if 5 * sum(1 for gap in gaps if gap) >= len(gaps):
         raise Off(f"{name}: one sample in five differs from djpeg's, or more")
+
+
+def same_as_program(name, jpeg, pnm):
+    """Whether ./tillsparrow, which takes 65,536 bytes and samples, is built and was asked; its bytes are the same."""
+    numbers = expected.record(jpeg)
+    if len(jpeg) > 65536 or max(numbers[32:34]) > 65536 or not os.path.exists(os.path.join(ROOT, "target", "bin", "tillsparrow")):
+        return False
+    if run([os.path.join(ROOT, "tillsparrow")], jpeg).stdout != pnm:
+        raise Off(f"{name}: ./tillsparrow writes another picture")
+    return True
 
 
 # ---- comments
