@@ -31,17 +31,23 @@ static bool is_end(const SDL_Event *event) {
     return event->type == SDL_QUIT;
 }
 
-static bool run_window(const char *name, SDL_Window *window, SDL_Surface *shown) {
+/* SDL_WaitEvent would send the window a message to wake itself, by another connection to the X server. It may arrive when the window
+ * is gone, and the program then ends with an error of X. So SDL is asked fifty times a second instead. */
+static SDL_Event next_event(void) {
     SDL_Event event;
-    if (!repaint(window, shown))
-        return fail(name, "the window cannot be painted");
-    while (SDL_WaitEvent(&event)) {
-        if (is_end(&event))
-            return true;
+    while (!SDL_PollEvent(&event))
+        SDL_Delay(20);
+    return event;
+}
+
+static bool run_window(const char *name, SDL_Window *window, SDL_Surface *shown) {
+    SDL_Event event = {.type = SDL_WINDOWEVENT};
+    while (!is_end(&event)) {
         if (event.type == SDL_WINDOWEVENT && !repaint(window, shown))
             return fail(name, "the window cannot be painted");
+        event = next_event();
     }
-    return fail(name, "the window has no events");
+    return true;
 }
 
 static bool show_canvas(const char *name, const char *title, const struct canvas *canvas) {

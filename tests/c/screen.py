@@ -110,11 +110,11 @@ class Window:
     def __exit__(self, *_):
         if self.program.poll() is None:
             self.program.kill()
-        self.program.communicate()
+            self.program.communicate()
 
     def find(self):
         if self.program.poll() is not None:
-            raise Off(f"{self.name} ended with {self.program.returncode}: {self.program.stderr.read().decode().strip()}")
+            raise Off("{} ended with {}: {}".format(self.name, *self.ended()))
         found = run(["xdotool", "search", "--onlyvisible", "--pid", str(self.program.pid)], ok=(0, 1), env=self.env).stdout.split()
         return found[-1].decode() if found else None
 
@@ -140,8 +140,9 @@ class Window:
         ask_to_close(self.env["DISPLAY"], int(self.id))
 
     def ended(self):
-        """The exit status, once the program has ended."""
+        """The exit status and what was said on standard error, once the program has ended."""
         try:
-            return self.program.wait(PATIENCE)
+            said = self.program.communicate(timeout=PATIENCE)[1].decode(errors="replace").strip()
         except subprocess.TimeoutExpired:
             raise Off(f"{self.name} does not end") from None
+        return self.program.returncode, said
