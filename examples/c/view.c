@@ -176,21 +176,30 @@ static enum status show(const struct file *file) {
     return decoded;
 }
 
+typedef enum status (*use)(const struct file *);
+
+static use chosen_use(int count, char **words) {
+    if (count == 2 && words[1][0] != '-')
+        return show;
+    if (count == 3 && strcmp(words[1], "--pnm") == 0)
+        return write_pnm;
+    if (count == 3 && strcmp(words[1], "--note") == 0)
+        return write_notes;
+    return NULL;
+}
+
 int main(int count, char **words) {
-    struct file file = {words[count > 0 ? count - 1 : 0], NULL, 0, {0}};
-    enum status (*use)(const struct file *) = count == 2 && words[1][0] != '-'                ? show
-                                              : count == 3 && strcmp(words[1], "--pnm") == 0  ? write_pnm
-                                              : count == 3 && strcmp(words[1], "--note") == 0 ? write_notes
-                                                                                              : NULL;
-    if (use == NULL) {
+    use chosen = chosen_use(count, words);
+    if (chosen == NULL) {
         fprintf(stderr, "view: takes FILE, --pnm FILE or --note FILE\n");
         return FAILED;
     }
+    struct file file = {words[count - 1], NULL, 0, {0}};
     enum status done = read_file(&file);
     if (done == DONE)
         done = inspect_file(&file);
     if (done == DONE)
-        done = use(&file);
+        done = chosen(&file);
     free(file.bytes);
     return (int)done;
 }

@@ -56,7 +56,8 @@ static void hold_record(tillsparrow_record given, tillsparrow_record wanted, con
 
 static void hold_answer(uint64_t number, uint64_t left, uint64_t wanted, uint64_t wanted_left, const char *what) {
     hold(number == wanted, "%s answers %llu, and not %llu", what, (unsigned long long)number, (unsigned long long)wanted);
-    hold(left == wanted_left, "%s leaves %llu of the budget, and not %llu", what, (unsigned long long)left, (unsigned long long)wanted_left);
+    hold(left == wanted_left, "%s leaves %llu of the budget, and not %llu", what, (unsigned long long)left,
+         (unsigned long long)wanted_left);
 }
 
 /* ---- inspect, settle and has_comment admit a file alike */
@@ -127,9 +128,11 @@ static uint64_t due_left(const struct subject *s, tillsparrow_record given, uint
 }
 
 /* A refusal leaves both buffers as they were. */
-static void hold_refused(const struct subject *s, tillsparrow_record given, size_t output, size_t scratch, uint64_t budget, uint64_t number) {
+static void hold_refused(const struct subject *s, tillsparrow_record given, size_t output, size_t scratch, uint64_t budget,
+                         uint64_t number) {
     struct lent picture = lend_filled(output, 165), blocks = lend_filled(scratch, 90);
-    tillsparrow_decoded drawn = tillsparrow_decode(s->file.bytes, s->file.length, given, picture.bytes, output, blocks.bytes, scratch, budget);
+    tillsparrow_decoded drawn =
+        tillsparrow_decode(s->file.bytes, s->file.length, given, picture.bytes, output, blocks.bytes, scratch, budget);
     hold(number == due_number(s, given, output, scratch, budget), "the test is wrong: number %llu is not due", (unsigned long long)number);
     hold_answer(drawn.number, drawn.left, number, due_left(s, given, number, budget), "decode");
     hold(is_filled(picture.bytes, output, 165), "decode refuses %llu and has changed the output", (unsigned long long)number);

@@ -37,8 +37,8 @@ def need_tools(name, tools):
 def run(command, data=b"", ok=(0,), env=None):
     done = subprocess.run(command, input=data, stdout=subprocess.PIPE, stderr=subprocess.PIPE, check=False, env=env)
     if done.returncode not in ok:
-        said = done.stderr.decode(errors="replace").strip() or "nothing is said"
-        raise Off(f"{' '.join(command)} ended with {done.returncode}: {said}")
+        how = f"ended with {done.returncode}" if done.returncode >= 0 else f"was stopped by signal {-done.returncode}"
+        raise Off(f"{' '.join(command)} {how}: {done.stderr.decode(errors='replace').strip() or 'nothing is said'}")
     return done
 
 
