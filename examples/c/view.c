@@ -1,0 +1,205 @@
+/* A viewer for seed trays.
+ *
+ *   view FILE          shows the picture and the camera's note in a window; q, Escape or closing ends it
+ *   view --pnm FILE    writes the picture, PPM or PGM, to standard output
+ *   view --note FILE   prints the text of every note as it is, and a newline behind each
+ *
+ * Exit status: 0 for done, 1 for a file that is refused, 2 for anything else. Each failure is one line on standard error.
+ */
+#include "tillsparrow.h"
+#include "window.h"
+
+#include <errno.h>
+#include <stdio.h>
+#include <stdlib.h>
+#include <string.h>
+
+enum status { DONE = 0, REFUSED = 1, FAILED = 2 };
+
+/* The file in hand: its bytes, and the record that inspect found. */
+struct file {
+    const char *name;
+    uint8_t *bytes;
+    size_t length;
+    tillsparrow_record found;
+};
+
+static enum status fail(const struct file *file, const char *what) {
+    fprintf(stderr, "view: %s: %s\n", file->name, what);
+    return FAILED;
+}
+
+static enum status refuse(const struct file *file, uint64_t number) {
+    static const char *const meanings[] = {
+        [TILLSPARROW_TOO_LONG] = "the file is too long",
+        [TILLSPARROW_OVER_BUDGET] = "the price is above the budget",
+        [TILLSPARROW_CUT_SHORT] = "the header is cut short",
+        [TILLSPARROW_MALFORMED] = "the file is malformed",
+        [TILLSPARROW_UNSUPPORTED] = "this form of JPEG is not read",
+        [TILLSPARROW_TOO_LARGE] = "the picture is too large",
+        [TILLSPARROW_SHORT_ROOM] = "a buffer is too short",
+        [TILLSPARROW_NOT_ITS_RECORD] = "the record is not the file's",
+        [TILLSPARROW_NO_END_CODE] = "a table has no end-of-block code",
+    };
+    const char *meaning = number < sizeof meanings / sizeof meanings[0] ? meanings[number] : "an unknown number";
+    fprintf(stderr, "view: %s: refused %llu: %s\n", file->name, (unsigned long long)number, meaning);
+    return REFUSED;
+}
+
+/* ---- reading */
+
+/* Twice the room, and more than none: the calls take no null pointer, also for a file of no bytes. */
+static bool grow(struct file *file, size_t *room) {
+    size_t larger = *room == 0 ? 65536 : 2 * *room;
+    uint8_t *bytes = larger > *room ? realloc(file->bytes, larger) : NULL;
+    if (bytes == NULL)
+        return false;
+    file->bytes = bytes;
+    *room = larger;
+    return true;
+}
+
+static enum status read_all(struct file *file, FILE *stream) {
+    size_t room = 0, got = 1;
+    while (got != 0) {
+        if (file->length == room && !grow(file, &room))
+            return fail(file, "out of memory for the file");
+        got = fread(file->bytes + file->length, 1, room - file->length, stream);
+        file->length += got;
+    }
+    return ferror(stream) ? fail(file, strerror(errno)) : DONE;
+}
+
+static enum status read_file(struct file *file) {
+    FILE *stream = fopen(file->name, "rb");
+    if (stream == NULL)
+        return fail(file, strerror(errno));
+    enum status read = read_all(file, stream);
+    fclose(stream);
+    return read;
+}
+
+/* What the file holds. A viewer has no limits; the price is known only behind this call. */
+static enum status inspect_file(struct file *file) {
+    tillsparrow_inspected seen =
+        tillsparrow_inspect(file->bytes, file->length, true, SIZE_MAX, SIZE_MAX, SIZE_MAX, UINT64_MAX);
+    file->found = seen.found;
+    return seen.number == TILLSPARROW_ACCEPTED ? DONE : refuse(file, seen.number);
+}
+
+/* The price of the file that was inspected: 2 for each byte, 1, and the work. */
+static uint64_t price(const struct file *file) {
+    return 2 * (uint64_t)file->length + 1 + file->found.work;
+}
+
+/* ---- the picture */
+
+static uint8_t *allocate(uint64_t length) {
+    return (size_t)length == length ? malloc((size_t)length) : NULL;
+}
+
+static enum status decode_into(const struct file *file, uint8_t *output, uint8_t *scratch) {
+    if (output == NULL || scratch == NULL)
+        return fail(file, "out of memory for the picture");
+    tillsparrow_decoded drawn = tillsparrow_decode(file->bytes, file->length, file->found, output, (size_t)file->found.output, scratch,
+                                                   (size_t)file->found.scratch, price(file));
+    return drawn.number == TILLSPARROW_ACCEPTED ? DONE : refuse(file, drawn.number);
+}
+
+/* The buffers have just the lengths that the record asks for. The caller frees the samples. */
+static enum status decode_file(const struct file *file, struct picture *picture, uint8_t **samples) {
+    *samples = allocate(file->found.output);
+    uint8_t *scratch = allocate(file->found.scratch);
+    enum status decoded = decode_into(file, *samples, scratch);
+    free(scratch);
+    picture->width = (size_t)file->found.width;
+    picture->height = (size_t)file->found.height;
+    picture->channels = (size_t)file->found.channels;
+    picture->samples = *samples;
+    return decoded;
+}
+
+/* ---- the notes */
+
+static bool has_note(const struct file *file, size_t i) {
+    return tillsparrow_has_comment(file->bytes, file->length, i, SIZE_MAX, SIZE_MAX, SIZE_MAX, price(file)).there == 1;
+}
+
+static struct note first_note(const struct file *file) {
+    tillsparrow_part part = tillsparrow_comment(file->bytes, file->length, 0);
+    struct note note = {file->bytes + part.at, (size_t)part.length, 0};
+    while (has_note(file, note.count))
+        note.count++;
+    return note;
+}
+
+/* ---- the three uses */
+
+/* What was written may still be on its way; it has arrived where flushing succeeds. */
+static enum status finish_output(const struct file *file) {
+    if (ferror(stdout) || fflush(stdout) != 0)
+        return fail(file, "standard output cannot be written");
+    return DONE;
+}
+
+static enum status write_pnm(const struct file *file) {
+    struct picture picture;
+    uint8_t *samples;
+    enum status decoded = decode_file(file, &picture, &samples);
+    if (decoded == DONE) {
+        printf("P%d\n%zu %zu\n255\n", picture.channels == 1 ? 5 : 6, picture.width, picture.height);
+        fwrite(samples, 1, (size_t)file->found.output, stdout);
+        decoded = finish_output(file);
+    }
+    free(samples);
+    return decoded;
+}
+
+static enum status write_notes(const struct file *file) {
+    for (size_t i = 0; has_note(file, i); i++) {
+        tillsparrow_part part = tillsparrow_comment(file->bytes, file->length, i);
+        fwrite(file->bytes + part.at, 1, (size_t)part.length, stdout);
+        putchar('\n');
+    }
+    return finish_output(file);
+}
+
+static enum status show(const struct file *file) {
+    struct picture picture;
+    uint8_t *samples;
+    enum status decoded = decode_file(file, &picture, &samples);
+    if (decoded == DONE) {
+        struct note note = first_note(file);
+        decoded = show_window(file->name, &picture, &note) ? DONE : FAILED;
+    }
+    free(samples);
+    return decoded;
+}
+
+typedef enum status (*use)(const struct file *);
+
+static use chosen_use(int count, char **words) {
+    if (count == 2 && words[1][0] != '-')
+        return show;
+    if (count == 3 && strcmp(words[1], "--pnm") == 0)
+        return write_pnm;
+    if (count == 3 && strcmp(words[1], "--note") == 0)
+        return write_notes;
+    return NULL;
+}
+
+int main(int count, char **words) {
+    use chosen = chosen_use(count, words);
+    if (chosen == NULL) {
+        fprintf(stderr, "view: takes FILE, --pnm FILE or --note FILE\n");
+        return FAILED;
+    }
+    struct file file = {words[count - 1], NULL, 0, {0}};
+    enum status done = read_file(&file);
+    if (done == DONE)
+        done = inspect_file(&file);
+    if (done == DONE)
+        done = chosen(&file);
+    free(file.bytes);
+    return (int)done;
+}

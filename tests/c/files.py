@@ -1,0 +1,175 @@
+"""The files that the tests for C run on, made here by libjpeg-turbo's tools and by hand; and the tools themselves."""
+import os
+import shutil
+import subprocess
+import sys
+
+ROOT = os.path.dirname(os.path.dirname(os.path.dirname(os.path.abspath(__file__))))
+sys.dont_write_bytecode = True
+sys.path.insert(0, os.path.join(ROOT, "tests"))
+import expected  # noqa: E402
+import unsettled  # noqa: E402
+
+# tool: the Debian package that has it
+ENCODERS = {"cjpeg": "libjpeg-turbo-progs", "djpeg": "libjpeg-turbo-progs", "wrjpgcom": "libjpeg-turbo-progs"}
+COMPILERS = {"gcc": "gcc", "g++": "g++", "nm": "binutils", "pkg-config": "pkg-config"}
+
+
+class Off(Exception):
+    """What does not hold, as one line."""
+
+
+def need_tools(name, tools):
+    """The distribution's packages for these tools, installed where one is absent."""
+    missing = [tool for tool in tools if not shutil.which(tool)]
+    if not missing:
+        return
+    packages = sorted({tools[tool] for tool in missing})
+    print(f"{name}: installing {' '.join(packages)}", file=sys.stderr)
+    install = ["apt-get", "-qq", "-y", "-o", "DPkg::Lock::Timeout=300", "install", *packages]
+    for command in (["apt-get", "-qq", "update"], install):
+        subprocess.run(command, stdout=subprocess.DEVNULL, stderr=subprocess.DEVNULL, check=False)
+    missing = [tool for tool in tools if not shutil.which(tool)]
+    if missing:
+        raise Off(f"cannot be run without {', '.join(missing)} (packages {' '.join(packages)})")
+
+
+def run(command, data=b"", ok=(0,), env=None):
+    done = subprocess.run(command, input=data, stdout=subprocess.PIPE, stderr=subprocess.PIPE, check=False, env=env)
+    if done.returncode not in ok:
+        how = f"ended with {done.returncode}" if done.returncode >= 0 else f"was stopped by signal {-done.returncode}"
+        raise Off(f"{' '.join(command)} {how}: {done.stderr.decode(errors='replace').strip() or 'nothing is said'}")
+    return done
+
+
+def write(folder, name, data):
+    path = os.path.join(folder, name)
+    with open(path, "wb") as file:
+        file.write(data)
+    return path
+
+
+def build_library():
+    """Builds target/library where it is not there or older than the sources; what is done is seen on standard error."""
+    if subprocess.run([os.path.join(ROOT, "library")], stdin=subprocess.DEVNULL, check=False).returncode:
+        raise Off("./library did not build target/library")
+    return os.path.join(ROOT, "target", "library")
+
+
+# ---- pictures
+
+def tray(x, y):
+    """Discs in rows, as seeds lie in a tray, no two alike."""
+    dx, dy = x % 16 - 8, y % 16 - 8
+    seed = (200 - x % 50, 170 - y % 40, 90 + (x // 16 * 7 + y // 16 * 13) % 60)
+    return seed if dx * dx + dy * dy < 36 else (60, 90 + x % 7, 50 + y % 5)
+
+
+def pixmap(width, height):
+    body = bytes(v for y in range(height) for x in range(width) for v in tray(x, y))
+    return b"P6\n%d %d\n255\n" % (width, height) + body
+
+
+def encode(width, height, *options):
+    return run(["cjpeg", *options], pixmap(width, height)).stdout
+
+
+def djpeg(jpeg):
+    return run(["djpeg", "-dct", "int", "-nosmooth", "-pnm"], jpeg).stdout
+
+
+def parse(pnm, name):
+    """Kind, width, height and samples of a PGM or PPM."""
+    fields = pnm.split(b"\n", 3)
+    if len(fields) != 4 or fields[0] not in (b"P5", b"P6") or fields[2] != b"255":
+        raise Off(f"{name}: not a picture: {pnm[:30]!r}")
+    width, height = (int(v) for v in fields[1].split())
+    if len(fields[3]) != width * height * (1 if fields[0] == b"P5" else 3):
+        raise Off(f"{name}: {len(fields[3])} samples for {width} x {height}")
+    return fields[0], width, height, fields[3]
+
+
+def near_djpeg(name, pnm, jpeg):
+    """Samples may differ from djpeg's by 1 in a grey picture and by 3 in a colour one, and fewer than one in five at all."""
+    ours, theirs = parse(pnm, name), parse(djpeg(jpeg), name)
+    if ours[:3] != theirs[:3]:
+        raise Off(f"{name}: {ours[:3]} here, {theirs[:3]} by djpeg")
+    gaps = [abs(a - b) for a, b in zip(ours[3], theirs[3])]
+    if max(gaps) > (1 if ours[0] == b"P5" else 3):
+        raise Off(f"{name}: a sample differs from djpeg's by {max(gaps)}")
+    if 5 * sum(1 for gap in gaps if gap) >= len(gaps):
+        raise Off(f"{name}: one sample in five differs from djpeg's, or more")
+
+
+def same_as_program(name, jpeg, pnm):
+    """Whether ./tillsparrow, which takes 65,536 bytes and samples, is built and was asked; its bytes are the same."""
+    numbers = expected.record(jpeg)
+    if len(jpeg) > 65536 or max(numbers[32:34]) > 65536 or not os.path.exists(os.path.join(ROOT, "target", "bin", "tillsparrow")):
+        return False
+    if run([os.path.join(ROOT, "tillsparrow")], jpeg).stdout != pnm:
+        raise Off(f"{name}: ./tillsparrow writes another picture")
+    return True
+
+
+# ---- comments
+
+def segment(marker, body):
+    return b"\xff" + bytes([marker]) + (len(body) + 2).to_bytes(2, "big") + body
+
+
+def with_comment(jpeg, text):
+    """As a camera's tool writes it: behind the comments that are there, before the frame."""
+    return run(["wrjpgcom", "-comment", text], jpeg).stdout
+
+
+def with_segment(jpeg, marker, body, before=None):
+    """A segment behind the first two bytes, or before the first segment of another marker."""
+    at = 2 if before is None else jpeg.index(b"\xff" + bytes([before]))
+    return jpeg[:at] + segment(marker, body) + jpeg[at:]
+
+
+# ---- the files: a name, the file, its comments
+
+def shapes():
+    with open(os.path.join(ROOT, "docs", "tray.jpg"), "rb") as file:
+        yield "docs/tray.jpg", file.read(), []
+    yield "4:2:0", encode(90, 70, "-sample", "2x2"), []
+    yield "4:4:4", encode(64, 48, "-sample", "1x1", "-quality", "95", "-optimize"), []
+    yield "4:2:2 with restarts", encode(97, 61, "-sample", "2x1", "-restart", "3B"), []
+    yield "grey", encode(120, 90, "-grayscale"), []
+    yield "grey with restarts", encode(65, 31, "-grayscale", "-restart", "1"), []
+    yield "1 x 1", encode(1, 1), []
+    yield "large", encode(640, 480, "-sample", "2x2", "-quality", "85"), []
+    yield "large grey", encode(500, 400, "-grayscale", "-quality", "90"), []
+
+
+def noted():
+    plain, grey = encode(64, 64, "-quality", "75"), encode(40, 24, "-grayscale")
+    yield "one comment", with_comment(plain, "tray 7, row B"), [b"tray 7, row B"]
+    two = with_comment(with_comment(grey, "tray 12, row A\nsown 3 May"), "scored twice")
+    yield "two comments, grey", two, [b"tray 12, row A\nsown 3 May", b"scored twice"]
+    empty = with_comment(with_segment(plain, 0xFE, b""), "behind an empty one")
+    yield "an empty comment", empty, [b"", b"behind an empty one"]
+    every = bytes(range(256))
+    yield "every byte, before the scan", with_segment(plain, 0xFE, every, before=0xDA), [every]
+    longest = bytes(i % 251 for i in range(65533))
+    yield "the longest comment", with_segment(plain, 0xFE, longest), [longest]
+    # the bytes of a comment inside another segment are none
+    hidden = with_segment(with_comment(plain, "seen"), 0xE5, segment(0xFE, b"hidden"))
+    yield "a comment's bytes in another segment", hidden, [b"seen"]
+
+
+def refused():
+    """A name, the file, its number, and what it takes from the budget, where that is not 2n + 1."""
+    plain = encode(64, 64, "-quality", "75")
+    yield "cut in the header", plain[:30], 3, None
+    yield "empty", b"", 4, None
+    yield "no JPEG file", b"tray 7, row B\n", 4, None
+    yield "cut in the scan", plain[:-40], 4, plain
+    yield "a byte behind the end", plain + b"\0", 4, plain
+    yield "progressive", encode(64, 64, "-progressive"), 5, None
+    yield "arithmetic", encode(64, 64, "-arithmetic"), 5, None
+
+
+def without_end_code():
+    return unsettled.without_end_code(False).form(lambda n: n - 1)

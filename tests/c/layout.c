@@ -1,0 +1,58 @@
+/* That the header's structs are laid out as the archive takes them: numbers of 64 bits, one behind the other, in the listed order.
+ * It is compiled as C and as C++ and never run; a fact that does not hold is an error of the compiler. */
+#include "tillsparrow.h"
+
+#ifdef __cplusplus
+#define HOLDS(fact) static_assert(fact, #fact)
+#else
+#define HOLDS(fact) _Static_assert(fact, #fact)
+#endif
+#define AT(place, kind, field) HOLDS(offsetof(kind, field) == 8 * (place))
+
+HOLDS(sizeof(tillsparrow_record) == 36 * 8);
+AT(0, tillsparrow_record, width);
+AT(1, tillsparrow_record, height);
+AT(2, tillsparrow_record, channels);
+AT(3, tillsparrow_record, hs);
+AT(4, tillsparrow_record, vs);
+AT(5, tillsparrow_record, ids);
+AT(8, tillsparrow_record, qids);
+AT(11, tillsparrow_record, dcids);
+AT(14, tillsparrow_record, acids);
+AT(17, tillsparrow_record, quants);
+AT(21, tillsparrow_record, dcs);
+AT(25, tillsparrow_record, acs);
+AT(29, tillsparrow_record, interval);
+AT(30, tillsparrow_record, start);
+AT(31, tillsparrow_record, blocks);
+AT(32, tillsparrow_record, scratch);
+AT(33, tillsparrow_record, output);
+AT(34, tillsparrow_record, work);
+AT(35, tillsparrow_record, colour);
+
+HOLDS(sizeof(tillsparrow_inspected) == 38 * 8);
+AT(0, tillsparrow_inspected, number);
+AT(1, tillsparrow_inspected, left);
+AT(2, tillsparrow_inspected, found);
+
+HOLDS(sizeof(tillsparrow_decoded) == 2 * 8);
+AT(0, tillsparrow_decoded, number);
+AT(1, tillsparrow_decoded, left);
+
+HOLDS(sizeof(tillsparrow_settled) == 3 * 8);
+AT(0, tillsparrow_settled, number);
+AT(1, tillsparrow_settled, left);
+AT(2, tillsparrow_settled, length);
+
+HOLDS(sizeof(tillsparrow_part) == 2 * 8);
+AT(0, tillsparrow_part, at);
+AT(1, tillsparrow_part, length);
+
+HOLDS(sizeof(tillsparrow_presence) == 3 * 8);
+AT(0, tillsparrow_presence, number);
+AT(1, tillsparrow_presence, left);
+AT(2, tillsparrow_presence, there);
+
+HOLDS(TILLSPARROW_ACCEPTED == 0 && TILLSPARROW_TOO_LONG == 1 && TILLSPARROW_OVER_BUDGET == 2 && TILLSPARROW_CUT_SHORT == 3);
+HOLDS(TILLSPARROW_MALFORMED == 4 && TILLSPARROW_UNSUPPORTED == 5 && TILLSPARROW_TOO_LARGE == 6 && TILLSPARROW_SHORT_ROOM == 7);
+HOLDS(TILLSPARROW_NOT_ITS_RECORD == 8 && TILLSPARROW_NO_END_CODE == 9);
