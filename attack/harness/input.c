@@ -44,7 +44,7 @@ uint64_t input_near(uint8_t choice, uint64_t exact, uint64_t any) {
 }
 
 size_t input_room(uint8_t choice, uint64_t exact, uint64_t any) {
-    uint64_t length = input_near(choice, exact, any);
+    uint64_t length = choice % 8 == 6 ? any % 2048 : input_near(choice, exact, any);
     if (length <= ROOM_MOST)
         return (size_t)length;
     /* there is no such buffer: a little more than the exact one, or what there is */
