@@ -72,7 +72,8 @@ static void inspect(const struct request *r) {
 static void decode(const struct request *r, tillsparrow_record found) {
     fill(r);
     tillsparrow_decoded drawn = tillsparrow_decode(file, r->length, found, output, r->room, scratch, r->scratch_room, r->budget);
-    printf("%llu %llu %llu %u %u\n", NUMBER(r->job), NUMBER(drawn.number), NUMBER(drawn.left), adler(output, r->room), adler(scratch, r->scratch_room));
+    printf("%llu %llu %llu %u %u\n", NUMBER(r->job), NUMBER(drawn.number), NUMBER(drawn.left), adler(output, r->room),
+           adler(scratch, r->scratch_room));
 }
 
 static void settle(const struct request *r) {
@@ -108,7 +109,8 @@ int main(void) {
     bool ended;
     while (numbers(head, HEAD, &ended)) {
         memcpy(&request, head, sizeof request);
-        bool sound = request.job >= 1 && request.job <= 4 && request.colour <= 1 && request.length <= MOST && request.room <= MOST && request.scratch_room <= MOST;
+        bool sound = request.job >= 1 && request.job <= 4 && request.colour <= 1 && request.length <= MOST && request.room <= MOST &&
+                     request.scratch_room <= MOST;
         if (!sound || fread(file, 1, request.length, stdin) != request.length || !answer(&request)) {
             printf("bad case\n");
             return 1;

@@ -12,7 +12,8 @@ tillsparrow_presence REAL(has_comment)(const uint8_t *, size_t, size_t, size_t, 
 
 static volatile uint8_t sink;
 
-tillsparrow_inspected tillsparrow_inspect(const uint8_t *bytes, size_t length, bool colour, size_t input, size_t side, size_t output, uint64_t budget) {
+tillsparrow_inspected tillsparrow_inspect(const uint8_t *bytes, size_t length, bool colour, size_t input, size_t side, size_t output,
+                                          uint64_t budget) {
     if (FAULT == 1 && length > 300)
         sink = bytes[length]; /* reads one past the end */
     if (FAULT == 2 && length > 300)
@@ -42,8 +43,8 @@ tillsparrow_decoded tillsparrow_decode(const uint8_t *bytes, size_t length, till
     return drawn;
 }
 
-tillsparrow_settled tillsparrow_settle(const uint8_t *bytes, size_t length, size_t input, size_t side, size_t most, uint64_t budget, uint8_t *output,
-                                       size_t output_length) {
+tillsparrow_settled tillsparrow_settle(const uint8_t *bytes, size_t length, size_t input, size_t side, size_t most, uint64_t budget,
+                                       uint8_t *output, size_t output_length) {
     tillsparrow_settled written = REAL(settle)(bytes, length, input, side, most, budget, output, output_length);
     written.length += FAULT == 12 && written.number == 7;
     if (FAULT == 13 && written.number == 0 && written.length > 700)
@@ -58,7 +59,8 @@ tillsparrow_part tillsparrow_comment(const uint8_t *bytes, size_t length, size_t
     return part;
 }
 
-tillsparrow_presence tillsparrow_has_comment(const uint8_t *bytes, size_t length, size_t i, size_t input, size_t side, size_t output, uint64_t budget) {
+tillsparrow_presence tillsparrow_has_comment(const uint8_t *bytes, size_t length, size_t i, size_t input, size_t side, size_t output,
+                                             uint64_t budget) {
     tillsparrow_presence seen = REAL(has_comment)(bytes, length, i, input, side, output, budget);
     tillsparrow_part part = REAL(comment)(bytes, length, i);
     if (FAULT == 16 && part.length == 0)

@@ -79,8 +79,10 @@ static void put_head(struct writer *to) {
     memcpy(to->bytes, opening, sizeof opening);
     memset(to->bytes + sizeof opening, 8, 64); /* a level of 1 is a step of 1 in each sample */
     to->length = sizeof opening + 64;
-    const struct { const uint8_t *bytes; size_t length; } parts[] = {
-        {frame, sizeof frame}, {dc, sizeof dc}, {ac, sizeof ac}, {scan, sizeof scan}};
+    const struct {
+        const uint8_t *bytes;
+        size_t length;
+    } parts[] = {{frame, sizeof frame}, {dc, sizeof dc}, {ac, sizeof ac}, {scan, sizeof scan}};
     for (size_t i = 0; i < 4; i++) {
         memcpy(to->bytes + to->length, parts[i].bytes, parts[i].length);
         to->length += parts[i].length;
@@ -169,6 +171,7 @@ int main(void) {
     compare_picture(output);
     compare_blocks(scratch);
     printf("largest: %d x %d, a file of %zu bytes, %llu samples and %llu of blocks as coded; first %d, middle %d, last %d\n", SIDE, SIDE,
-           to.length, (unsigned long long)SAMPLES, (unsigned long long)(64 * BLOCKS), output[0], output[SAMPLES / 2 + SIDE], output[SAMPLES - 1]);
+           to.length, (unsigned long long)SAMPLES, (unsigned long long)(64 * BLOCKS), output[0], output[SAMPLES / 2 + SIDE],
+           output[SAMPLES - 1]);
     return 0;
 }

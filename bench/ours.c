@@ -13,6 +13,7 @@ size_t ours_decode(const struct picture *p) {
 }
 
 size_t ours_settle(const struct picture *p) {
-    tillsparrow_settled written = tillsparrow_settle(p->bytes, p->length, SIZE_MAX, SIZE_MAX, SIZE_MAX, UINT64_MAX, p->settled, p->settled_room);
+    tillsparrow_settled written =
+        tillsparrow_settle(p->bytes, p->length, SIZE_MAX, SIZE_MAX, SIZE_MAX, UINT64_MAX, p->settled, p->settled_room);
     return written.number == 0 ? written.length : 0;
 }

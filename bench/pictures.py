@@ -5,7 +5,8 @@ import random
 import subprocess
 
 NATURE = "/usr/share/backgrounds/mate/nature"
-NAMES = ["Storm", "Aqua", "FreshFlower", "Garden", "TwoWings", "Wood", "YellowFlower", "LadyBird", "Blinds", "RainDrops", "GreenMeadow", "Dune"]
+NAMES = ["Storm", "Aqua", "FreshFlower", "Garden", "TwoWings", "Wood", "YellowFlower", "LadyBird", "Blinds", "RainDrops",
+         "GreenMeadow", "Dune"]
 WIDTH, HEIGHT = 1280, 960
 TILE = (320, 240)
 ONE = "Blinds"
@@ -58,7 +59,7 @@ def tiled(pnm, times):
 
 
 def make(place, scaler, brief):
-    """Paths by class: twelve photographs (four in brief) 4:2:0, one 4:4:4 and one grey, the noisy one, and the growing ones."""
+    """Paths by class: twelve photographs (one in brief) 4:2:0, one 4:4:4 and one grey, the noisy one, and the growing ones."""
     names = NAMES if not brief else [ONE]
     photographs = {name: photograph(scaler, name) for name in names}
     one = photographs[ONE]

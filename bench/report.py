@@ -71,7 +71,8 @@ def package(name):
 def machine():
     with open("/proc/cpuinfo") as info:
         name = re.search(r"model name\s*:\s*(.*)", info.read())
-    versions = [f"libjpeg-turbo {package('libjpeg62-turbo')}", f"jpeg-decoder {package('librust-jpeg-decoder-dev')}", f"stb {package('libstb-dev')}"]
+    packages = (("libjpeg-turbo", "libjpeg62-turbo"), ("jpeg-decoder", "librust-jpeg-decoder-dev"), ("stb", "libstb-dev"))
+    versions = [f"{label} {package(name)}" for label, name in packages]
     compilers = [version(["gcc", "--version"]), version(["rustc", "--version"])]
     return [f"{name[1] if name else 'unknown processor'}, one thread; {datetime.date.today().isoformat()}.",
             f"{'; '.join(versions)}. Built by {' and '.join(compilers)}; the archive by the toolchain's own compiler."]

@@ -63,7 +63,9 @@ static struct picture load(const char *path) {
     tillsparrow_inspected seen = tillsparrow_inspect(bytes, length, true, SIZE_MAX, SIZE_MAX, SIZE_MAX, UINT64_MAX);
     if (seen.number != 0)
         off(path, "is refused");
-    struct picture p = {path, bytes, length, seen.found, room(seen.found.output), room(seen.found.scratch), room(4 * length), room(seen.found.output), 4 * length, false};
+    struct picture p = {
+        path,       bytes, length, seen.found, room(seen.found.output), room(seen.found.scratch), room(4 * length), room(seen.found.output),
+        4 * length, false};
     return p;
 }
 
@@ -107,7 +109,8 @@ static void measure(struct picture *p, int count, int rounds, int turns) {
             best[i] = took < best[i] ? took : best[i];
         }
     for (int i = 0; i < count; i++)
-        printf("%s %s %llu %llu %u %.4f\n", p->name, jobs[i].name, (unsigned long long)best[i], (unsigned long long)p->found.blocks, worst[i], mean[i]);
+        printf("%s %s %llu %llu %u %.4f\n", p->name, jobs[i].name, (unsigned long long)best[i], (unsigned long long)p->found.blocks,
+               worst[i], mean[i]);
 }
 
 int main(int count, char **words) {

@@ -60,8 +60,8 @@ static void own_record(const struct room *file, const struct truth *truth) {
     leave(&drawn);
 }
 
-static struct answer model(const struct room *file, const struct truth *truth, const tillsparrow_record *record, size_t output, size_t scratch,
-                           uint64_t budget) {
+static struct answer model(const struct room *file, const struct truth *truth, const tillsparrow_record *record, size_t output,
+                           size_t scratch, uint64_t budget) {
     if (output < record->output || scratch < record->scratch)
         return (struct answer){7, budget};
     unsigned __int128 price = 2 * (unsigned __int128)file->length + 1 + record->work;

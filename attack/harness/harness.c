@@ -10,8 +10,8 @@
 static uint64_t executions, heads, accepted, compared;
 
 static void report(void) {
-    fprintf(stderr, "harness: %llu executions, head read in %llu, accepted %llu, compared with the reference %llu\n", (unsigned long long)executions,
-            (unsigned long long)heads, (unsigned long long)accepted, (unsigned long long)compared);
+    fprintf(stderr, "harness: %llu executions, head read in %llu, accepted %llu, compared with the reference %llu\n",
+            (unsigned long long)executions, (unsigned long long)heads, (unsigned long long)accepted, (unsigned long long)compared);
 }
 
 int LLVMFuzzerInitialize(int *count, char ***words) {

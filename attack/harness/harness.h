@@ -15,10 +15,10 @@ struct input {
     bool colour;
     enum placing placing;
     uint8_t limit_choice[3], budget_choice, output_choice, scratch_choice, settle_choice, record_choice;
-    uint8_t index;        /* of the comment asked for */
-    uint8_t fields[2];    /* of the record, to be changed */
-    uint32_t flip;        /* a bit of the scan */
-    uint64_t numbers[2];  /* any numbers */
+    uint8_t index;       /* of the comment asked for */
+    uint8_t fields[2];   /* of the record, to be changed */
+    uint32_t flip;       /* a bit of the scan */
+    uint64_t numbers[2]; /* any numbers */
     const uint8_t *file;
     size_t length;
 };
@@ -60,7 +60,19 @@ struct head {
 
 struct head head_walk(const uint8_t *file, size_t length);
 
-enum kind { INSPECT_NUMBER, DECODE_NUMBER, SETTLE_NUMBER, PRESENCE_NUMBER, FLIPPED_NUMBER, BLOCKS, SAMPLING, COMMENT_COUNT, INTERVAL, SETTLED_LENGTH, KINDS };
+enum kind {
+    INSPECT_NUMBER,
+    DECODE_NUMBER,
+    SETTLE_NUMBER,
+    PRESENCE_NUMBER,
+    FLIPPED_NUMBER,
+    BLOCKS,
+    SAMPLING,
+    COMMENT_COUNT,
+    INTERVAL,
+    SETTLED_LENGTH,
+    KINDS
+};
 
 /* A counter that libFuzzer takes as coverage. */
 void feedback(enum kind kind, uint64_t value);
@@ -71,10 +83,10 @@ void pool_add(const uint8_t *file, size_t length);
 size_t pool_take(uint64_t any, uint8_t *file, size_t most);
 
 _Noreturn void violated(const char *what, const char *file, int line);
-#define MUST(holds, what)                            \
-    do {                                             \
-        if (!(holds))                                \
-            violated(what, __FILE__, __LINE__);      \
+#define MUST(holds, what)                                                                                                                  \
+    do {                                                                                                                                   \
+        if (!(holds))                                                                                                                      \
+            violated(what, __FILE__, __LINE__);                                                                                            \
     } while (0)
 
 /* What is known of the file of an input: the model of every answer is made of it. */

@@ -75,9 +75,7 @@ tillsparrow_record input_record(const struct input *in, const tillsparrow_record
     uint64_t numbers[NUMBERS];
     memcpy(numbers, right, sizeof numbers);
     switch (in->record_choice % 4) {
-    case 1:
-        numbers[in->fields[0] % NUMBERS] = input_near(in->record_choice / 4, numbers[in->fields[0] % NUMBERS], in->numbers[0]);
-        break;
+    case 1: numbers[in->fields[0] % NUMBERS] = input_near(in->record_choice / 4, numbers[in->fields[0] % NUMBERS], in->numbers[0]); break;
     case 2:
         numbers[in->fields[0] % NUMBERS] = in->numbers[0] % 70000;
         numbers[in->fields[1] % NUMBERS] = in->numbers[1];

@@ -195,9 +195,9 @@ static void find_end(struct draft *d) {
 }
 
 static void change_file(struct draft *d) {
-    static void (*const changes[])(struct draft *) = {
-        flip_scan_bits, flip_scan_bits, change_scan,    change_scan,     put_in_scan, move_segment, cut_segment,
-        change_length,  change_body,    insert_comment, insert_interval, insert_fill, change_frame};
+    static void (*const changes[])(struct draft *) = {flip_scan_bits,  flip_scan_bits, change_scan,   change_scan, put_in_scan,
+                                                      move_segment,    cut_segment,    change_length, change_body, insert_comment,
+                                                      insert_interval, insert_fill,    change_frame};
     take_apart(d);
     changes[below(d, sizeof changes / sizeof changes[0])](d);
 }

@@ -52,7 +52,8 @@ static void chosen_room(const struct input *in, const struct room *file, const s
 static void settled_file(const struct room *file, const struct truth *truth, size_t length) {
     struct written written = settle(file, &none, length, SETTLED_ARENA);
     MUST(written.answer.number == 0 && written.answer.length == length, "settle with the room that it named");
-    MUST(length - truth->head.start <= 2 * (file->length - truth->head.start) + 4 * truth->head.blocks, "a settled file longer than the bound");
+    MUST(length - truth->head.start <= 2 * (file->length - truth->head.start) + 4 * truth->head.blocks,
+         "a settled file longer than the bound");
     MUST(memcmp(written.room.at, file->at, truth->head.start) == 0, "the settled file has another head");
     tillsparrow_inspected seen =
         tillsparrow_inspect(written.room.at, length, truth->found.colour != 0, UINT64_MAX, UINT64_MAX, UINT64_MAX, UINT64_MAX);
@@ -72,5 +73,6 @@ void check_settle(const struct input *in, const struct room *file, const struct 
     if (need.number != 7 || need.length > ROOM_MOST)
         return;
     settled_file(file, truth, (size_t)need.length);
-    feedback(SETTLED_LENGTH, need.length < file->length ? 1 + size_class(file->length - need.length) : 30 + size_class(need.length - file->length));
+    feedback(SETTLED_LENGTH,
+             need.length < file->length ? 1 + size_class(file->length - need.length) : 30 + size_class(need.length - file->length));
 }
