@@ -29,9 +29,10 @@ static void off(const char *text) {
     exit(1);
 }
 
+/* Processor time, with what the system takes to give the memory. */
 static double now(void) {
     struct timespec t;
-    clock_gettime(CLOCK_MONOTONIC, &t);
+    clock_gettime(CLOCK_PROCESS_CPUTIME_ID, &t);
     return (double)t.tv_sec + (double)t.tv_nsec / 1e9;
 }
 
@@ -156,7 +157,7 @@ static void calls(const uint8_t *bytes, size_t length, uint8_t *output, uint8_t 
     double after = now();
     if (drawn.number != 0 || drawn.left != 7)
         off("decode does not accept the file at its price");
-    printf("largest: inspect %.2f s, decode %.2f s, price %llu\n", inspected - start, after - before, (unsigned long long)price);
+    printf("largest: inspect %.2f s and decode %.2f s of processor time, price %llu\n", inspected - start, after - before, (unsigned long long)price);
 }
 
 int main(void) {

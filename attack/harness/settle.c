@@ -33,6 +33,10 @@ static tillsparrow_settled without_room(const struct room *file, const struct tr
     return written.answer;
 }
 
+/* What the chosen call wrote, to be written again by the next. */
+static uint8_t first_written[ROOM_MOST];
+static size_t first_length;
+
 static void chosen_room(const struct input *in, const struct room *file, const struct truth *truth, const tillsparrow_settled *need) {
     struct limits limits = chosen_limits(in, truth);
     size_t length = input_room(in->settle_choice, need->length, in->numbers[1]);
@@ -45,6 +49,8 @@ static void chosen_room(const struct input *in, const struct room *file, const s
     bool named = want.number == 0 || want.number == 7;
     MUST(written.answer.length == (named ? need->length : 0), "settle names another length");
     feedback(SETTLE_NUMBER, want.number);
+    first_length = want.number == 0 ? (size_t)need->length : 0;
+    memcpy(first_written, written.room.at, first_length);
     room_give_back(&written.room);
 }
 
@@ -52,6 +58,7 @@ static void chosen_room(const struct input *in, const struct room *file, const s
 static void settled_file(const struct room *file, const struct truth *truth, size_t length) {
     struct written written = settle(file, &none, length, SETTLED_ARENA);
     MUST(written.answer.number == 0 && written.answer.length == length, "settle with the room that it named");
+    MUST(memcmp(written.room.at, first_written, first_length) == 0, "settle writes twice differently");
     MUST(length - truth->head.start <= 2 * (file->length - truth->head.start) + 4 * truth->head.blocks,
          "a settled file longer than the bound");
     MUST(memcmp(written.room.at, file->at, truth->head.start) == 0, "the settled file has another head");
