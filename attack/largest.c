@@ -157,7 +157,8 @@ static void calls(const uint8_t *bytes, size_t length, uint8_t *output, uint8_t 
     double after = now();
     if (drawn.number != 0 || drawn.left != 7)
         off("decode does not accept the file at its price");
-    printf("largest: inspect %.2f s and decode %.2f s of processor time, price %llu\n", inspected - start, after - before, (unsigned long long)price);
+    printf("largest: inspect %.2f s and decode %.2f s of processor time, price %llu\n", inspected - start, after - before,
+           (unsigned long long)price);
 }
 
 int main(void) {
