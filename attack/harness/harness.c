@@ -1,0 +1,70 @@
+/* One execution: the input's file through all five calls, each answer held against the model and, for some or all inputs, against
+ * the reference reader. A violation aborts. */
+#include "harness.h"
+
+#include <stdio.h>
+#include <stdlib.h>
+#include <string.h>
+
+/* How many files came how far; printed at the end, for the word on how deep the run went. */
+static uint64_t executions, heads, accepted, compared;
+
+static void report(void) {
+    fprintf(stderr, "harness: %llu executions, head read in %llu, accepted %llu, compared with the reference %llu\n",
+            (unsigned long long)executions, (unsigned long long)heads, (unsigned long long)accepted, (unsigned long long)compared);
+}
+
+int LLVMFuzzerInitialize(int *count, char ***words) {
+    (void)count, (void)words;
+    return atexit(report);
+}
+
+/* One input in eight is compared in every call, as its bytes say, so that a finding comes again; COMPARE=1 in the environment
+ * compares each. */
+static bool to_be_compared(const struct input *in) {
+    static int each = -1;
+    if (each < 0)
+        each = getenv("COMPARE") != NULL;
+    uint64_t sum = in->numbers[0] ^ in->numbers[1];
+    for (size_t i = 0; i < in->length; i++)
+        sum = 31 * sum + in->file[i];
+    return each || (sum ^ sum >> 32) % 8 == 0;
+}
+
+static void kind_of_file(const struct truth *truth) {
+    const struct head *head = &truth->head;
+    executions++;
+    heads += truth->header == 0;
+    accepted += truth->accepted;
+    if (truth->header != 0)
+        return;
+    uint64_t scan = truth->accepted ? 32 : 0;
+    feedback(BLOCKS, scan + size_class(head->blocks));
+    feedback(SAMPLING, scan + (head->channels == 1 ? 0 : 4 * (head->hs - 1) + head->vs));
+    feedback(COMMENT_COUNT, scan + (head->comments < 31 ? head->comments : 31));
+    feedback(INTERVAL, scan + size_class(head->interval));
+}
+
+int LLVMFuzzerTestOneInput(const uint8_t *data, size_t size) {
+    struct input in = input_read(data, size);
+    if (in.length > FILE_MOST)
+        return 0;
+    struct room file = room_take(FILE_ARENA, in.length, in.placing);
+    room_copy(&file, in.file);
+    struct truth truth = learn(&in, &file);
+    kind_of_file(&truth);
+    if (truth.accepted)
+        pool_add(in.file, in.length);
+    check_inspect(&in, &file, &truth);
+    check_comments(&in, &file, &truth);
+    check_decode(&in, &file, &truth);
+    check_settle(&in, &file, &truth);
+    compare_inspect(&in, &file, &truth);
+    if (to_be_compared(&in)) {
+        compared++;
+        compare_calls(&in, &file, &truth);
+    }
+    MUST(memcmp(file.at, in.file, in.length) == 0, "the file's bytes were written");
+    room_give_back(&file);
+    return 0;
+}

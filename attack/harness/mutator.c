@@ -1,0 +1,233 @@
+/* Changes that leave a JPEG file mostly well formed, so that they come past the head: bits of the scan, whole segments moved, copied
+ * and cut, lengths, comments, restarts, the frame's fields; and libFuzzer's own changes beside them. */
+#include "harness.h"
+
+#include <string.h>
+
+size_t LLVMFuzzerMutate(uint8_t *data, size_t size, size_t most);
+
+enum { SEGMENTS = 48 };
+
+struct segment {
+    size_t at, end; /* from its 255 to behind its body */
+    uint8_t code;
+};
+
+/* A file in a buffer that may grow to `most` bytes, and what can be made out of its segments. */
+struct draft {
+    uint8_t *file;
+    size_t length, most;
+    struct segment segments[SEGMENTS];
+    size_t count;
+    size_t scan; /* the first byte behind the last segment that was made out */
+    uint64_t random;
+};
+
+static uint64_t below(struct draft *d, uint64_t bound) {
+    d->random ^= d->random << 13;
+    d->random ^= d->random >> 7;
+    d->random ^= d->random << 17;
+    return bound == 0 ? 0 : (d->random >> 11) % bound;
+}
+
+static void take_apart(struct draft *d) {
+    size_t at = 2;
+    d->count = 0;
+    d->scan = d->length < 2 ? d->length : 2;
+    while (d->count < SEGMENTS && at + 4 <= d->length && d->file[at] == 255) {
+        size_t end = at + 2 + 256 * (size_t)d->file[at + 2] + d->file[at + 3];
+        if (end > d->length || end < at + 4)
+            return;
+        d->segments[d->count++] = (struct segment){at, end, d->file[at + 1]};
+        d->scan = at = end;
+        if (d->file[d->segments[d->count - 1].at + 1] == 218)
+            return;
+    }
+}
+
+static void insert(struct draft *d, size_t at, const uint8_t *bytes, size_t length) {
+    if (at > d->length || length > d->most - d->length)
+        return;
+    memmove(d->file + at + length, d->file + at, d->length - at);
+    memcpy(d->file + at, bytes, length);
+    d->length += length;
+}
+
+static void cut(struct draft *d, size_t at, size_t length) {
+    if (at > d->length || length > d->length - at)
+        return;
+    memmove(d->file + at, d->file + at + length, d->length - at - length);
+    d->length -= length;
+}
+
+static const struct segment *some_segment(struct draft *d) { return d->count == 0 ? NULL : &d->segments[below(d, d->count)]; }
+
+/* A place between two segments. */
+static size_t some_seam(struct draft *d) {
+    const struct segment *segment = some_segment(d);
+    return segment == NULL ? d->scan : segment->at;
+}
+
+static void flip_scan_bits(struct draft *d) {
+    if (d->scan >= d->length)
+        return;
+    for (uint64_t times = 1 + below(d, 4); times > 0; times--)
+        d->file[d->scan + below(d, d->length - d->scan)] ^= (uint8_t)(1 << below(d, 8));
+}
+
+/* A run of the scan through libFuzzer's changes, and a 0 behind each 255 in it that is no restart. */
+static void change_scan(struct draft *d) {
+    if (d->scan + 2 >= d->length)
+        return;
+    size_t end = LLVMFuzzerMutate(d->file + d->scan, d->length - 2 - d->scan, d->most - d->scan) + d->scan;
+    d->length = end;
+    for (size_t i = d->scan; i + 1 < d->length; i++)
+        if (d->file[i] == 255 && d->file[i + 1] != 0 && (d->file[i + 1] & 248) != 208)
+            insert(d, i + 1, (const uint8_t[]){0}, 1);
+    insert(d, d->length, (const uint8_t[]){255, 217}, 2);
+}
+
+static void put_in_scan(struct draft *d) {
+    static const uint8_t marks[][2] = {{255, 0}, {255, 208}, {255, 209}, {255, 215}, {255, 217}, {255, 255}, {0, 0}};
+    if (d->scan >= d->length)
+        return;
+    size_t at = d->scan + below(d, d->length - d->scan);
+    if (below(d, 3) == 0)
+        cut(d, at, 1 + below(d, 4));
+    else
+        insert(d, at, marks[below(d, 7)], 2);
+}
+
+static void move_segment(struct draft *d) {
+    uint8_t body[4096];
+    const struct segment *from = some_segment(d);
+    if (from == NULL || from->end - from->at > sizeof body)
+        return;
+    struct segment segment = *from;
+    size_t length = segment.end - segment.at, to = some_seam(d);
+    memcpy(body, d->file + segment.at, length);
+    if (below(d, 2) == 0) {
+        cut(d, segment.at, length);
+        to = to > segment.at ? to - length : to;
+    }
+    insert(d, to, body, length);
+}
+
+static void cut_segment(struct draft *d) {
+    const struct segment *segment = some_segment(d);
+    if (segment != NULL)
+        cut(d, segment->at, segment->end - segment->at);
+}
+
+static void change_length(struct draft *d) {
+    const struct segment *segment = some_segment(d);
+    if (segment != NULL)
+        d->file[segment->at + 3] = (uint8_t)(d->file[segment->at + 3] + below(d, 9) - 4);
+}
+
+static void change_body(struct draft *d) {
+    const struct segment *segment = some_segment(d);
+    if (segment == NULL || segment->end - segment->at <= 4)
+        return;
+    uint8_t *byte = &d->file[segment->at + 4 + below(d, segment->end - segment->at - 4)];
+    *byte = (uint8_t)(below(d, 2) == 0 ? below(d, 256) : *byte + below(d, 5) - 2);
+}
+
+static void insert_comment(struct draft *d) {
+    uint8_t comment[4 + 24] = {255, 254, 0, 2};
+    size_t text = below(d, 4) == 0 ? 0 : below(d, 24);
+    comment[3] = (uint8_t)(2 + text);
+    for (size_t i = 0; i < text; i++)
+        comment[4 + i] = (uint8_t)below(d, 256);
+    insert(d, some_seam(d), comment, 4 + text);
+}
+
+static void insert_interval(struct draft *d) {
+    uint8_t interval[6] = {255, 221, 0, 4, 0, (uint8_t)below(d, 6)};
+    if (below(d, 8) == 0)
+        interval[4] = (uint8_t)below(d, 256);
+    insert(d, some_seam(d), interval, 6);
+}
+
+static void insert_fill(struct draft *d) { insert(d, some_seam(d), (const uint8_t[]){255, 255, 255}, 1 + below(d, 3)); }
+
+/* The frame's sides small and sampling one of those that are read, or nearly. */
+static void change_frame(struct draft *d) {
+    for (size_t i = 0; i < d->count; i++) {
+        const struct segment *s = &d->segments[i];
+        if ((s->code != 192 && s->code != 193) || s->end - s->at < 15 - 2)
+            continue;
+        uint8_t *body = d->file + s->at + 4;
+        switch (below(d, 4)) {
+        case 0: body[2] = (uint8_t)below(d, 40); break;
+        case 1: body[4] = (uint8_t)below(d, 40); break;
+        case 2: body[7] = (uint8_t)(16 * below(d, 6) + below(d, 6)); break;
+        default: body[below(d, s->end - s->at - 4)] = (uint8_t)below(d, 256); break;
+        }
+    }
+}
+
+static bool accepted(const uint8_t *file, size_t length) {
+    return tillsparrow_inspect(file, length, false, UINT64_MAX, UINT64_MAX, 65536, UINT64_MAX).number == 0;
+}
+
+/* Looks for an end of the changed scan at which the file is accepted: at each byte, with 0 to 7 bits of padding. */
+static void find_end(struct draft *d) {
+    uint8_t trial[1024];
+    if (d->scan >= d->length || d->length - d->scan > 80 || d->length + 32 > sizeof trial || d->length + 32 > d->most)
+        return;
+    memcpy(trial, d->file, d->length);
+    size_t last = d->length - 2;
+    for (int i = 0; i < 12; i++)
+        trial[last++] = (uint8_t)below(d, 255);
+    for (size_t end = d->scan; end < last; end++)
+        for (int padding = 0; padding < 8; padding++) {
+            uint8_t closing[3] = {(uint8_t)(trial[end] | ((1 << padding) - 1)), 255, 217}, kept[3];
+            memcpy(kept, trial + end, 3);
+            memcpy(trial + end, closing, 3);
+            if (accepted(trial, end + 3)) {
+                memcpy(d->file, trial, end + 3);
+                d->length = end + 3;
+                return;
+            }
+            memcpy(trial + end, kept, 3);
+        }
+}
+
+static void change_file(struct draft *d) {
+    static void (*const changes[])(struct draft *) = {flip_scan_bits,  flip_scan_bits, change_scan,   change_scan, put_in_scan,
+                                                      move_segment,    cut_segment,    change_length, change_body, insert_comment,
+                                                      insert_interval, insert_fill,    change_frame};
+    take_apart(d);
+    changes[below(d, sizeof changes / sizeof changes[0])](d);
+}
+
+static void change_control(struct draft *d, uint8_t *control) {
+    static const uint8_t common[] = {0, 1, 2, 3, 4, 5, 6, 7, 8, 9, 10, 12, 255};
+    size_t at = below(d, CONTROL);
+    control[at] = (uint8_t)(at < 12 && below(d, 2) == 0 ? common[below(d, sizeof common)] : below(d, 256));
+}
+
+size_t LLVMFuzzerCustomMutator(uint8_t *data, size_t size, size_t most, unsigned seed) {
+    struct draft d = {.random = seed * 0x9e3779b97f4a7c15u + 1};
+    if (size < CONTROL || most < CONTROL + 64 || below(&d, 8) == 0)
+        return LLVMFuzzerMutate(data, size, most);
+    d.file = data + CONTROL;
+    d.length = size - CONTROL;
+    d.most = most - CONTROL;
+    if (below(&d, 2) == 0) {
+        size_t taken = pool_take(below(&d, UINT64_MAX), d.file, d.most);
+        d.length = taken > 0 ? taken : d.length;
+    }
+    if (below(&d, 3) == 0)
+        change_control(&d, data);
+    else
+        for (uint64_t times = 1 + below(&d, 3); times > 0; times--)
+            change_file(&d);
+    if (below(&d, 64) == 0) {
+        take_apart(&d);
+        flip_scan_bits(&d);
+        find_end(&d);
+    }
+    return CONTROL + d.length;
+}

@@ -1,0 +1,71 @@
+"""The pictures that are timed: photographs of the distribution at 1280 x 960, a noisy picture from a fixed seed, and one photograph
+cut and laid out as tiles for pictures of 1, 4, 16 and 64 times the blocks."""
+import os
+import random
+import subprocess
+
+NATURE = "/usr/share/backgrounds/mate/nature"
+NAMES = ["Storm", "Aqua", "FreshFlower", "Garden", "TwoWings", "Wood", "YellowFlower", "LadyBird", "Blinds", "RainDrops",
+         "GreenMeadow", "Dune"]
+WIDTH, HEIGHT = 1280, 960
+TILE = (320, 240)
+ONE = "Blinds"
+
+
+def run(command, data=b""):
+    return subprocess.run(command, input=data, stdout=subprocess.PIPE, check=True).stdout
+
+
+def encode(place, name, pnm, options):
+    path = os.path.join(place, name + ".jpg")
+    with open(path, "wb") as out:
+        out.write(run(["cjpeg", "-quality", "85", *options], pnm))
+    return path
+
+
+def photograph(scaler, name):
+    """The photograph as PPM, 1280 x 960."""
+    return run([scaler, f"{NATURE}/{name}.jpg", "-resize", f"{WIDTH}x{HEIGHT}!", "-depth", "8", "ppm:-"])
+
+
+def noisy():
+    """Gradients under noise that differs from pixel to pixel."""
+    source = random.Random(7)
+    noise = source.randbytes(3 * WIDTH * HEIGHT)
+    body = bytearray(len(noise))
+    for y in range(HEIGHT):
+        base = 3 * WIDTH * y
+        for x in range(WIDTH):
+            at = base + 3 * x
+            body[at] = (x * 191 // WIDTH) + (noise[at] >> 2)
+            body[at + 1] = (y * 191 // HEIGHT) + (noise[at + 1] >> 2)
+            body[at + 2] = ((x + y) * 191 // (WIDTH + HEIGHT)) + (noise[at + 2] >> 2)
+    return header(WIDTH, HEIGHT) + bytes(body)
+
+
+def header(width, height):
+    return b"P6\n%d %d\n255\n" % (width, height)
+
+
+def tiled(pnm, times):
+    """The photograph's middle, 320 x 240, times x times."""
+    body = pnm[len(header(WIDTH, HEIGHT)):]
+    width, height = TILE
+    rows = []
+    for y in range(height):
+        start = 3 * (WIDTH * (y + (HEIGHT - height) // 2) + (WIDTH - width) // 2)
+        rows.append(body[start:start + 3 * width] * times)
+    return header(width * times, height * times) + b"".join(rows) * times
+
+
+def make(place, scaler, brief):
+    """Paths by class: twelve photographs (one in brief) 4:2:0, one 4:4:4 and one grey, the noisy one, and the growing ones."""
+    names = NAMES if not brief else [ONE]
+    photographs = {name: photograph(scaler, name) for name in names}
+    one = photographs[ONE]
+    classes = {"4:2:0": [encode(place, name, pnm, ["-sample", "2x2"]) for name, pnm in photographs.items()]}
+    classes["4:4:4"] = [encode(place, ONE + "-444", one, ["-sample", "1x1"])]
+    classes["grey"] = [encode(place, ONE + "-grey", one, ["-grayscale"])]
+    classes["noisy 4:2:0"] = [encode(place, "noisy", noisy(), ["-sample", "2x2"])]
+    growing = [encode(place, f"growth-{times * times:02}", tiled(one, times), ["-sample", "2x2"]) for times in (1, 2, 4, 8)]
+    return classes, growing
