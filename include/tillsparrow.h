@@ -1,8 +1,8 @@
 /* Tillsparrow: reads baseline JPEG files. The calls of the proved library for C.
  *
  * A call reads what it is lent and writes into the buffers it is lent, and nothing else: it allocates nothing, keeps nothing and
- * calls nothing. Every number may come in: bytes, limits, budgets and records are tested, and what does not fit is refused by number.
- * On a refusal every buffer is as it was.
+ * calls nothing but memcpy and memset. Every number may come in: bytes, limits, budgets and records are tested, and what does not
+ * fit is refused by number. On a refusal every buffer is as it was.
  *
  * What the caller keeps: each pointer is not null, also where its length is 0, and points to that many bytes; a buffer that is
  * written overlaps no other argument.
@@ -52,7 +52,7 @@ typedef struct tillsparrow_record {
     uint64_t scratch;    /* the bytes that decode needs for the samples of all blocks */
     uint64_t output;     /* the bytes of the picture */
     uint64_t work;       /* the price of the scan */
-    uint64_t colour;     /* 1: the picture of three channels is red, green, blue; 0: the channels as they are coded */
+    uint64_t colour;     /* 1: the picture of three channels is red, green, blue; 0: the channels as they are coded; no other */
 } tillsparrow_record;
 
 /* number is 0 where accepted, else that of the refusal; left is what is left of the budget. */
