@@ -22,7 +22,8 @@ use Rattle.reading.proofs.FileBytes.{AllBytes}
 use Rattle.reading.proofs.Plain.{and-false}
 use Rattle.reading.proofs.Accepted.{header-accepted}
 use Rattle.c_functions.specs.declared.FlatRecord.{FlatRecord}
-use Rattle.c_functions.specs.Flat.{digit, flat, recordOf, isRecord, notItsRecord, channelless, asked, decodeFlat}
+use Rattle.c_functions.specs.Flat.{digit, flat, recordOf, isRecord, notItsRecord, decodeFlat}
+use Rattle.c_functions.specs.Asked.{channelless, asked}
 
 -- ---- flattening
 

@@ -48,13 +48,13 @@ flat r =
       colour = digit (r .colour);
     }
 
--- the record of numbers
-abbrev pub recordOf : FlatRecord → Record
-recordOf f =
+-- the record of numbers, with a count of channels
+abbrev pub recordWith : ℕ → FlatRecord → Record
+recordWith channels f =
     record {
       width = f .width;
       height = f .height;
-      channels = f .channels;
+      channels = channels;
       hs = f .hs;
       vs = f .vs;
       ids = f .ids;
@@ -72,6 +72,10 @@ recordOf f =
       work = f .work;
       colour = eqb (f .colour) 1;
     }
+
+-- the record of numbers
+abbrev pub recordOf : FlatRecord → Record
+recordOf f = recordWith (f .channels) f
 
 -- numbers are a record's where the last is 0 or 1
 abbrev pub isRecord : FlatRecord → Bool
@@ -107,34 +111,6 @@ drawn answer out scratch = record { answer = answer; output = out; scratch = scr
 abbrev pub decoded : calls.Decoded → Drawn
 decoded d =
     drawn (record { number = calls.number (d .answer .verdict); left = d .answer .budget .left }) (d .output) (d .scratch)
-
--- the record by which the code decodes: no file's where the numbers are no record's, since it has no channels
-abbrev pub channelless : FlatRecord → Record
-channelless f =
-    record {
-      width = f .width;
-      height = f .height;
-      channels = 0;
-      hs = f .hs;
-      vs = f .vs;
-      ids = f .ids;
-      qids = f .qids;
-      dcids = f .dcids;
-      acids = f .acids;
-      quants = f .quants;
-      dcs = f .dcs;
-      acs = f .acs;
-      interval = f .interval;
-      start = f .start;
-      blocks = f .blocks;
-      scratch = f .scratch;
-      output = f .output;
-      work = f .work;
-      colour = eqb (f .colour) 1;
-    }
-
-abbrev pub asked : FlatRecord → Record
-asked f = cond (ltb 1 (f .colour)) (channelless f) (recordOf f)
 
 -- ---- settle
 

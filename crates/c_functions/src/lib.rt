@@ -2,7 +2,8 @@
 // is a pointer and a length. Each contract is the call's own, through the flattening.
 ghost use mathlib.Core.Path.{_≡_};
 ghost use Rattle.reading.specs.Calls.{number, inspect, settle};
-ghost use Rattle.c_functions.specs.Flat.{digit, flat, recordOf, asked, inspected, drawn, decoded, decodeFlat, remade, settled, flatPart, flatPresence};
+ghost use Rattle.c_functions.specs.Asked.{asked};
+ghost use Rattle.c_functions.specs.Flat.{digit, flat, recordOf, inspected, drawn, decoded, decodeFlat, remade, settled, flatPart, flatPresence};
 ghost use Rattle.reading.specs.Comments.{commentPart, hasComment};
 use reading::Budget;
 use reading::Limits;
