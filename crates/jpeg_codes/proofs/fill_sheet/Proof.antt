@@ -27,7 +27,7 @@ same-length : tie.Need-same-length Inv-loop μ-loop
 same-length c = c .before .before .loop .inv .1
 
 returns : tie.Need-returns Inv-loop μ-loop
-returns c = sheet-part (c .before .before .loop .inv .2) (c .if1 .taken)
+returns c = sheet-part (c .before .before .loop .inv .2) (omega (arith, c .if1 .taken))
 
 mul-codes : tie.Need-mul-codes Inv-loop μ-loop
 mul-codes c = omega arith
