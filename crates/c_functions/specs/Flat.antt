@@ -17,7 +17,6 @@ use Rattle.c_functions.specs.declared.FlatPart.{FlatPart}
 use Rattle.c_functions.specs.declared.FlatPresence.{FlatPresence}
 use Rattle.c_functions.specs.declared.Inspected.{Inspected}
 use Rattle.c_functions.specs.declared.Decoded.{Decoded}
-use Rattle.c_functions.specs.declared.Settled.{Settled}
 
 -- 0 for no, 1 for yes
 abbrev pub digit : Bool → ℕ
@@ -111,22 +110,6 @@ drawn answer out scratch = record { answer = answer; output = out; scratch = scr
 abbrev pub decoded : calls.Decoded → Drawn
 decoded d =
     drawn (record { number = calls.number (d .answer .verdict); left = d .answer .budget .left }) (d .output) (d .scratch)
-
--- ---- settle
-
--- an answer in C with the buffer
-pub record Remade : Type 0 where
-  pub answer : Settled
-  pub output : List ℕ
-
-abbrev pub remade : Settled → List ℕ → Remade
-remade answer out = record { answer = answer; output = out }
-
-abbrev pub settled : calls.Rewritten → Remade
-settled t =
-    remade
-    (record { number = calls.number (t .answer .verdict); left = t .answer .budget .left; length = t .answer .length })
-    (t .output)
 
 -- ---- comments
 

@@ -1,9 +1,9 @@
-// The calls for C: inspect, decode, settle and the comments, on slices and numbers, the record flattened to 36 numbers. In C a slice
-// is a pointer and a length. Each contract is the call's own, through the flattening.
+// The calls for C: inspect, decode and the comments, on slices and numbers, the record flattened to 36 numbers; settle is in `c_settle`. In
+// C a slice is a pointer and a length. Each contract is the call's own, through the flattening.
 ghost use mathlib.Core.Path.{_≡_};
-ghost use Rattle.reading.specs.Calls.{number, inspect, settle};
+ghost use Rattle.reading.specs.Calls.{number, inspect};
 ghost use Rattle.c_functions.specs.Asked.{asked};
-ghost use Rattle.c_functions.specs.Flat.{digit, flat, recordOf, inspected, drawn, decoded, decodeFlat, remade, settled, flatPart, flatPresence};
+ghost use Rattle.c_functions.specs.Flat.{digit, flat, recordOf, inspected, drawn, decoded, decodeFlat, flatPart, flatPresence};
 ghost use Rattle.reading.specs.Comments.{commentPart, hasComment};
 use reading::Budget;
 use reading::Limits;
@@ -47,13 +47,6 @@ pub struct Decoded {
     pub left: u64,
 }
 
-#[repr(C)]
-pub struct Settled {
-    pub number: usize,
-    pub left: u64,
-    pub length: usize,
-}
-
 // A part of the bytes: its place and its length.
 #[repr(C)]
 pub struct FlatPart {
@@ -69,7 +62,7 @@ pub struct FlatPresence {
 }
 
 // The number of a verdict, 0 where accepted.
-fn number(verdict: Verdict) -> usize
+pub fn number(verdict: Verdict) -> usize
     ensures { λ r. ⌜ r ≡ number verdict ⌝ }
 {
     verdict.number() as usize
@@ -165,7 +158,7 @@ fn asked(numbers: FlatRecord) -> Record
     found
 }
 
-fn limits(input: usize, side: usize, output: usize) -> Limits
+pub fn limits(input: usize, side: usize, output: usize) -> Limits
     ensures { λ r. ⌜ r ≡ record { input = input; side = side; output = output } ⌝ }
 {
     Limits {
@@ -220,33 +213,6 @@ pub extern "C" fn tillsparrow_decode(
     Decoded {
         number: number(verdict),
         left: rest.left,
-    }
-}
-
-// The settled file.
-#[no_mangle]
-pub extern "C" fn tillsparrow_settle(
-    bytes: &[u8],
-    input: usize,
-    side: usize,
-    output: usize,
-    budget: u64,
-    room: &mut [u8],
-) -> Settled
-    ensures { λ r. ⌜ remade r (now (room .exit)) ≡ settled (settle (now (bytes .entry)) (record { input = input; side = side; output = output }) (record { left = budget }) (now (room .entry))) ⌝ }
-{
-    let seen = jpeg::settle(
-        bytes,
-        limits(input, side, output),
-        Budget::fresh(budget),
-        room,
-    );
-    let verdict = seen.verdict;
-    let rest = seen.budget;
-    Settled {
-        number: number(verdict),
-        left: rest.left,
-        length: seen.length,
     }
 }
 

@@ -1,8 +1,8 @@
 use mathlib.Core.Path.{refl, ap}
-use Rattle.c_functions.specs.Flat.{settled}
+use Rattle.c_settle.specs.Flat.{settled}
 use borrow.Author.Needs.{needs}
-use Rattle.c_functions.proofs.tillsparrow_settle.Statement.{statement}
-use Rattle.c_functions.proofs.tillsparrow_settle.Tie as tie
+use Rattle.c_settle.proofs.tillsparrow_settle.Statement.{statement}
+use Rattle.c_settle.proofs.tillsparrow_settle.Tie as tie
 
 limits-requires : tie.Need-limits-requires
 limits-requires c κs = search needs
