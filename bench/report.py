@@ -116,7 +116,7 @@ def target_lines(taken):
     for name, least in TARGETS:
         got = statistics.median(ratios(taken, "4:2:0", name))
         word = "met" if got >= least else "NOT met"
-        lines.append(f"- decode at least {least} of {dict(OTHERS)[name]} on the 4:2:0 photographs: {got:.2f}, {word}.")
+        lines.append(f"- decode at least {least} of {dict(OTHERS)[name]} on the 4:2:0 photographs: {got:.3f}, {word}.")
     return ["What was aimed at:", "", *lines]
 
 
