@@ -1,21 +1,21 @@
 -- The words of the six tables that a scan is written by, one list of 256 after the other; and what they say of the scan.
-use Prim.Native.Nat.{ℕ, zero, suc, _+_, _*_, _<_, _≤_}
-use mathlib.Core.Path.{_≡_}
-use mathlib.Core.List.{List}
+use Prim.Native.Nat.{ℕ, zero, suc, _+_, _*_}
+use mathlib.Core.List.{List, [], _∷_, _++_}
 use mathlib.Core.Bool.{Bool, true, false, cond}
 use lib.Dec.{eqb, ltb}
-use lib.ListN.{length, getD, take, drop}
+use lib.ListN.{getD, take, drop}
 use Rattle.reading.specs.declared.Record.{Record}
 use Rattle.reading.specs.Huffman.{tableAt}
 use Rattle.jpeg_codes.specs.Words.{codeWords}
 
+-- the words of the tables at these places of t
+unfoldable pub sheet : List ℕ → List ℕ → List ℕ
+sheet t [] = []
+sheet t (base ∷ bases) = codeWords (tableAt t base) 256 ++ sheet t bases
+
 -- the 256 words from a place on
 abbrev pub wordsIn : ℕ → List ℕ → List ℕ
 wordsIn a ws = take 256 (drop a ws)
-
--- each of six tables that has its place in the list has its words there
-pub record Sheeted (t bases ws : List ℕ) : Type 0 where
-  pub each : (i : ℕ) → i < 6 → 256 * i + 256 ≤ length ws → wordsIn (256 * i) ws ≡ codeWords (tableAt t (getD bases i 0)) 256
 
 -- in each of the first n tables the symbol 0 has a word
 unfoldable pub zerosCoded : List ℕ → ℕ → Bool

@@ -1,20 +1,12 @@
 // The words of a table's codes: of each symbol its code and the code's length, in one number, so that a symbol is written at one look.
 // A sheet has the words of the six tables of a scan; whether the scan is sure to be written is told from it.
 ghost use mathlib.Core.Path.{_≡_};
-ghost use Prim.Native.Nat.{_+_, _≤_, _^_};
+ghost use Prim.Native.Nat.{_+_, _≤_};
 ghost use lib.ListN.{length, getD, replicate};
 ghost use Rattle.reading.specs.Huffman.{tableAt};
 ghost use Rattle.jpeg_codes.specs.Words.{codeWords, kept};
-ghost use Rattle.jpeg_codes.specs.Sheets.{Sheeted, zerosCoded, sure};
+ghost use Rattle.jpeg_codes.specs.Sheets.{sheet, zerosCoded, sure};
 use reading::Record;
-
-// 2 ^ n.
-fn power(n: usize) -> usize
-    requires { ⌜ n ≤ 32 ⌝ }
-    ensures { λ r. ⌜ r ≡ 2 ^ n ⌝ }
-{
-    1 << n
-}
 
 // No symbol has a word yet.
 fn clear(words: &mut [u32])
@@ -59,7 +51,8 @@ fn fill(t: &[u8], base: usize, words: &mut [u32])
             if t.len() <= at {
                 break 'walk;
             }
-            let word = 65536 * bits + code % power(bits);
+            let full = 1usize << bits;
+            let word = 65536 * bits + code % full;
             keep(words, t[at] as usize, word as u32);
             at += 1;
             left -= 1;
@@ -93,20 +86,19 @@ pub fn word_of(words: &[u32], x: usize) -> usize
     0
 }
 
-// The words of six tables, 256 for each, as far as the list reaches.
-pub fn fill_sheet(t: &[u8], places: [usize; 6], words: &mut [u32])
-    ensures { λ r. ⌜ Sheeted (now (t .entry)) places (now (words .exit)) ⌝ }
+// The words of six tables, 256 for each.
+pub fn sheet(t: &[u8], places: [usize; 6]) -> [u32; 1536]
+    ensures { λ r. ⌜ r ≡ sheet (now (t .entry)) places ⌝ }
 {
+    let mut words = [0u32; 1536];
     let mut i = 0usize;
     while i < 6 {
         let a = 256 * i;
         let e = a + 256;
-        if words.len() < e {
-            return;
-        }
         codes(t, places[i], &mut words[a..e]);
         i += 1;
     }
+    words
 }
 
 // In each of the first tables of the sheet the symbol 0 has a word.

@@ -6,14 +6,6 @@ ghost use lib.ListN.{length};
 ghost use Rattle.reading.specs.Settled.{fieldOf};
 ghost use Rattle.jpeg_turns.specs.Turns.{categoryOf, zerosAt, over, valueAt, turnAt};
 
-// 2 ^ n.
-fn power(n: usize) -> usize
-    requires { ⌜ n ≤ 32 ⌝ }
-    ensures { λ r. ⌜ r ≡ 2 ^ n ⌝ }
-{
-    1 << n
-}
-
 // The distance from 0.
 fn magnitude(d: i64) -> usize
     requires { ⌜ natAbs d < 2 ^ 62 ⌝ }
@@ -42,7 +34,8 @@ fn field_of(n: usize, d: i64) -> usize
 {
     let m = magnitude(d);
     if d < 0 {
-        let top = power(n) - 1;
+        let full = 1usize << n;
+        let top = full - 1;
         if m <= top {
             return top - m;
         }

@@ -22,8 +22,8 @@ use Rattle.jpeg_scan.proofs.Onward.{blockAt, past}
 use Rattle.jpeg_scan.proofs.OneMcu.{head, below, Along, along-none, along-at, along-more, along-whole, along-out, entered, entered-later, entered-out, entered-here}
 use Rattle.jpeg_writer.specs.declared.Outcome.{Outcome}
 use Rattle.jpeg_codes.specs.Words.{coderOf}
-use Rattle.jpeg_codes.specs.Sheets.{wordsIn}
-use Rattle.jpeg_writer.specs.Sheets.{basesOf, Sheet}
+use Rattle.jpeg_codes.specs.Sheets.{sheet, wordsIn}
+use Rattle.jpeg_writer.specs.Sheets.{basesOf}
 use Rattle.jpeg_writer.specs.Pass.{Fit, Moves, coming, resuming, Went}
 use Rattle.jpeg_writer.proofs.SheetFilled.{sheet-block}
 use Rattle.jpeg_writer.proofs.Comings.{resuming-none, coming-inside, resuming-stop, resuming-next}
@@ -88,7 +88,7 @@ module _ {s : List ℕ} {n : Plan} {from : ScanCursor} {pen : Outcome} {old new 
           each = λ p m st e. onto-block p m st e ∙ resuming-stop st s m j (n .blocks) q ink new (at p m st e) h i c u few-c v g;
         }
 
-    pub further : {b : Bits} {z : ℤ} {k : ℕ} → x ≡ Got b z k → {l : List ℤ} → l ≡ levelsOf (blockAt (head n s) n s c q) → {ws : List ℕ} → Sheet (head n s) (basesOf n) 6 ws
+    pub further : {b : Bits} {z : ℤ} {k : ℕ} → x ≡ Got b z k → {l : List ℤ} → l ≡ levelsOf (blockAt (head n s) n s c q) → {ws : List ℕ} → ws ≡ sheet (head n s) (basesOf n)
         → {r : Outcome} {new′ : List ℕ} → length new′ ≡ length new → Moves (onto (blockIn ws c (getD (q .predictors) c (pos 0)) l)) ink new r new′
         → Walk s n from pen old new′ (past q c z b) r (j + 1)
     further {b} {z} {k} g {l} y {ws} sheet {r} {new′} long a =

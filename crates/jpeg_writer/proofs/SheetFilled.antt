@@ -1,6 +1,6 @@
 -- A block is written by the words of its channel as the plan has it.
 use Prim.Native.Nat.{ℕ, zero, suc, _+_, _*_, _<_}
-use mathlib.Core.Path.{_≡_, refl, sym, ap, ap₂, _∙_, subst}
+use mathlib.Core.Path.{_≡_, refl, sym, ap, ap₂, _∙_}
 use mathlib.Core.List.{List}
 use native.Mathlib.Nat.{not-suc-le-zero, le-of-suc-le-suc}
 use native.Mathlib.Omega.{arith}
@@ -12,16 +12,13 @@ use Rattle.reading.specs.Scan as scan
 use Rattle.jpeg_scan.specs.declared.Plan.{Plan}
 use Rattle.jpeg_scan.specs.Plans.{Stands}
 use Rattle.jpeg_codes.specs.Words.{codeWords, coderOf}
-use Rattle.jpeg_codes.specs.Sheets.{wordsIn, Sheeted}
-use Rattle.jpeg_writer.specs.Sheets.{basesOf, Sheet}
+use Rattle.jpeg_codes.specs.Sheets.{wordsIn, sheet}
+use Rattle.jpeg_codes.proofs.SheetFilled.{sheet-length, sheet-part}
+use Rattle.jpeg_writer.specs.Sheets.{basesOf}
 use Rattle.jpeg_writer.proofs.Coders.{block-alike, words-alike}
 
--- what was filled is a sheet
-pub sheet-as : {t a b ws : List ℕ} → a ≡ b → Sheeted t a ws → length ws ≡ 1536 → Sheet t b 6 ws
-sheet-as {t} {a} {b} {ws} e w long =
-    subst (λ (x : List ℕ). Sheet t x 6 ws) e (record { size = long; each = λ i h. w .each i h (omega (arith, long)) })
-
--- ---- a block by the words of its channel
+pub sheet-long : (t : List ℕ) (n : Plan) {ws : List ℕ} → ws ≡ sheet t (basesOf n) → length ws ≡ 1536
+sheet-long t n w = ap length w ∙ sheet-length t (basesOf n)
 
 base-dc : (n : Plan) (c : ℕ) → c < 3 → getD (basesOf n) (2 * c) 0 ≡ getD (n .dcs) c 0
 base-dc n zero h = refl
@@ -35,16 +32,16 @@ base-ac n (suc zero) h = refl
 base-ac n (suc (suc zero)) h = refl
 base-ac n (suc (suc (suc c))) h = absurd (not-suc-le-zero (le-of-suc-le-suc (le-of-suc-le-suc (le-of-suc-le-suc h))))
 
-module _ {t : List ℕ} {n : Plan} {p : scan.Plan} {ws : List ℕ} (st : Stands t n p) (w : Sheet t (basesOf n) 6 ws) (c : ℕ) (h : c < 3) where
+module _ {t : List ℕ} {n : Plan} {p : scan.Plan} {ws : List ℕ} (st : Stands t n p) (w : ws ≡ sheet t (basesOf n)) (c : ℕ) (h : c < 3) where
   pub words-dc : wordsIn (512 * c) ws ≡ codeWords (tableAt t (getD (n .dcs) c 0)) 256
   words-dc =
       let place : 512 * c ≡ 256 * (2 * c) = omega arith in
-      ap (λ (a : ℕ). wordsIn a ws) place ∙ w .each (2 * c) (omega arith) ∙ ap (λ (b : ℕ). codeWords (tableAt t b) 256) (base-dc n c h)
+      ap₂ wordsIn place w ∙ sheet-part t (basesOf n) (2 * c) (omega arith) ∙ ap (λ (b : ℕ). codeWords (tableAt t b) 256) (base-dc n c h)
 
   pub words-ac : wordsIn (512 * c + 256) ws ≡ codeWords (tableAt t (getD (n .acs) c 0)) 256
   words-ac =
       let place : 512 * c + 256 ≡ 256 * (2 * c + 1) = omega arith in
-      ap (λ (a : ℕ). wordsIn a ws) place ∙ w .each (2 * c + 1) (omega arith) ∙ ap (λ (b : ℕ). codeWords (tableAt t b) 256) (base-ac n c h)
+      ap₂ wordsIn place w ∙ sheet-part t (basesOf n) (2 * c + 1) (omega arith) ∙ ap (λ (b : ℕ). codeWords (tableAt t b) 256) (base-ac n c h)
 
   -- by the words of its channel a block is written as the plan has it
   pub sheet-block : (z : ℤ) (l : List ℤ) → blockBits (p .channels c) z l ≡ blockBy (coderOf (wordsIn (512 * c) ws)) (coderOf (wordsIn (512 * c + 256) ws)) z l

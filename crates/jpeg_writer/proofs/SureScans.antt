@@ -35,8 +35,8 @@ use Rattle.reading.proofs.WantOfCode.{ZeroCoded, no-want}
 use Rattle.jpeg_scan.specs.declared.Plan.{Plan}
 use Rattle.jpeg_scan.proofs.Standing.{Readable, readable-says, lumas-some, Ready}
 use Rattle.jpeg_codes.specs.Words.{wordOf, codeWords}
-use Rattle.jpeg_codes.specs.Sheets.{wordsIn, zerosCoded, sure}
-use Rattle.jpeg_writer.specs.Sheets.{basesOf, Sheet}
+use Rattle.jpeg_codes.specs.Sheets.{sheet, wordsIn, zerosCoded, sure}
+use Rattle.jpeg_writer.specs.Sheets.{basesOf}
 use Rattle.jpeg_writer.specs.Pass.{foretold}
 use Rattle.jpeg_writer.proofs.SettledAnswers.{Passed, settled-is, stays-stop, stays-lacking, stays-short, writes-all}
 use Rattle.jpeg_writer.proofs.SheetFilled.{words-dc, words-ac}
@@ -101,7 +101,7 @@ Roomy (got none b) room = ⊥
 Roomy (got (some t) b) room = length t ≤ room
 Roomy (fault f) room = Unit {0}
 
-module _ {s : List ℕ} {r : Record} {n : Plan} (u : Ready s r n) {ws : List ℕ} (w : Sheet (take (n .start) s) (basesOf n) 6 ws) where
+module _ {s : List ℕ} {r : Record} {n : Plan} (u : Ready s r n) {ws : List ℕ} (w : ws ≡ sheet (take (n .start) s) (basesOf n)) where
   has : Readable s r
   has = readable-says s r (u .readable-is)
 
@@ -206,7 +206,7 @@ module _ (old : List ℕ) (t : Bool) (o : Read Bits (Option (List ℕ))) {x : Sc
         go true (fault k) h q a = absurd (suc-ne-zero 0 cc)
 
 -- what was foretold to fit is written
-module _ {s : List ℕ} {r : Record} {n : Plan} (u : Ready s r n) {ws : List ℕ} (w : Sheet (take (n .start) s) (basesOf n) 6 ws) (few : r .blocks < 2 ^ 32) (ab : AllBytes s) (old : List ℕ) where
+module _ {s : List ℕ} {r : Record} {n : Plan} (u : Ready s r n) {ws : List ℕ} (w : ws ≡ sheet (take (n .start) s) (basesOf n)) (few : r .blocks < 2 ^ 32) (ab : AllBytes s) (old : List ℕ) where
   pub sure-written : {x : ScanSettled} → x ≡ foretold (sure r ws (length s - n .start) (length old)) (length old) (settledOf s r) → {k : ℕ} → x ≡ answer.Done k → k ≤ length old
       → {y : ScanSettled} {new : List ℕ} → Passed (settledOf s r) old y new → new ≡ laidOver (settledOf s r) old
   sure-written e g l a = told-fits old (sure r ws (length s - n .start) (length old)) (settledOf s r) e g l (sure-fits u w few ab (length old)) a

@@ -1,5 +1,6 @@
-// A record's scan, read and written settled: bits into bytes, blocks, padding and markers, and the pass over a whole scan. It carries the rules' part on the settled scan. A byte is stored where the lent buffer has room and is
-// counted in any case, so that one path both measures and writes.
+// A record's scan, read and written settled: bits into bytes, blocks, padding and markers, and the pass over a whole scan. It
+// carries the rules' part on the settled scan. A byte is stored where the lent buffer has room and is counted in any case, so that
+// one path both measures and writes.
 ghost use mathlib.Core.Path.{_≡_};
 ghost use mathlib.Core.List.{[], _∷_};
 ghost use mathlib.Core.Option.{some};
@@ -13,8 +14,8 @@ ghost use Rattle.jpeg_codes.specs.Words.{wordCode, coderOf};
 ghost use Rattle.jpeg_turns.specs.Turns.{zerosAt};
 ghost use Rattle.jpeg_writer.specs.Steps.{Quiet, wordAt};
 ghost use Rattle.jpeg_scan.specs.Plans.{planFor};
-ghost use Rattle.jpeg_codes.specs.Sheets.{wordsIn, sure};
-ghost use Rattle.jpeg_writer.specs.Sheets.{basesOf, Sheet};
+ghost use Rattle.jpeg_codes.specs.Sheets.{sheet, wordsIn, sure};
+ghost use Rattle.jpeg_writer.specs.Sheets.{basesOf};
 ghost use Rattle.jpeg_writer.specs.Pass.{finalBy, Fit, Moves, lastPart, Closes, Went, Ran, Measures, foretold};
 use jpeg_scan::Halt;
 use jpeg_scan::Plan;
@@ -299,7 +300,7 @@ struct Moved {
 
 // The blocks of one MCU, or those that are left of the scan, are read and written; the restart before it is done.
 fn mcu(s: &[u8], plan: Plan, words: &[u32], from: ScanCursor, pen: Outcome, out: &mut [u8]) -> Moved
-    requires { ⌜ (plan .start ≤ length (now s)) × Sheet (take (plan .start) (now s)) (basesOf plan) 6 (now words) × Fit pen ⌝ }
+    requires { ⌜ (plan .start ≤ length (now s)) × (now words ≡ sheet (take (plan .start) (now s)) (basesOf plan)) × Fit pen ⌝ }
     ensures { λ r. ⌜ Went (now (s .entry)) plan from pen (now (out .entry)) r (now (out .exit)) ⌝ }
 {
     let start = plan.start;
@@ -355,7 +356,7 @@ fn mcu(s: &[u8], plan: Plan, words: &[u32], from: ScanCursor, pen: Outcome, out:
 // A pass over a whole scan: it is read to its end or to a fault, and written from the start of the buffer on until a code is
 // wanting.
 fn run(s: &[u8], plan: Plan, words: &[u32], out: &mut [u8]) -> ScanSettled
-    requires { ⌜ (plan .start ≤ length (now s)) × (0 < plan .per) × (plan .blocks < 2 ^ 32) × Sheet (take (plan .start) (now s)) (basesOf plan) 6 (now words) ⌝ }
+    requires { ⌜ (plan .start ≤ length (now s)) × (0 < plan .per) × (plan .blocks < 2 ^ 32) × (now words ≡ sheet (take (plan .start) (now s)) (basesOf plan)) ⌝ }
     ensures { λ r. ⌜ Ran (now (s .entry)) plan (now (out .entry)) r (now (out .exit)) ⌝ }
 {
     let interval = plan.interval;
@@ -397,7 +398,7 @@ fn run(s: &[u8], plan: Plan, words: &[u32], out: &mut [u8]) -> ScanSettled
 
 // A pass that keeps nothing: what a scan comes to.
 fn measure(s: &[u8], plan: Plan, words: &[u32]) -> ScanSettled
-    requires { ⌜ (plan .start ≤ length (now s)) × (0 < plan .per) × (plan .blocks < 2 ^ 32) × Sheet (take (plan .start) (now s)) (basesOf plan) 6 (now words) ⌝ }
+    requires { ⌜ (plan .start ≤ length (now s)) × (0 < plan .per) × (plan .blocks < 2 ^ 32) × (now words ≡ sheet (take (plan .start) (now s)) (basesOf plan)) ⌝ }
     ensures { λ r. ⌜ Measures (now (s .entry)) plan r ⌝ }
 {
     let mut none = [0u8; 1];
@@ -407,7 +408,7 @@ fn measure(s: &[u8], plan: Plan, words: &[u32]) -> ScanSettled
 // What is known of a scan before it is written. Measuring it takes longer than reading it, so it is measured only where reading
 // alone does not tell.
 fn foretell(s: &[u8], found: Record, plan: Plan, words: &[u32], room: usize) -> ScanSettled
-    requires { ⌜ (plan ≡ planFor (now s) found) × (0 < plan .per) × (found .blocks < 2 ^ 32) × Sheet (take (plan .start) (now s)) (basesOf plan) 6 (now words) ⌝ }
+    requires { ⌜ (plan ≡ planFor (now s) found) × (0 < plan .per) × (found .blocks < 2 ^ 32) × (now words ≡ sheet (take (plan .start) (now s)) (basesOf plan)) ⌝ }
     ensures { λ r. ⌜ r ≡ foretold (sure found (now (words .entry)) (length (now (s .entry)) - plan .start) room) room (settledOf (now (s .entry)) found) ⌝ }
 {
     let coded = s.len() - plan.start;
@@ -433,8 +434,7 @@ pub fn settled(s: &[u8], found: Record, out: &mut [u8]) -> ScanSettled
         return ScanSettled::Stop(Fault::Broken);
     }
     let start = plan.start;
-    let mut words = [0u32; 1536];
-    jpeg_codes::fill_sheet(&s[..start], bases(plan), &mut words);
+    let words = jpeg_codes::sheet(&s[..start], bases(plan));
     match foretell(s, found, plan, &words, out.len()) {
         ScanSettled::Stop(f) => ScanSettled::Stop(f),
         ScanSettled::NoCode => ScanSettled::NoCode,

@@ -1,11 +1,12 @@
 -- `fill`: at each turn a symbol's word is the one it has, or else the one that the table still has for it (`Filling`, of Filled).
-use mathlib.Core.Path.{refl, subst⁻¹}
+use mathlib.Core.Path.{_≡_, refl, subst⁻¹}
 use mathlib.Core.List.{List}
-use Prim.Native.Nat.{ℕ, _+_, _*_, _-_, _%_, _<_}
+use Prim.Native.Nat.{ℕ, _+_, _*_, _-_, _%_, _^_, _<_}
 use native.Mathlib.Omega.{arith}
 use borrow.Author.Needs.{needs}
 use lib.ListN.{length, getD}
 use lib.Pow.{pow-pos}
+use Rattle.whole.specs.Powers.{power-is}
 use Rattle.jpeg_codes.proofs.Filled.{Filling, filling-start, filling-length, filling-symbol, filling-end, filling-past, code-few, word-few, word-is}
 use Rattle.jpeg_codes.proofs.fill.Statement.{statement}
 use Rattle.jpeg_codes.proofs.fill.Tie as tie
@@ -51,26 +52,29 @@ walk-again : tie.Need-walk-again Inv-walk μ-walk
 walk-again c =
     filling-length _ _ _ _ _ _ _ _ (c .before .before .before .walk .inv) (c .before .before .if1 .taken) (omega (arith, c .before .before .before .walk .inv .few, c .before .if2 .left)) (c .before .before .before .before .before .before .pre .0) (count c)
 
+shl-full : tie.Need-shl-full Inv-walk μ-walk
+shl-full c = omega (arith, c .before .before .walk .inv .few)
+
 mul-word : tie.Need-mul-word Inv-walk μ-walk
 mul-word c = omega (arith, c .before .before .walk .inv .few)
 
-power-requires : tie.Need-power-requires Inv-walk μ-walk
-power-requires c κs = omega (arith, c .before .before .walk .inv .few)
+full-is : (c : tie.Else3 Inv-walk μ-walk) → (1 * 2 ^ c .before .before .walk .bits) % 18446744073709551616 ≡ 2 ^ c .before .before .walk .bits
+full-is c = power-is (c .before .before .walk .bits) (omega (arith, c .before .before .walk .inv .few))
 
 rem-word : tie.Need-rem-word Inv-walk μ-walk
-rem-word c = rw (c .power .ensures) (pow-pos _)
+rem-word c = rw (full-is c) (pow-pos _)
 
-word : (c : tie.After-power Inv-walk μ-walk) → 65536 * c .before .before .before .walk .bits + c .before .before .before .walk .code % c .power .result < 1179648
-word c = word-few (c .before .before .before .walk .bits) (c .before .before .before .walk .code) (c .before .before .before .walk .inv .few) (c .power .ensures)
+word : (c : tie.Else3 Inv-walk μ-walk) → 65536 * c .before .before .walk .bits + c .before .before .walk .code % ((1 * 2 ^ c .before .before .walk .bits) % 18446744073709551616) < 1179648
+word c = word-few (c .before .before .walk .bits) (c .before .before .walk .code) (c .before .before .walk .inv .few) (full-is c)
 
 add-word : tie.Need-add-word Inv-walk μ-walk
 add-word c = omega (arith, word c)
 
 shared-slice-read-keep : tie.Need-shared-slice-read-keep Inv-walk μ-walk
-shared-slice-read-keep c = c .before .before .before .if3 .left
+shared-slice-read-keep c = c .before .before .if3 .left
 
 cast-keep : tie.Need-cast-keep Inv-walk μ-walk
-cast-keep c = omega (arith, c .shared-slice-known3 .given (c .before .before .before .before .before .walk .at))
+cast-keep c = omega (arith, c .shared-slice-known3 .given (c .before .before .before .before .walk .at))
 
 cast-keep-2 : tie.Need-cast-keep-2 Inv-walk μ-walk
 cast-keep-2 c = omega (arith, word (c .before .before))
@@ -79,20 +83,20 @@ keep-requires : tie.Need-keep-requires Inv-walk μ-walk
 keep-requires c κs = search needs
 
 add-at-2 : tie.Need-add-at-2 Inv-walk μ-walk
-add-at-2 c = omega (arith, c .before .before .before .before .before .before .if3 .left)
+add-at-2 c = omega (arith, c .before .before .before .before .before .if3 .left)
 
 sub-left : tie.Need-sub-left Inv-walk μ-walk
-sub-left c = omega (arith, c .before .before .before .before .before .before .before .if1 .left)
+sub-left c = omega (arith, c .before .before .before .before .before .before .if1 .left)
 
 add-code : tie.Need-add-code Inv-walk μ-walk
-add-code c = omega (arith, small (c .before .before .before .before .before .before .before .before))
+add-code c = omega (arith, small (c .before .before .before .before .before .before .before))
 
 walk-less-2 : tie.Need-walk-less-2 Inv-walk μ-walk
-walk-less-2 c = omega (arith, c .before .before .before .before .before .before .before .if1 .left)
+walk-less-2 c = omega (arith, c .before .before .before .before .before .before .if1 .left)
 
 walk-again-2 : tie.Need-walk-again-2 Inv-walk μ-walk
 walk-again-2 c =
-    subst⁻¹ (λ (l : List ℕ). Filling (c .before .before .before .before .before .before .before .before .before .before .before .args .t .now) (c .before .before .before .before .before .before .before .before .before .before .before .args .base) (length (c .before .before .before .before .before .before .before .before .before .before .before .args .words .now)) l (c .before .before .before .before .before .before .before .before .walk .at + 1) (c .before .before .before .before .before .before .before .before .walk .bits) (c .before .before .before .before .before .before .before .before .walk .left - 1) (c .before .before .before .before .before .before .before .before .walk .code + 1)) (c .before .before .keep .ensures) (filling-symbol _ _ _ _ _ _ _ _ (c .before .before .before .before .before .before .before .before .walk .inv) (c .before .before .before .before .before .before .before .if1 .left) (c .before .before .before .before .before .before .if3 .left) (word-is (c .before .before .before .before .before .before .before .before .walk .bits) (c .before .before .before .before .before .before .before .before .walk .code) (c .before .before .before .before .before .power .ensures)))
+    subst⁻¹ (λ (l : List ℕ). Filling (c .before .before .before .before .before .before .before .before .before .before .args .t .now) (c .before .before .before .before .before .before .before .before .before .before .args .base) (length (c .before .before .before .before .before .before .before .before .before .before .args .words .now)) l (c .before .before .before .before .before .before .before .walk .at + 1) (c .before .before .before .before .before .before .before .walk .bits) (c .before .before .before .before .before .before .before .walk .left - 1) (c .before .before .before .before .before .before .before .walk .code + 1)) (c .before .before .keep .ensures) (filling-symbol _ _ _ _ _ _ _ _ (c .before .before .before .before .before .before .before .walk .inv) (c .before .before .before .before .before .before .if1 .left) (c .before .before .before .before .before .if3 .left) (word-is (c .before .before .before .before .before .before .before .walk .bits) (c .before .before .before .before .before .before .before .walk .code) (full-is (c .before .before .before .before .before))))
 
 same-length : tie.Need-same-length Inv-walk μ-walk
 same-length c = c .before .before .walk .inv .long
@@ -121,8 +125,8 @@ fill-spec =
     mul-code
     walk-less
     walk-again
+    shl-full
     mul-word
-    power-requires
     rem-word
     add-word
     shared-slice-read-keep

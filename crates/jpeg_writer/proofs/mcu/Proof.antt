@@ -19,6 +19,7 @@ use Rattle.jpeg_scan.proofs.OneMcu.{head, below}
 use Rattle.jpeg_writer.specs.declared.Outcome.{Outcome}
 use Rattle.jpeg_writer.specs.Pass.{Moves}
 use Rattle.jpeg_writer.proofs.Quiets.{quiet-block}
+use Rattle.jpeg_writer.proofs.SheetFilled.{sheet-long}
 use Rattle.jpeg_writer.proofs.McuPassed.{Walk, begin, blockIn, whole, out, broken, further}
 use Rattle.jpeg_writer.proofs.mcu.Statement.{statement}
 use Rattle.jpeg_writer.proofs.mcu.Tie as tie
@@ -70,7 +71,7 @@ enum-known-b : tie.Need-enum-known-b Inv-walk μ-walk
 enum-known-b c = search needs
 
 put-on-requires : tie.Need-put-on-requires Inv-walk μ-walk
-put-on-requires c κs = (c .before .before .before .before .before .before .before .before .before .before .before .before .before .before .walk .inv .fit, omega (arith, few-channels (c .before .before .before .before .before .before .before .before .before)), c .before .before .before .before .before .before .before .before .before .before .before .before .before .before .before .before .before .before .before .before .before .before .pre .1 .size, quiet-block _ (c .before .before .before .before .before .block .ensures .0) (c .before .before .before .b .given .1) (c .before .before .before .before .before .block .ensures .1))
+put-on-requires c κs = (c .before .before .before .before .before .before .before .before .before .before .before .before .before .before .walk .inv .fit, omega (arith, few-channels (c .before .before .before .before .before .before .before .before .before)), sheet-long (head (c .before .before .before .before .before .before .before .before .before .before .before .before .before .before .before .before .before .before .before .before .before .before .args .plan) (c .before .before .before .before .before .before .before .before .before .before .before .before .before .before .before .before .before .before .before .before .before .before .args .s .now)) (c .before .before .before .before .before .before .before .before .before .before .before .before .before .before .before .before .before .before .before .before .before .before .args .plan) (c .before .before .before .before .before .before .before .before .before .before .before .before .before .before .before .before .before .before .before .before .before .before .pre .1), quiet-block _ (c .before .before .before .before .before .block .ensures .0) (c .before .before .before .b .given .1) (c .before .before .before .before .before .block .ensures .1))
 
 mul-predictors : tie.Need-mul-predictors Inv-walk μ-walk
 mul-predictors c = omega (arith, few-channels (c .before .before .before .before .before .before .before .before .before .before .before .before))

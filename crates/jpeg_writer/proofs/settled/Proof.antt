@@ -1,13 +1,13 @@
 -- `settled`: what is foretold is the answer, or that the scan fits; what is then written is the settled scan (SureScans).
 use Prim.Native.Nat.{_<_, _^_}
-use mathlib.Core.Path.{sym, ap}
+use mathlib.Core.Path.{sym, ap, _∙_}
 use native.Mathlib.Omega.{arith}
 use lib.Seq.{length-take-le}
 use borrow.Author.Needs.{needs}
 use Rattle.reading.proofs.FileBytes.{all-bytes}
 use Rattle.jpeg_scan.specs.declared.Plan.{Plan}
 use Rattle.jpeg_scan.proofs.Standing.{Ready, ready, unready}
-use Rattle.jpeg_writer.proofs.SheetFilled.{sheet-as}
+use Rattle.jpeg_codes.specs.Sheets.{sheet}
 use Rattle.jpeg_writer.proofs.SettledAnswers.{passed-settled, says-stop, settled-many, settled-unread}
 use Rattle.jpeg_writer.proofs.SureScans.{told-stop, told-lacking, told-short, sure-written}
 use Rattle.jpeg_writer.proofs.settled.Statement.{statement}
@@ -31,23 +31,20 @@ of-requires c κs = search needs
 returns-2 : tie.Need-returns-2
 returns-2 c = says-stop (c .before .before .before .before .before .before .before .args .out .now) (settled-unread (c .before .before .before .before .before .before .before .args .s .now) (c .before .before .before .before .before .before .before .args .found) (few (c .before .before .before)) (unready (c .before .before .before .before .before .before .before .args .s .now) (c .before .before .before .before .before .before .before .args .found) (c .before .before .of .ensures) (c .if2 .taken)))
 
-slice-aggregate-fill-sheet : tie.Need-slice-aggregate-fill-sheet
-slice-aggregate-fill-sheet c = sym (length-take-le _ _ (set-up (c .before) .inside))
+slice-aggregate-sheet : tie.Need-slice-aggregate-sheet
+slice-aggregate-sheet c = sym (length-take-le _ _ (set-up (c .before) .inside))
 
 bases-requires : tie.Need-bases-requires
 bases-requires c κs = search needs
 
-slice-aggregate-fill-sheet-2 : tie.Need-slice-aggregate-fill-sheet-2
-slice-aggregate-fill-sheet-2 c = search needs
-
-fill-sheet-requires : tie.Need-fill-sheet-requires
-fill-sheet-requires c κs = tt
+sheet-requires : tie.Need-sheet-requires
+sheet-requires c κs = search needs
 
 slice-aggregate-foretell : tie.Need-slice-aggregate-foretell
 slice-aggregate-foretell c = search needs
 
 foretell-requires : tie.Need-foretell-requires
-foretell-requires c κs = (c .before .before .before .before .before .before .before .before .of .ensures, set-up (c .before .before .before .before .before .before) .numbers .some, few (c .before .before .before .before .before .before .before .before .before), sheet-as (c .before .before .before .before .bases .ensures) (c .before .before .fill-sheet .ensures) (search needs))
+foretell-requires c κs = (c .before .before .before .before .before .before .of .ensures, set-up (c .before .before .before .before) .numbers .some, few (c .before .before .before .before .before .before .before), c .before .sheet .ensures ∙ ap (sheet _) (c .before .before .bases .ensures))
 
 enum-known-f : tie.Need-enum-known-f
 enum-known-f c = search needs
@@ -59,29 +56,29 @@ enum-known-n : tie.Need-enum-known-n
 enum-known-n c = search needs
 
 returns-3 : tie.Need-returns-3
-returns-3 c = told-short (c .before .before .before .before .before .before .before .before .before .before .before .before .before .before .before .before .before .before .args .out .now) _ _ (c .before .before .before .before .foretell .ensures) (c .before .before .n .given .1) (omega (arith, c .if3 .taken))
+returns-3 c = told-short (c .before .before .before .before .before .before .before .before .before .before .before .before .before .before .before .before .args .out .now) _ _ (c .before .before .before .before .foretell .ensures) (c .before .before .n .given .1) (omega (arith, c .if3 .taken))
 
 slice-aggregate-run : tie.Need-slice-aggregate-run
 slice-aggregate-run c = search needs
 
 run-requires : tie.Need-run-requires
-run-requires c κs = (set-up (c .before .before .before .before .before .before .before .before .before .before .before .before .before) .inside, set-up (c .before .before .before .before .before .before .before .before .before .before .before .before .before) .numbers .some, blocks-few (c .before .before .before .before .before .before .before .before .before .before .before .before .before), sheet-as (c .before .before .before .before .before .before .before .before .before .before .before .bases .ensures) (c .before .before .before .before .before .before .before .before .before .fill-sheet .ensures) (search needs))
+run-requires c κs = (set-up (c .before .before .before .before .before .before .before .before .before .before .before) .inside, set-up (c .before .before .before .before .before .before .before .before .before .before .before) .numbers .some, blocks-few (c .before .before .before .before .before .before .before .before .before .before .before), c .before .before .before .before .before .before .before .before .sheet .ensures ∙ ap (sheet _) (c .before .before .before .before .before .before .before .before .before .bases .ensures))
 
 returns-4 : tie.Need-returns-4
-returns-4 c = told-stop (c .before .before .before .before .before .before .before .before .before .before .before .before .before .before .before .before .before .args .out .now) _ _ (c .before .before .before .foretell .ensures) (c .before .f .given .1)
+returns-4 c = told-stop (c .before .before .before .before .before .before .before .before .before .before .before .before .before .before .before .args .out .now) _ _ (c .before .before .before .foretell .ensures) (c .before .f .given .1)
 
 returns-5 : tie.Need-returns-5
-returns-5 c = told-lacking (c .before .before .before .before .before .before .before .before .before .before .before .before .before .before .before .before .args .out .now) _ _ (c .before .before .foretell .ensures) (c .enum-told .given .1)
+returns-5 c = told-lacking (c .before .before .before .before .before .before .before .before .before .before .before .before .before .before .args .out .now) _ _ (c .before .before .foretell .ensures) (c .enum-told .given .1)
 
 same-length : tie.Need-same-length
 same-length c = search needs
 
 returns-6 : tie.Need-returns-6
 returns-6 c =
-    let a = passed-settled (set-up (c .before .before .before .before .before .before .before .before .before .before .before .before .before .before .before .before)) (few (c .before .before .before .before .before .before .before .before .before .before .before .before .before .before .before .before .before .before .before)) (c .before .before .run .ensures) in
-    let sheet = sheet-as (c .before .before .before .before .before .before .before .before .before .before .before .before .before .before .bases .ensures) (c .before .before .before .before .before .before .before .before .before .before .before .before .fill-sheet .ensures) (search needs) in
-    let bytes = all-bytes (c .before .before .before .before .before .before .before .before .before .before .before .before .before .before .before .before .before .before .before .before .before .before .before .args .s .now) (λ i. omega (arith, c .before .before .before .before .before .before .before .before .before .before .before .before .before .before .before .before .before .before .before .before .before .before .shared-slice-known .given i)) in
-    (a .says, sure-written (set-up (c .before .before .before .before .before .before .before .before .before .before .before .before .before .before .before .before)) sheet (few (c .before .before .before .before .before .before .before .before .before .before .before .before .before .before .before .before .before .before .before)) bytes (c .before .before .before .before .before .before .before .before .before .before .before .before .before .before .before .before .before .before .before .before .before .before .before .args .out .now) (c .before .before .before .before .before .before .before .before .before .foretell .ensures) (c .before .before .before .before .before .before .before .n .given .1) (omega (arith, c .before .before .before .before .before .if3 .left)) a)
+    let a = passed-settled (set-up (c .before .before .before .before .before .before .before .before .before .before .before .before .before .before)) (few (c .before .before .before .before .before .before .before .before .before .before .before .before .before .before .before .before .before)) (c .before .before .run .ensures) in
+    let filled = c .before .before .before .before .before .before .before .before .before .before .before .sheet .ensures ∙ ap (sheet _) (c .before .before .before .before .before .before .before .before .before .before .before .before .bases .ensures) in
+    let bytes = all-bytes (c .before .before .before .before .before .before .before .before .before .before .before .before .before .before .before .before .before .before .before .before .before .args .s .now) (λ i. omega (arith, c .before .before .before .before .before .before .before .before .before .before .before .before .before .before .before .before .before .before .before .before .shared-slice-known .given i)) in
+    (a .says, sure-written (set-up (c .before .before .before .before .before .before .before .before .before .before .before .before .before .before)) filled (few (c .before .before .before .before .before .before .before .before .before .before .before .before .before .before .before .before .before)) bytes (c .before .before .before .before .before .before .before .before .before .before .before .before .before .before .before .before .before .before .before .before .before .args .out .now) (c .before .before .before .before .before .before .before .before .before .foretell .ensures) (c .before .before .before .before .before .before .before .n .given .1) (omega (arith, c .before .before .before .before .before .if3 .left)) a)
 
 pub settled-spec : {M : Type 1} → statement M
 settled-spec =
@@ -90,10 +87,9 @@ settled-spec =
     returns
     of-requires
     returns-2
-    slice-aggregate-fill-sheet
+    slice-aggregate-sheet
     bases-requires
-    slice-aggregate-fill-sheet-2
-    fill-sheet-requires
+    sheet-requires
     slice-aggregate-foretell
     foretell-requires
     enum-known-f
