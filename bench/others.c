@@ -1,4 +1,4 @@
-/* stb_image (its SSE2 code is on, its smoothing of chroma cannot be turned off) and the crate jpeg-decoder. */
+/* stb_image (on x86-64 its SSE2 code is on; its smoothing of chroma cannot be turned off) and the crate jpeg-decoder. */
 #include "decoders.h"
 
 #include <string.h>

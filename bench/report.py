@@ -1,30 +1,35 @@
 """The table of bench/run, and docs/SPEED.md around it."""
 import datetime
 import os
+import platform
 import re
 import statistics
 import subprocess
 import sys
 
-OTHERS = [("turbo-vectors", "turbo, SIMD"), ("turbo", "turbo, no SIMD"), ("crate-vectors", "jpeg-decoder, SSSE3"),
-          ("crate", "jpeg-decoder, scalar"), ("stb", "stb_image")]
+PROCESSOR = platform.machine()
+# the crate's vector code for other processors than x86-64 wants a compiler that is no stable one: there its two builds are the same code
+VECTORS = [("crate-vectors", "jpeg-decoder, SSSE3")] if PROCESSOR == "x86_64" else []
+OTHERS = [("turbo-vectors", "turbo, SIMD"), ("turbo", "turbo, no SIMD"), *VECTORS, ("crate", "jpeg-decoder, scalar"), ("stb", "stb_image")]
 OURS = ["inspect", "decode", "settle"]
-TARGETS = (("turbo", 0.45), ("crate-vectors", 0.8), ("crate", 0.8))
-START, END = "<!-- made by bench/run: from here -->", "<!-- made by bench/run: to here -->"
+TARGETS = [("turbo", 0.45), *((name, 0.8) for name, _ in VECTORS), ("crate", 0.8)]
+START, END = f"<!-- made by bench/run on {PROCESSOR}: from here -->", f"<!-- made by bench/run on {PROCESSOR}: to here -->"
 
 TEXT = """# Speed
 
-How fast the calls are, beside decoders that people use. `bench/run` measures it all again and writes the part between the two marks
-below; a machine on which nothing else runs gives times that mean something.
+How fast the calls are, beside decoders that people use, on each kind of processor that they were timed on. `bench/run` measures it all
+again and writes the part below that is its processor's; a machine on which nothing else runs gives times that mean something.
 
-Ours is the proved archive as `./library` builds it (x86-64, no vector code by hand). `decode` is given the record and both buffers, and
-does what its contract says: it reads the whole scan, writes nothing, and then reads it again and writes. `inspect` reads the scan
-once. `settle` has a buffer of four times the file. Times of the others are of a whole decoding from the file's bytes to RGB or grey:
+Ours is the proved archive as `./library` builds it for that processor (no vector code by hand). `decode` is given the record and both
+buffers, and does what its contract says: it reads the whole scan, writes nothing, and then reads it again and writes. `inspect` reads
+the scan once. `settle` has a buffer of four times the file. Times of the others are of a whole decoding from the file's bytes to RGB or
+grey:
 
 - libjpeg-turbo as the distribution builds it, accurate integer transform, chroma not smoothed: nearest to what ours does. Without
   SIMD is the same library with `JSIMD_FORCENONE=1`.
-- jpeg-decoder, the Rust crate, with one worker (its source is changed in that one word), with its SSSE3 code and without.
-- stb_image, with its SSE2 code. It and jpeg-decoder smooth chroma, which costs them time and cannot be turned off.
+- jpeg-decoder, the Rust crate, with one worker (its source is changed in that one word); on x86-64 with its SSSE3 code and without, on
+  others without, since its code for them wants a compiler that is no stable one.
+- stb_image, on x86-64 with its SSE2 code. It and jpeg-decoder smooth chroma, which costs them time and cannot be turned off.
 
 All are in one process and take turns; a time is processor time, the best of all turns, and of that the median over programs in which
 the parts are linked in another order and with other padding, since the place of the code alone moves a time by some per cent. Before
@@ -69,12 +74,12 @@ def package(name):
 
 
 def machine():
-    with open("/proc/cpuinfo") as info:
-        name = re.search(r"model name\s*:\s*(.*)", info.read())
+    told = subprocess.run(["lscpu"], stdout=subprocess.PIPE, stderr=subprocess.DEVNULL, check=False, env={**os.environ, "LC_ALL": "C"})
+    name = re.search(r"Model name:\s*(.*)", told.stdout.decode())
     packages = (("libjpeg-turbo", "libjpeg62-turbo"), ("jpeg-decoder", "librust-jpeg-decoder-dev"), ("stb", "libstb-dev"))
     versions = [f"{label} {package(name)}" for label, name in packages]
     compilers = [version(["gcc", "--version"]), version(["rustc", "--version"])]
-    return [f"{name[1] if name else 'unknown processor'}, one thread; {datetime.date.today().isoformat()}.",
+    return [f"{name[1] if name else 'unknown processor'} ({PROCESSOR}), one thread; {datetime.date.today().isoformat()}.",
             f"{'; '.join(versions)}. Built by {' and '.join(compilers)}; the archive by the toolchain's own compiler."]
 
 
@@ -152,5 +157,9 @@ def table(classes, growing, found, turns, orders, brief):
 
 
 def write(path, text):
+    """The page around the parts; this processor's part is made anew, and those of other processors stay."""
+    with open(path) as old:
+        others = [part for part in re.findall(r"<!-- made by bench/run on .*?: from here -->.*?: to here -->\n", old.read(), re.S)
+                  if not part.startswith(START)]
     with open(path, "w") as out:
-        out.write(f"{TEXT}\n{START}\n\n{text}\n\n{END}\n")
+        out.write("\n".join([TEXT, *others, f"{START}\n\n{text}\n\n{END}\n"]))

@@ -1,4 +1,4 @@
-//! The crate jpeg-decoder for C, twice: with its own vector code (SSSE3) and without.
+//! The crate jpeg-decoder for C, twice: with its own vector code (SSSE3 on x86-64; on other processors a stable compiler builds none) and without.
 
 use std::io::Cursor;
 use std::slice;
