@@ -10,9 +10,9 @@ use mir.Facts.{toZ-pos}
 use borrow.Author.Needs.{needs}
 use Rattle.whole.specs.Powers.{power-is}
 use Rattle.whole.specs.Held.{Held, plain, less-fits, less}
-use Rattle.jpeg_block.proofs.Meanings.{meaning-low, meaning-high}
-use Rattle.jpeg_block.proofs.meant.Statement.{statement}
-use Rattle.jpeg_block.proofs.meant.Tie as tie
+use Rattle.jpeg_value.proofs.Meanings.{meaning-low, meaning-high}
+use Rattle.jpeg_value.proofs.meant.Statement.{statement}
+use Rattle.jpeg_value.proofs.meant.Tie as tie
 
 shl-span : tie.Need-shl-span
 shl-span c = search needs

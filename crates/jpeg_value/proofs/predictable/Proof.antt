@@ -6,8 +6,8 @@ use mir.Syntax.{w64}
 use mir.Val.{toZ, ofZ}
 use mir.Facts.{toZ-ofZ}
 use Rattle.reading.specs.Tests.{_and_}
-use Rattle.jpeg_block.proofs.predictable.Statement.{statement}
-use Rattle.jpeg_block.proofs.predictable.Tie as tie
+use Rattle.jpeg_value.proofs.predictable.Statement.{statement}
+use Rattle.jpeg_value.proofs.predictable.Tie as tie
 
 back : (c : tie.Start) → toZ w64 (ofZ w64 (c .args .level)) ≡ c .args .level
 back c = toZ-ofZ (c .fits .level)

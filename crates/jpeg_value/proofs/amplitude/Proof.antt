@@ -5,9 +5,9 @@ use mir.Facts.{toZ-ofZ}
 use borrow.Author.Needs.{sfits-of, needs}
 use Rattle.reading.specs.Reader.{got}
 use Rattle.reading.proofs.BitAnswers.{read-sized}
-use Rattle.jpeg_block.proofs.Meanings.{amplitude-is, amplitude-cut}
-use Rattle.jpeg_block.proofs.amplitude.Statement.{statement}
-use Rattle.jpeg_block.proofs.amplitude.Tie as tie
+use Rattle.jpeg_value.proofs.Meanings.{amplitude-is, amplitude-cut}
+use Rattle.jpeg_value.proofs.amplitude.Statement.{statement}
+use Rattle.jpeg_value.proofs.amplitude.Tie as tie
 
 read-requires : tie.Need-read-requires
 read-requires c κs = search needs
