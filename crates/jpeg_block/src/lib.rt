@@ -5,41 +5,18 @@
 // place, where they are inlined.
 ghost use mathlib.Core.Path.{_≡_};
 ghost use mathlib.Core.Bool.{cond};
-ghost use Prim.Native.Nat.{_<_, _≤_, _^_};
+ghost use Prim.Native.Nat.{_<_, _≤_};
 ghost use lib.Dec.{eqb};
-ghost use Rattle.reading.specs.Bits.{one, meaning, shortAmplitude};
+ghost use Rattle.reading.specs.Bits.{one};
 ghost use Rattle.reading.specs.Huffman.{tableAt};
-ghost use Rattle.reading.specs.Block.{block, zeros, predictable};
-ghost use Rattle.reading.specs.Answers.{amplitudeRead, said, levelsOr, levelsOf};
+ghost use Rattle.reading.specs.Block.{block, zeros};
+ghost use Rattle.reading.specs.Answers.{said, levelsOr, levelsOf};
 ghost use Rattle.jpeg_block.specs.Step.{askedFor, askAt, stepRead, valueAt, stepped};
 use reading::AmplitudeRead;
 use reading::Bits;
 use reading::BlockRead;
 use reading::Fault;
-use reading::Level;
 use reading::NumberRead;
-
-// What n bits that make v mean: negative in the lower half. With no bits v is 0, and so is what it means.
-fn meant(v: usize, n: usize) -> i32
-    requires { ⌜ (n ≤ 16) × (v < 2 ^ n) ⌝ }
-    ensures { λ r. ⌜ r ≡ meaning n v ⌝ }
-{
-    let span = 1usize << n;
-    if 2 * v < span {
-        return (v + 1) as i32 - span as i32;
-    }
-    v as i32
-}
-
-// n bits, at most 16, as the number that they mean.
-pub fn amplitude(s: &[u8], b: Bits, n: usize) -> AmplitudeRead
-    ensures { λ r. ⌜ amplitudeRead r ≡ shortAmplitude (one (now (s .entry))) n b ⌝ }
-{
-    match jpeg_bits::read(s, b, n) {
-        NumberRead::Stop(f) => AmplitudeRead::Stop(f),
-        NumberRead::Got(v, q) => AmplitudeRead::Got(meant(v, n), q),
-    }
-}
 
 // What a symbol asks for: the end, 16 zeros, or a run of zeros and a value of a size.
 enum Asked {
@@ -91,27 +68,20 @@ enum StepRead {
     Stop(Fault),
 }
 
-// A first level can predict the next one.
-fn predictable(level: i64) -> bool
-    ensures { λ r. ⌜ r ≡ predictable level ⌝ }
-{
-    Level::LEAST <= level && level <= Level::MOST
-}
-
 // The level that a value of `size` bits makes at a place: the first is the prediction and a difference. Their sum is taken in 64
 // bits, so that nothing is asked of the prediction.
 fn value(s: &[u8], b: Bits, at: usize, size: usize, pred: i32) -> StepRead
     requires { ⌜ size ≤ 11 ⌝ }
     ensures { λ r. ⌜ stepRead r ≡ valueAt (one (now (s .entry))) at size pred b ⌝ }
 {
-    match amplitude(s, b, size) {
+    match jpeg_value::amplitude(s, b, size) {
         AmplitudeRead::Stop(f) => StepRead::Stop(f),
         AmplitudeRead::Got(v, q) => {
             if at != 0 {
                 return StepRead::Put(at, v as i16, q);
             }
             let sum = pred as i64 + v as i64;
-            if predictable(sum) {
+            if jpeg_value::predictable(sum) {
                 return StepRead::Put(at, sum as i16, q);
             }
             StepRead::Stop(Fault::Broken)
