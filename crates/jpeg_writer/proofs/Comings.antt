@@ -30,8 +30,8 @@ use Rattle.jpeg_scan.specs.declared.CursorRead.{CursorRead}
 use Rattle.jpeg_scan.specs.Plans.{chan, Stands}
 use Rattle.jpeg_scan.specs.Steps.{marked, onTo, behindMarker, restarted, ahead, resumed, before}
 use Rattle.jpeg_scan.proofs.Onward.{ahead-none, resumed-none, wentBy, went-by, blockAt, past, resumed-block, channel-here, not-due, inside, block-stop, block-next, due-is, code-is, restart-next, restart-done}
-use Rattle.jpeg_writer.specs.declared.Outcome.{Outcome}
-use Rattle.jpeg_writer.specs.Page.{Spot}
+use Rattle.jpeg_pen.specs.declared.Outcome.{Outcome}
+use Rattle.jpeg_pen.specs.Page.{Spot}
 use Rattle.jpeg_writer.specs.Pass.{finalBy, Moves, lastPart, settling, writtenOn, coming, resuming}
 
 abbrev Blocks : Type 0
