@@ -1,5 +1,3 @@
-pub mod Marks
-pub mod Standing
 pub mod Onward
 pub mod Samples
 pub mod Ends

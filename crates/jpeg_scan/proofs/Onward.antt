@@ -26,12 +26,13 @@ use Rattle.reading.specs.Answers.{said, levelsOf}
 use Rattle.reading.specs.Scan as scan
 use Rattle.reading.proofs.Readings.{onward-same}
 use Rattle.reading.proofs.BlockAnswers.{Taken, told}
-use Rattle.jpeg_scan.specs.declared.Plan.{Plan}
-use Rattle.jpeg_scan.specs.declared.Halt.{Halt}
-use Rattle.jpeg_scan.specs.declared.Halt.the-variants.{No, Yes}
-use Rattle.jpeg_scan.specs.declared.CursorRead.{CursorRead}
-use Rattle.jpeg_scan.specs.Plans.{chan, Stands}
-use Rattle.jpeg_scan.specs.Steps.{marked, onTo, behindMarker, restarted, begun, ahead, resumed, before}
+use Rattle.jpeg_plan.specs.declared.Plan.{Plan}
+use Rattle.jpeg_plan.specs.declared.Halt.{Halt}
+use Rattle.jpeg_plan.specs.declared.Halt.the-variants.{No, Yes}
+use Rattle.jpeg_plan.specs.declared.CursorRead.{CursorRead}
+use Rattle.jpeg_plan.specs.Plans.{chan, Stands}
+use Rattle.jpeg_plan.specs.Restart.{marked, onTo, behindMarker, restarted}
+use Rattle.jpeg_scan.specs.Steps.{begun, ahead, resumed, before}
 
 -- ---- blocks put before a reading
 
@@ -83,16 +84,6 @@ went x f = wentBy (x .halt) (x .cursor) f
 
 pub went-by : {x y : CursorRead} → y ≡ x → {h : Halt} → x .halt ≡ h → (f : ScanCursor → Read Bits (List (List ℤ))) → went y f ≡ wentBy h (x .cursor) f
 went-by {x} {y} e {h} g f = ap (λ (z : CursorRead). went z f) e ∙ ap (λ (k : Halt). wentBy k (x .cursor) f) g
-
--- a restart counts no block
-pub restart-done : (s : List ℕ) (interval m : ℕ) (q : ScanCursor) {x : CursorRead} → x ≡ restarted s interval m q → x .cursor .done ≡ q .done
-unfolding restarted
-restart-done s interval m q e = ap (λ (x : CursorRead). x .cursor .done) e ∙ go (dueBefore interval m) (marked s (q .bits) (restartBefore interval m))
-  where
-    go : (t x : Bool) → (cond t (cond x (onTo (behindMarker q)) (record { halt = Yes Broken; cursor = q })) (onTo q)) .cursor .done ≡ q .done
-    go true true = refl
-    go true false = refl
-    go false x = refl
 
 -- ---- one block
 

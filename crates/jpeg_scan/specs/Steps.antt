@@ -1,47 +1,25 @@
--- The steps in which a scan is read: the restart before an MCU, the blocks of an MCU, the end; and what is left in the scratch.
+-- The steps in which a scan is read: the blocks from a cursor on, the blocks of an MCU; and what is left in the scratch.
 use mathlib.Core.Path.{_≡_}
 use mathlib.Core.List.{List, [], _∷_, _++_}
-use mathlib.Core.Bool.{Bool, true, false, cond}
+use mathlib.Core.Bool.{Bool, true, false}
 use Prim.Native.Nat.{ℕ, zero, suc, _+_, _*_, _-_, min}
 use lib.ListN.{length, getD, set, take, drop}
 use lib.IntN.{ℤ, pos}
 use Rattle.reading.specs.declared.Bits.{Bits}
-use Rattle.reading.specs.declared.Fault.the-variants.{Broken}
 use Rattle.reading.specs.declared.Record.{Record}
 use Rattle.reading.specs.declared.ScanCursor.{ScanCursor}
-use Rattle.reading.specs.Tests.{_and_, isAt, over}
+use Rattle.reading.specs.Tests.{over}
 use Rattle.reading.specs.Reader.{Read, got, fault, Reader, _>>=_, give}
-use Rattle.reading.specs.Bits.{Source, padded, file}
+use Rattle.reading.specs.Bits.{Source, file}
 use Rattle.reading.specs.Block.{block}
-use Rattle.reading.specs.Layout.{channelOf, dueBefore, restartBefore}
+use Rattle.reading.specs.Layout.{channelOf}
 use Rattle.reading.specs.Scan as scan
 use Rattle.reading.specs.Reading.{dequantized, blockSamples, allSamples}
-use Rattle.jpeg_scan.specs.declared.Plan.{Plan}
-use Rattle.jpeg_scan.specs.declared.Halt.{Halt}
-use Rattle.jpeg_scan.specs.declared.Halt.the-variants.{No, Yes}
-use Rattle.jpeg_scan.specs.declared.CursorRead.{CursorRead}
-use Rattle.jpeg_scan.specs.Plans.{Stands}
-
--- ---- the restart
-
--- padding, then 255 and a code
-unfoldable pub marked : List ℕ → Bits → ℕ → Bool
-marked s b code = padded b and isAt s (b .at) 255 and isAt s (b .at + 1) code
-
-abbrev pub onTo : ScanCursor → CursorRead
-onTo q = record { halt = No; cursor = q }
-
--- behind a marker: the predictors become 0
-abbrev pub behindMarker : ScanCursor → ScanCursor
-behindMarker q = record { bits = scan.firstBit (q .bits .at + 2); predictors = scan.noPredictors; done = q .done }
-
--- before MCU m: where a restart is due, padding and its marker
-unfoldable pub restarted : List ℕ → ℕ → ℕ → ScanCursor → CursorRead
-unfolding marked
-restarted s interval m q =
-    cond (dueBefore interval m)
-    (cond (marked s (q .bits) (restartBefore interval m)) (onTo (behindMarker q)) (record { halt = Yes Broken; cursor = q }))
-    (onTo q)
+use Rattle.jpeg_plan.specs.declared.Plan.{Plan}
+use Rattle.jpeg_plan.specs.declared.Halt.{Halt}
+use Rattle.jpeg_plan.specs.declared.Halt.the-variants.{No, Yes}
+use Rattle.jpeg_plan.specs.declared.CursorRead.{CursorRead}
+use Rattle.jpeg_plan.specs.Plans.{Stands}
 
 -- ---- the blocks from a cursor on
 

@@ -23,13 +23,15 @@ use Rattle.reading.specs.Answers.{said, levelsOf}
 use Rattle.reading.specs.Scan as scan
 use Rattle.reading.specs.Settled.{Written, Coded, onto, cut, blockBits, predictors, written}
 use Rattle.reading.proofs.BlockAnswers.{Taken, told}
-use Rattle.jpeg_scan.specs.declared.Plan.{Plan}
-use Rattle.jpeg_scan.specs.declared.Halt.{Halt}
-use Rattle.jpeg_scan.specs.declared.Halt.the-variants.{No, Yes}
-use Rattle.jpeg_scan.specs.declared.CursorRead.{CursorRead}
-use Rattle.jpeg_scan.specs.Plans.{chan, Stands}
-use Rattle.jpeg_scan.specs.Steps.{marked, onTo, behindMarker, restarted, ahead, resumed, before}
-use Rattle.jpeg_scan.proofs.Onward.{ahead-none, resumed-none, wentBy, went-by, blockAt, past, resumed-block, channel-here, not-due, inside, block-stop, block-next, due-is, code-is, restart-next, restart-done}
+use Rattle.jpeg_plan.specs.declared.Plan.{Plan}
+use Rattle.jpeg_plan.specs.declared.Halt.{Halt}
+use Rattle.jpeg_plan.specs.declared.Halt.the-variants.{No, Yes}
+use Rattle.jpeg_plan.specs.declared.CursorRead.{CursorRead}
+use Rattle.jpeg_plan.specs.Plans.{chan, Stands}
+use Rattle.jpeg_plan.specs.Restart.{marked, onTo, behindMarker, restarted}
+use Rattle.jpeg_scan.specs.Steps.{ahead, resumed, before}
+use Rattle.jpeg_plan.proofs.Marks.{restart-done}
+use Rattle.jpeg_scan.proofs.Onward.{ahead-none, resumed-none, wentBy, went-by, blockAt, past, resumed-block, channel-here, not-due, inside, block-stop, block-next, due-is, code-is, restart-next}
 use Rattle.jpeg_pen.specs.declared.Outcome.{Outcome}
 use Rattle.jpeg_pen.specs.Page.{Spot}
 use Rattle.jpeg_writer.specs.Pass.{finalBy, Moves, lastPart, settling, writtenOn, coming, resuming}

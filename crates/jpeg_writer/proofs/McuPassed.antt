@@ -15,9 +15,9 @@ use Rattle.reading.specs.declared.ScanCursor.{ScanCursor}
 use Rattle.reading.specs.Answers.{said, levelsOf}
 use Rattle.reading.specs.Scan as scan
 use Rattle.reading.specs.Settled.{Written, onto, blockBy}
-use Rattle.jpeg_scan.specs.declared.Plan.{Plan}
-use Rattle.jpeg_scan.specs.declared.Halt.the-variants.{No, Yes}
-use Rattle.jpeg_scan.specs.Plans.{chan, Stands}
+use Rattle.jpeg_plan.specs.declared.Plan.{Plan}
+use Rattle.jpeg_plan.specs.declared.Halt.the-variants.{No, Yes}
+use Rattle.jpeg_plan.specs.Plans.{chan, Stands}
 use Rattle.jpeg_scan.proofs.Onward.{blockAt, past}
 use Rattle.jpeg_scan.proofs.OneMcu.{head, below, Along, along-none, along-at, along-more, along-whole, along-out, entered, entered-later, entered-out, entered-here}
 use Rattle.jpeg_pen.specs.declared.Outcome.{Outcome}

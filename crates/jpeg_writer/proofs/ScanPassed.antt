@@ -19,13 +19,13 @@ use Rattle.reading.specs.Layout.{dueBefore, restartBefore}
 use Rattle.reading.specs.Reader.{Read, got, fault}
 use Rattle.reading.specs.Scan as scan
 use Rattle.reading.specs.Settled.{cut}
-use Rattle.jpeg_scan.specs.declared.Plan.{Plan}
-use Rattle.jpeg_scan.specs.declared.Halt.{Halt}
-use Rattle.jpeg_scan.specs.declared.Halt.the-variants.{No, Yes}
-use Rattle.jpeg_scan.specs.declared.CursorRead.{CursorRead}
-use Rattle.jpeg_scan.specs.Plans.{Stands}
-use Rattle.jpeg_scan.specs.Steps.{restarted}
-use Rattle.jpeg_scan.proofs.Onward.{restart-done}
+use Rattle.jpeg_plan.specs.declared.Plan.{Plan}
+use Rattle.jpeg_plan.specs.declared.Halt.{Halt}
+use Rattle.jpeg_plan.specs.declared.Halt.the-variants.{No, Yes}
+use Rattle.jpeg_plan.specs.declared.CursorRead.{CursorRead}
+use Rattle.jpeg_plan.specs.Plans.{Stands}
+use Rattle.jpeg_plan.specs.Restart.{restarted}
+use Rattle.jpeg_plan.proofs.Marks.{restart-done}
 use Rattle.jpeg_scan.proofs.OneMcu.{head}
 use Rattle.jpeg_writer.specs.declared.Moved.{Moved}
 use Rattle.jpeg_pen.specs.declared.Outcome.{Outcome}

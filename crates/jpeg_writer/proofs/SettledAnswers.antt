@@ -20,9 +20,9 @@ use Rattle.reading.specs.Bits.{ended}
 use Rattle.reading.specs.Reader.{Read, got, fault}
 use Rattle.reading.specs.Scan as scan
 use Rattle.reading.specs.Settled.{written, settledScan, settledRead, settledOf, scanSettled, laidOver}
-use Rattle.jpeg_scan.specs.declared.Plan.{Plan}
+use Rattle.jpeg_plan.specs.declared.Plan.{Plan}
 use Rattle.jpeg_scan.specs.Steps.{ahead}
-use Rattle.jpeg_scan.proofs.Standing.{Ready}
+use Rattle.jpeg_plan.proofs.Standing.{Ready}
 use Rattle.jpeg_scan.proofs.Ends.{scan-stop, scan-done, scan-open}
 use Rattle.reading.proofs.Counted.{scan-levels}
 use Rattle.jpeg_pen.specs.declared.Outcome.the-variants.{Done}

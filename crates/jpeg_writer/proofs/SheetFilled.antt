@@ -9,8 +9,8 @@ use lib.ListN.{length, getD}
 use Rattle.reading.specs.Huffman.{Table, tableAt, codeOf}
 use Rattle.reading.specs.Settled.{blockBy, blockBits}
 use Rattle.reading.specs.Scan as scan
-use Rattle.jpeg_scan.specs.declared.Plan.{Plan}
-use Rattle.jpeg_scan.specs.Plans.{Stands}
+use Rattle.jpeg_plan.specs.declared.Plan.{Plan}
+use Rattle.jpeg_plan.specs.Plans.{Stands}
 use Rattle.jpeg_codes.specs.Words.{codeWords, coderOf}
 use Rattle.jpeg_codes.specs.Sheets.{wordsIn, sheet}
 use Rattle.jpeg_codes.proofs.SheetFilled.{sheet-length, sheet-part}

@@ -32,8 +32,8 @@ use Rattle.reading.proofs.FileBytes.{AllBytes}
 use Rattle.reading.proofs.Places.{channel-in}
 use Rattle.reading.proofs.SettledLength.{settled-short}
 use Rattle.reading.proofs.WantOfCode.{ZeroCoded, no-want}
-use Rattle.jpeg_scan.specs.declared.Plan.{Plan}
-use Rattle.jpeg_scan.proofs.Standing.{Readable, readable-says, lumas-some, Ready}
+use Rattle.jpeg_plan.specs.declared.Plan.{Plan}
+use Rattle.jpeg_plan.proofs.Standing.{Readable, readable-says, lumas-some, Ready}
 use Rattle.jpeg_codes.specs.Words.{wordOf, codeWords}
 use Rattle.jpeg_codes.specs.Sheets.{sheet, wordsIn, zerosCoded, sure}
 use Rattle.jpeg_writer.specs.Sheets.{basesOf}

@@ -16,10 +16,10 @@ use Rattle.reading.specs.Bits.{ended}
 use Rattle.reading.specs.Layout.{channelOf}
 use Rattle.reading.specs.Scan as scan
 use Rattle.reading.specs.Settled.{Coded, onto, blockBits, written, scanSettled}
-use Rattle.jpeg_scan.specs.declared.Plan.{Plan}
-use Rattle.jpeg_scan.specs.declared.Halt.{Halt}
-use Rattle.jpeg_scan.specs.declared.Halt.the-variants.{No, Yes}
-use Rattle.jpeg_scan.specs.Plans.{Stands}
+use Rattle.jpeg_plan.specs.declared.Plan.{Plan}
+use Rattle.jpeg_plan.specs.declared.Halt.{Halt}
+use Rattle.jpeg_plan.specs.declared.Halt.the-variants.{No, Yes}
+use Rattle.jpeg_plan.specs.Plans.{Stands}
 use Rattle.jpeg_scan.specs.Steps.{ahead, resumed}
 use Rattle.jpeg_writer.specs.declared.Moved.{Moved}
 use Rattle.jpeg_pen.specs.declared.Outcome.{Outcome}

@@ -2,7 +2,7 @@
 use Prim.Native.Nat.{ℕ}
 use mathlib.Core.List.{List, [], _∷_}
 use lib.ListN.{getD}
-use Rattle.jpeg_scan.specs.declared.Plan.{Plan}
+use Rattle.jpeg_plan.specs.declared.Plan.{Plan}
 
 -- where the six tables stand
 abbrev pub basesOf : Plan → List ℕ

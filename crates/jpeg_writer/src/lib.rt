@@ -12,14 +12,14 @@ ghost use Rattle.jpeg_writer.specs.Puts.{Puts};
 ghost use Rattle.jpeg_codes.specs.Words.{coderOf};
 ghost use Rattle.jpeg_turns.specs.Turns.{zerosAt};
 ghost use Rattle.jpeg_writer.specs.Steps.{Quiet, wordAt};
-ghost use Rattle.jpeg_scan.specs.Plans.{planFor};
+ghost use Rattle.jpeg_plan.specs.Plans.{planFor};
 ghost use Rattle.jpeg_codes.specs.Sheets.{sheet, wordsIn, sure};
 ghost use Rattle.jpeg_writer.specs.Sheets.{basesOf};
 ghost use Rattle.jpeg_writer.specs.Pass.{finalBy, Fit, Moves, lastPart, Closes, Went, Ran, Measures, foretold};
 use jpeg_pen::Outcome;
 use jpeg_pen::Pen;
-use jpeg_scan::Halt;
-use jpeg_scan::Plan;
+use jpeg_plan::Halt;
+use jpeg_plan::Plan;
 use reading::BlockRead;
 use reading::Fault;
 use reading::Record;
@@ -127,13 +127,13 @@ fn mark(out: &mut [u8], ink: Outcome, m: usize, interval: usize) -> Outcome
     requires { ⌜ Fit ink ⌝ }
     ensures { λ r. ⌜ Moves (cut (dueBefore interval m) (restartBefore interval m)) ink (now (out .entry)) r (now (out .exit)) ⌝ }
 {
-    if !jpeg_scan::restart_due(m, interval) {
+    if !jpeg_plan::restart_due(m, interval) {
         return ink;
     }
     match ink {
         Outcome::NoCode => Outcome::NoCode,
         Outcome::Done(p) => {
-            let code = jpeg_scan::restart_code(m, interval);
+            let code = jpeg_plan::restart_code(m, interval);
             Outcome::Done(jpeg_pen::restart(out, p, code as u8))
         }
     }
@@ -178,7 +178,7 @@ fn mcu(s: &[u8], plan: Plan, words: &[u32], from: ScanCursor, pen: Outcome, out:
         if plan.blocks <= done {
             break 'walk Halt::No;
         }
-        let c = jpeg_scan::channel(j, plan.lumas);
+        let c = jpeg_plan::channel(j, plan.lumas);
         let prediction = predictors[c];
         match jpeg_block::block(
             &s[..start],
@@ -225,12 +225,12 @@ fn run(s: &[u8], plan: Plan, words: &[u32], out: &mut [u8]) -> ScanSettled
     let mut m = 0usize;
     'mcus: loop {
         if blocks <= cursor.done {
-            if jpeg_scan::at_end(s, cursor.bits) {
+            if jpeg_plan::at_end(s, cursor.bits) {
                 break 'mcus last(out, ink);
             }
             break 'mcus ScanSettled::Stop(Fault::Broken);
         }
-        let a = jpeg_scan::restart(s, cursor, m, interval);
+        let a = jpeg_plan::restart(s, cursor, m, interval);
         let h = a.halt;
         match h {
             Halt::Yes(f) => {

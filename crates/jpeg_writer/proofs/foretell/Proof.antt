@@ -7,8 +7,8 @@ use lib.ListN.{length}
 use borrow.Author.Needs.{needs}
 use borrow.Author.Tests.{not-true, not-false}
 use Rattle.reading.specs.Settled.{settledOf}
-use Rattle.jpeg_scan.specs.declared.Plan.{Plan}
-use Rattle.jpeg_scan.proofs.Standing.{Ready, ready}
+use Rattle.jpeg_plan.specs.declared.Plan.{Plan}
+use Rattle.jpeg_plan.proofs.Standing.{Ready, ready}
 use Rattle.jpeg_codes.specs.Sheets.{sure}
 use Rattle.jpeg_writer.specs.Pass.{foretold}
 use Rattle.jpeg_writer.proofs.SettledAnswers.{measured-settled}

@@ -5,8 +5,8 @@ use native.Mathlib.Omega.{arith}
 use lib.Seq.{length-take-le}
 use borrow.Author.Needs.{needs}
 use Rattle.reading.proofs.FileBytes.{all-bytes}
-use Rattle.jpeg_scan.specs.declared.Plan.{Plan}
-use Rattle.jpeg_scan.proofs.Standing.{Ready, ready, unready}
+use Rattle.jpeg_plan.specs.declared.Plan.{Plan}
+use Rattle.jpeg_plan.proofs.Standing.{Ready, ready, unready}
 use Rattle.jpeg_codes.specs.Sheets.{sheet}
 use Rattle.jpeg_writer.proofs.SettledAnswers.{passed-settled, says-stop, settled-many, settled-unread}
 use Rattle.jpeg_writer.proofs.SureScans.{told-stop, told-lacking, told-short, sure-written}
