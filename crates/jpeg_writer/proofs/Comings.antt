@@ -32,8 +32,8 @@ use Rattle.jpeg_plan.specs.Restart.{marked, onTo, behindMarker, restarted}
 use Rattle.jpeg_scan.specs.Steps.{ahead, resumed, before}
 use Rattle.jpeg_plan.proofs.Marks.{restart-done}
 use Rattle.jpeg_scan.proofs.Onward.{ahead-none, resumed-none, wentBy, went-by, blockAt, past, resumed-block, channel-here, not-due, inside, block-stop, block-next, due-is, code-is, restart-next}
-use Rattle.jpeg_writer.specs.declared.Outcome.{Outcome}
-use Rattle.jpeg_writer.specs.Page.{Spot}
+use Rattle.jpeg_pen.specs.declared.Outcome.{Outcome}
+use Rattle.jpeg_pen.specs.Page.{Spot}
 use Rattle.jpeg_writer.specs.Pass.{finalBy, Moves, lastPart, settling, writtenOn, coming, resuming}
 
 abbrev Blocks : Type 0

@@ -2,17 +2,19 @@
 use Prim.Native.Nat.{ℕ}
 use mathlib.Core.Path.{_≡_, refl, sym, ap, _∙_, subst, subst⁻¹}
 use mathlib.Core.Bool.{Bool, true, false}
-use mathlib.Core.List.{List, [], _∷_}
+use mathlib.Core.List.{List}
 use mathlib.Core.Option.{Option, some}
 use Rattle.reading.specs.declared.ScanSettled.the-variants as answer
 use Rattle.reading.specs.Settled.{Written, Coded, onto, cut}
-use Rattle.jpeg_writer.specs.declared.Pen.{Pen}
-use Rattle.jpeg_writer.specs.declared.Outcome.{Outcome}
-use Rattle.jpeg_writer.specs.declared.Outcome.the-variants.{Done, NoCode}
-use Rattle.jpeg_writer.specs.Page.{Spot, spot, bytesAt, Page, page, closedAt, restarted, Proper, Told, Puts}
+use Rattle.jpeg_pen.specs.declared.Pen.{Pen}
+use Rattle.jpeg_pen.specs.declared.Outcome.{Outcome}
+use Rattle.jpeg_pen.specs.declared.Outcome.the-variants.{Done, NoCode}
+use Rattle.jpeg_pen.specs.Page.{Spot, spot, Page, page, Proper, restarted, endAt}
+use Rattle.jpeg_pen.proofs.Closings.{restarted-proper}
+use Rattle.jpeg_writer.specs.Puts.{Told, Puts}
 use Rattle.jpeg_writer.specs.Join.{finalAt}
 use Rattle.jpeg_writer.specs.Pass.{finalBy, Fit, Moves, lastPart, Closes}
-use Rattle.jpeg_writer.proofs.Forwards.{final-put, final-lacks, final-restart, final-on, final-end, restarted-proper}
+use Rattle.jpeg_writer.proofs.Forwards.{final-put, final-lacks, final-restart, final-on, final-end}
 
 -- ---- the pen of an ink
 
@@ -46,14 +48,14 @@ moves-not {due} code ink old e f = subst⁻¹ (λ (d : Bool). Moves (cut d code)
     on (Done p) rest = final-on code rest (page old p)
     on NoCode rest = refl
 
-pub moves-mark : {due : Bool} {code : ℕ} {p q : Pen} (old : List ℕ) {new : List ℕ} {ink : Outcome} → due ≡ true → ink ≡ Done p → page new q ≡ restarted (page old p) code → Moves (cut due code) ink old (Done q) new
+pub moves-mark : {due : Bool} {code : ℕ} {p q : Pen} (old : List ℕ) {new : List ℕ} {ink : Outcome} → due ≡ true → ink ≡ Done p → Proper p → page new q ≡ restarted (page old p) code → Moves (cut due code) ink old (Done q) new
 unfolding finalBy
-moves-mark {due} {code} {p} {q} old {new} {ink} d e g =
+moves-mark {due} {code} {p} {q} old {new} {ink} d e h g =
     subst⁻¹ (λ (i : Outcome). Moves (cut due code) i old (Done q) new) e
     (subst⁻¹ (λ (t : Bool). Moves (cut t code) (Done p) old (Done q) new) d
     (record {
-      fit = subst⁻¹ (λ (x : Page). Proper (x .pen)) g (restarted-proper (page old p) code);
-      same = λ rest. final-restart code rest (page old p) ∙ ap (finalAt rest) (sym g);
+      fit = subst⁻¹ (λ (x : Page). Proper (x .pen)) g (restarted-proper (page old p) h code);
+      same = λ rest. final-restart code rest (page old p) h ∙ ap (finalAt rest) (sym g);
     }))
 
 -- ---- the end
@@ -62,8 +64,8 @@ pub closes-none : {ink : Outcome} (old new : List ℕ) → ink ≡ NoCode → Cl
 unfolding finalBy
 closes-none {ink} old new e = subst⁻¹ (λ (i : Outcome). Closes (finalBy i old (some lastPart)) answer.NoCode new) e (record { told = refl })
 
-pub closes-end : {ink : Outcome} {p : Pen} (old : List ℕ) {new : List ℕ} {n : ℕ} → ink ≡ Done p → spot new n ≡ bytesAt (closedAt (page old p)) (255 ∷ 217 ∷ []) → Closes (finalBy ink old (some lastPart)) (answer.Done n) new
+pub closes-end : {ink : Outcome} {p : Pen} (old : List ℕ) {new : List ℕ} {n : ℕ} → ink ≡ Done p → Proper p → spot new n ≡ endAt (page old p) → Closes (finalBy ink old (some lastPart)) (answer.Done n) new
 unfolding finalBy
-closes-end {ink} {p} old {new} {n} e g =
+closes-end {ink} {p} old {new} {n} e h g =
     subst⁻¹ (λ (i : Outcome). Closes (finalBy i old (some lastPart)) (answer.Done n) new) e
-    (subst⁻¹ (λ (o : Option Spot). Closes o (answer.Done n) new) (final-end (page old p) ∙ ap some (sym g)) (record { told = (refl, refl) }))
+    (subst⁻¹ (λ (o : Option Spot). Closes o (answer.Done n) new) (final-end (page old p) h ∙ ap some (sym g)) (record { told = (refl, refl) }))

@@ -23,8 +23,8 @@ use Rattle.reading.proofs.Unstuffed.{length-bitsOf}
 use Rattle.reading.proofs.Counted.{Whole, blocks-counted, blocks-whole}
 use Rattle.reading.proofs.SettledLength.{UpTo, up-then, up-wide, code-few, packed-length}
 use Rattle.jpeg_turns.specs.Turns.{categoryOf}
-use Rattle.jpeg_writer.specs.Page.{spot, bytesAt}
-use Rattle.jpeg_writer.proofs.Forwards.{bytes-laid}
+use Rattle.jpeg_pen.specs.Page.{spot, bytesAt}
+use Rattle.jpeg_pen.proofs.Closings.{bytes-laid}
 use Rattle.jpeg_turns.proofs.Turning.{category-few}
 
 -- ---- bits

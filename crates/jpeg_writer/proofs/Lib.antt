@@ -1,8 +1,6 @@
-pub mod Bytes
 pub mod Forwards
 pub mod Writing
 pub mod Turns
-pub mod Symbols
 pub mod Quiets
 pub mod Coders
 pub mod Lengths

@@ -20,7 +20,7 @@ use Rattle.jpeg_plan.specs.declared.Halt.the-variants.{No, Yes}
 use Rattle.jpeg_plan.specs.Plans.{chan, Stands}
 use Rattle.jpeg_scan.proofs.Onward.{blockAt, past}
 use Rattle.jpeg_scan.proofs.OneMcu.{head, below, Along, along-none, along-at, along-more, along-whole, along-out, entered, entered-later, entered-out, entered-here}
-use Rattle.jpeg_writer.specs.declared.Outcome.{Outcome}
+use Rattle.jpeg_pen.specs.declared.Outcome.{Outcome}
 use Rattle.jpeg_codes.specs.Words.{coderOf}
 use Rattle.jpeg_codes.specs.Sheets.{sheet, wordsIn}
 use Rattle.jpeg_writer.specs.Sheets.{basesOf}

@@ -4,8 +4,8 @@ use mathlib.Core.Path.{_≡_, refl, sym, ap, _∙_}
 use mathlib.Core.List.{List, [], _∷_}
 use mathlib.Core.Option.{Option, none, some}
 use Rattle.reading.specs.Settled.{Coded, packFrom}
-use Rattle.jpeg_writer.specs.declared.Pen.{Pen}
-use Rattle.jpeg_writer.specs.Page.{Spot, spot, byteAt, bytesAt, following, packAt, page}
+use Rattle.jpeg_pen.specs.declared.Pen.{Pen}
+use Rattle.jpeg_pen.specs.Page.{Spot, spot, byteAt, bytesAt, following, packAt, page}
 use Rattle.jpeg_writer.specs.Join.{finalAt, codedAt}
 
 -- where writing ends

@@ -28,9 +28,10 @@ use Rattle.jpeg_plan.specs.Restart.{restarted}
 use Rattle.jpeg_plan.proofs.Marks.{restart-done}
 use Rattle.jpeg_scan.proofs.OneMcu.{head}
 use Rattle.jpeg_writer.specs.declared.Moved.{Moved}
-use Rattle.jpeg_writer.specs.declared.Outcome.{Outcome}
-use Rattle.jpeg_writer.specs.declared.Outcome.the-variants.{Done}
-use Rattle.jpeg_writer.specs.Page.{Spot, fresh}
+use Rattle.jpeg_pen.specs.declared.Outcome.{Outcome}
+use Rattle.jpeg_pen.specs.declared.Outcome.the-variants.{Done}
+use Rattle.jpeg_pen.specs.Page.{Spot, fresh}
+use Rattle.jpeg_pen.proofs.Propers.{fresh-proper}
 use Rattle.jpeg_writer.specs.Pass.{finalBy, Fit, Moves, lastPart, Closes, coming, resuming, Behind, Went, closing, Answers, Ran}
 use Rattle.jpeg_writer.proofs.Comings.{coming-none, coming-stop, coming-restart}
 
@@ -51,7 +52,7 @@ begin s n old {q} {ink} e f =
     (subst⁻¹ (λ (i : Outcome). Walk s n old old (scan.opened (n .start)) i 0) f
     (record {
       size = refl;
-      fit = record { some = omega arith; few = omega arith; low = omega arith };
+      fit = fresh-proper 0;
       place = omega arith;
       on = λ p st. refl;
     }))

@@ -25,8 +25,8 @@ use Rattle.jpeg_scan.specs.Steps.{ahead}
 use Rattle.jpeg_plan.proofs.Standing.{Ready}
 use Rattle.jpeg_scan.proofs.Ends.{scan-stop, scan-done, scan-open}
 use Rattle.reading.proofs.Counted.{scan-levels}
-use Rattle.jpeg_writer.specs.declared.Outcome.the-variants.{Done}
-use Rattle.jpeg_writer.specs.Page.{Spot, spot, bytesAt, fresh}
+use Rattle.jpeg_pen.specs.declared.Outcome.the-variants.{Done}
+use Rattle.jpeg_pen.specs.Page.{Spot, spot, bytesAt, fresh}
 use Rattle.jpeg_writer.specs.Join.{scanAt}
 use Rattle.jpeg_writer.specs.Pass.{finalBy, endedAt, settling, coming, closing, Answers, Ran, Measures}
 use Rattle.jpeg_writer.proofs.Forwards.{final-scan}

@@ -1,14 +1,17 @@
 -- What is written, or the want of a code, one part after the other.
-use Prim.Native.Nat.{ℕ}
-use mathlib.Core.Path.{_≡_, refl, sym, ap, _∙_, subst}
+use Prim.Native.Nat.{ℕ, _≤_}
+use mathlib.Core.Path.{_≡_, refl, sym, ap, _∙_, subst, subst⁻¹}
 use mathlib.Core.List.{List, [], _++_, append-assoc, append-nil}
 use mathlib.Core.Option.{none, some}
 use Rattle.reading.specs.Settled.{Written, _then_}
-use Rattle.jpeg_writer.specs.declared.Pen.{Pen}
-use Rattle.jpeg_writer.specs.declared.Outcome.{Outcome}
-use Rattle.jpeg_writer.specs.declared.Outcome.the-variants.{Done, NoCode}
-use Rattle.jpeg_writer.specs.Page.{Page, page, putAll, Proper, Grown, Wrote, Told, Puts}
-use Rattle.jpeg_writer.proofs.Bytes.{all-append, all-none}
+use Rattle.jpeg_pen.specs.declared.Pen.{Pen}
+use Rattle.jpeg_pen.specs.declared.Outcome.{Outcome}
+use Rattle.jpeg_pen.specs.declared.Outcome.the-variants.{Done, NoCode}
+use Rattle.jpeg_pen.specs.Page.{Page, page, putAll, Proper, symbolBits, Stroke, stroke, strokeOf}
+use Rattle.jpeg_pen.proofs.Bytes.{all-append, all-none}
+use Rattle.jpeg_pen.proofs.Symbols.{symbol-is, code-proper}
+use Rattle.jpeg_codes.specs.Words.{wordCode}
+use Rattle.jpeg_writer.specs.Puts.{Wrote, Told, Puts}
 
 -- ---- what is written, and then more
 
@@ -44,8 +47,17 @@ module _ {w : Written} {q : Page} {out : List ℕ} where
   pub puts-lack : {r : Outcome} → Puts w q r out → r ≡ NoCode → w ≡ none
   puts-lack h e = subst (λ (r : Outcome). Told w q r out) e (h .told)
 
-pub wrote-bits : {w : Written} {bs : List ℕ} {q q′ : Page} → w ≡ some bs → Grown q bs q′ → Wrote w q q′
-wrote-bits {w} {bs} e g = record { bits = bs; told = e; same = g .same; proper = g .proper }
+-- a symbol with a field of at most 12 bits, by a proper pen
+pub puts-symbol : (p : Pen) (x field n : ℕ) (old : List ℕ) {r : Outcome} {new : List ℕ} → Proper p → n ≤ 12 → stroke r new ≡ strokeOf (symbolBits p x field n) (page old p) → Puts (wordCode x field n) (page old p) r new
+unfolding strokeOf
+puts-symbol p x field n old {r} {new} h l e =
+    record { told = go (wordCode x field n) refl (e ∙ ap (λ (w : Written). strokeOf w (page old p)) (symbol-is old p x field n h l)) }
+  where
+    go : (w : Written) → wordCode x field n ≡ w → stroke r new ≡ strokeOf w (page old p) → Told w (page old p) r new
+    go none f e = subst⁻¹ (λ (s : Stroke). Told none (page old p) (s .ink) (s .out)) e refl
+    go (some bs) f e =
+        subst⁻¹ (λ (s : Stroke). Told (some bs) (page old p) (s .ink) (s .out)) e
+        (record { bits = bs; told = refl; same = refl; proper = code-proper (page old p) x field n h f })
 
 -- ---- a part of what is to be written
 

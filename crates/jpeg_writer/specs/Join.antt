@@ -4,7 +4,7 @@ use Prim.Native.Nat.{ℕ}
 use mathlib.Core.List.{List}
 use mathlib.Core.Option.{Option, none, some}
 use Rattle.reading.specs.Settled.{Coded}
-use Rattle.jpeg_writer.specs.Page.{Spot, bytesAt, Page, packAt}
+use Rattle.jpeg_pen.specs.Page.{Spot, bytesAt, Page, packAt}
 
 -- a part of a scan from here on: its bits, padding, and the bytes from the next marker on
 unfoldable pub codedAt : Page → Coded → Spot

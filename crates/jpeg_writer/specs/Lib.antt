@@ -1,4 +1,4 @@
-pub mod Page
+pub mod Puts
 pub mod Steps
 pub mod Join
 pub mod Sheets

@@ -22,9 +22,9 @@ use Rattle.jpeg_plan.specs.declared.Halt.the-variants.{No, Yes}
 use Rattle.jpeg_plan.specs.Plans.{Stands}
 use Rattle.jpeg_scan.specs.Steps.{ahead, resumed}
 use Rattle.jpeg_writer.specs.declared.Moved.{Moved}
-use Rattle.jpeg_writer.specs.declared.Outcome.{Outcome}
-use Rattle.jpeg_writer.specs.declared.Outcome.the-variants.{Done, NoCode}
-use Rattle.jpeg_writer.specs.Page.{Spot, page, fresh, Proper}
+use Rattle.jpeg_pen.specs.declared.Outcome.{Outcome}
+use Rattle.jpeg_pen.specs.declared.Outcome.the-variants.{Done, NoCode}
+use Rattle.jpeg_pen.specs.Page.{Spot, page, fresh, Proper}
 use Rattle.jpeg_writer.specs.Join.{finalAt}
 
 -- ---- what is written

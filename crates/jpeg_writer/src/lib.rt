@@ -1,22 +1,23 @@
-// A record's scan, read and written settled: bits into bytes, blocks, padding and markers, and the pass over a whole scan. It
-// carries the rules' part on the settled scan. A byte is stored where the lent buffer has room and is counted in any case, so that
-// one path both measures and writes.
+// A record's scan, read and written settled: blocks, restarts and the end, and the pass over a whole scan. It carries the rules'
+// part on the settled scan. A pen stores a byte where the lent buffer has room and counts it in any case, so that one path both
+// measures and writes.
 ghost use mathlib.Core.Path.{_≡_};
-ghost use mathlib.Core.List.{[], _∷_};
 ghost use mathlib.Core.Option.{some};
 ghost use Prim.Native.Nat.{_+_, _*_, _-_, _≤_, _<_, _^_};
 ghost use lib.ListN.{length, take};
-ghost use Rattle.reading.specs.Huffman.{bitsOf};
 ghost use Rattle.reading.specs.Layout.{dueBefore, restartBefore};
 ghost use Rattle.reading.specs.Settled.{blockBy, onto, cut, settledOf, scanSettled, laidOver};
-ghost use Rattle.jpeg_writer.specs.Page.{spot, byteAt, stuffedAt, bytesAt, page, fresh, Proper, Grown, Puts, closedAt, restarted};
-ghost use Rattle.jpeg_codes.specs.Words.{wordCode, coderOf};
+ghost use Rattle.jpeg_pen.specs.Page.{page, Proper};
+ghost use Rattle.jpeg_writer.specs.Puts.{Puts};
+ghost use Rattle.jpeg_codes.specs.Words.{coderOf};
 ghost use Rattle.jpeg_turns.specs.Turns.{zerosAt};
 ghost use Rattle.jpeg_writer.specs.Steps.{Quiet, wordAt};
 ghost use Rattle.jpeg_plan.specs.Plans.{planFor};
 ghost use Rattle.jpeg_codes.specs.Sheets.{sheet, wordsIn, sure};
 ghost use Rattle.jpeg_writer.specs.Sheets.{basesOf};
 ghost use Rattle.jpeg_writer.specs.Pass.{finalBy, Fit, Moves, lastPart, Closes, Went, Ran, Measures, foretold};
+use jpeg_pen::Outcome;
+use jpeg_pen::Pen;
 use jpeg_plan::Halt;
 use jpeg_plan::Plan;
 use reading::BlockRead;
@@ -25,131 +26,6 @@ use reading::Record;
 use reading::ScanCursor;
 use reading::ScanRead;
 use reading::ScanSettled;
-
-// Where the next byte goes, the value of the bits that wait for it, and how many bits it still wants, 1 to 8.
-struct Pen {
-    at: usize,
-    value: usize,
-    missing: usize,
-}
-
-impl Pen {
-    // before the first bit of the byte at `at`
-    fn fresh(at: usize) -> Self
-        ensures { λ r. ⌜ r ≡ fresh at ⌝ }
-    {
-        Self {
-            at: at,
-            value: 0,
-            missing: 8,
-        }
-    }
-}
-
-// The pen behind what was written; or a code was wanting.
-enum Outcome {
-    Done(Pen),
-    NoCode,
-}
-
-// A byte, stored where there is room, and counted in any case.
-fn put_byte(out: &mut [u8], at: usize, x: u8) -> usize
-    ensures { λ r. ⌜ spot (now (out .exit)) r ≡ byteAt (spot (now (out .entry)) at) x ⌝ }
-{
-    if at < out.len() {
-        out[at] = x;
-        return at + 1;
-    }
-    if at < 18446744073709551615 {
-        return at + 1;
-    }
-    at
-}
-
-// A data byte: 0 follows 255.
-fn put_data(out: &mut [u8], at: usize, x: u8) -> usize
-    ensures { λ r. ⌜ spot (now (out .exit)) r ≡ stuffedAt (spot (now (out .entry)) at) x ⌝ }
-{
-    let next = put_byte(out, at, x);
-    if x == 255 {
-        return put_byte(out, next, 0);
-    }
-    next
-}
-
-// 2 ^ n.
-fn power(n: usize) -> usize
-    requires { ⌜ n ≤ 32 ⌝ }
-    ensures { λ r. ⌜ r ≡ 2 ^ n ⌝ }
-{
-    1 << n
-}
-
-// The low n bits of x, highest first. Each turn fills a byte: there are at most four.
-fn put(out: &mut [u8], p: Pen, x: usize, n: usize) -> Pen
-    requires { ⌜ Proper p × (n ≤ 32) ⌝ }
-    ensures { λ r. ⌜ Grown (page (now (out .entry)) p) (bitsOf n x) (page (now (out .exit)) r) ⌝ }
-{
-    let mut at = p.at;
-    let mut value = p.value;
-    let mut missing = p.missing;
-    let mut left = n;
-    while missing <= left {
-        left = left - missing;
-        let full = power(missing);
-        let byte = value * full + (x / power(left)) % full;
-        at = put_data(out, at, byte as u8);
-        value = 0;
-        missing = 8;
-    }
-    let full = power(left);
-    Pen {
-        at: at,
-        value: value * full + x % full,
-        missing: missing - left,
-    }
-}
-
-// The last byte, with ones behind its bits: the place after it.
-fn finish(out: &mut [u8], p: Pen) -> usize
-    requires { ⌜ Proper p ⌝ }
-    ensures { λ r. ⌜ spot (now (out .exit)) r ≡ closedAt (page (now (out .entry)) p) ⌝ }
-{
-    let missing = p.missing;
-    if missing == 8 {
-        return p.at;
-    }
-    let full = power(missing);
-    let byte = p.value * full + (full - 1);
-    put_data(out, p.at, byte as u8)
-}
-
-// 255 and a code.
-fn put_marker(out: &mut [u8], at: usize, code: u8) -> usize
-    ensures { λ r. ⌜ spot (now (out .exit)) r ≡ bytesAt (spot (now (out .entry)) at) (255 ∷ code ∷ []) ⌝ }
-{
-    let next = put_byte(out, at, 255);
-    put_byte(out, next, code)
-}
-
-// Padding and a restart marker: a fresh pen behind them.
-fn restart(out: &mut [u8], p: Pen, code: u8) -> Pen
-    requires { ⌜ Proper p ⌝ }
-    ensures { λ r. ⌜ page (now (out .exit)) r ≡ restarted (page (now (out .entry)) p) code ⌝ }
-{
-    let at = finish(out, p);
-    let next = put_marker(out, at, code);
-    Pen::fresh(next)
-}
-
-// Padding and the last marker: the place behind it.
-fn put_end(out: &mut [u8], p: Pen) -> usize
-    requires { ⌜ Proper p ⌝ }
-    ensures { λ r. ⌜ spot (now (out .exit)) r ≡ bytesAt (closedAt (page (now (out .entry)) p)) (255 ∷ 217 ∷ []) ⌝ }
-{
-    let at = finish(out, p);
-    put_marker(out, at, 217)
-}
 
 // The word of a symbol that stands at a place: the first place has a table of its own.
 fn word_at(dc: &[u32], ac: &[u32], place: usize, x: usize) -> usize
@@ -161,24 +37,7 @@ fn word_at(dc: &[u32], ac: &[u32], place: usize, x: usize) -> usize
     jpeg_codes::word_of(ac, x)
 }
 
-// The code of a word, and the low `size` bits of a field behind it.
-fn put_symbol(out: &mut [u8], p: Pen, word: usize, field: usize, size: usize) -> Outcome
-    requires { ⌜ Proper p × (size ≤ 12) ⌝ }
-    ensures { λ r. ⌜ Puts (wordCode word field size) (page (now (out .entry)) p) r (now (out .exit)) ⌝ }
-{
-    let bits = word / 65536;
-    if bits == 0 {
-        return Outcome::NoCode;
-    }
-    if 16 < bits {
-        return Outcome::NoCode;
-    }
-    let full = power(size);
-    let x = (word % 65536) * full + field % full;
-    Outcome::Done(put(out, p, x, bits + size))
-}
-
-// The same, where the levels from `reach` on are known to be zero and need not be looked at.
+// How many levels from a place on are zero, where those from `reach` on are known to be zero and need not be looked at.
 fn zeros_to(levels: &[i16], place: usize, reach: usize) -> usize
     requires { ⌜ Quiet reach (now levels) × (place ≤ length (now levels)) ⌝ }
     ensures { λ r. ⌜ r ≡ zerosAt (now (levels .entry)) place ⌝ }
@@ -219,7 +78,7 @@ fn put_block(
         }
         let turn = jpeg_turns::next(levels, pred, place, run);
         let word = word_at(dc, ac, place, turn.symbol);
-        match put_symbol(out, q, word, turn.field, turn.size) {
+        match jpeg_pen::put_symbol(out, q, word, turn.field, turn.size) {
             Outcome::NoCode => {
                 break 'walk Outcome::NoCode;
             }
@@ -275,7 +134,7 @@ fn mark(out: &mut [u8], ink: Outcome, m: usize, interval: usize) -> Outcome
         Outcome::NoCode => Outcome::NoCode,
         Outcome::Done(p) => {
             let code = jpeg_plan::restart_code(m, interval);
-            Outcome::Done(restart(out, p, code as u8))
+            Outcome::Done(jpeg_pen::restart(out, p, code as u8))
         }
     }
 }
@@ -287,7 +146,7 @@ fn last(out: &mut [u8], ink: Outcome) -> ScanSettled
 {
     match ink {
         Outcome::NoCode => ScanSettled::NoCode,
-        Outcome::Done(p) => ScanSettled::Done(put_end(out, p)),
+        Outcome::Done(p) => ScanSettled::Done(jpeg_pen::put_end(out, p)),
     }
 }
 

@@ -11,7 +11,7 @@ enum-known-ink : tie.Need-enum-known-ink
 enum-known-ink c = search needs
 
 put-end-requires : tie.Need-put-end-requires
-put-end-requires c κs = fit-pen (c .before .before .ink .given .1) (c .before .before .before .before .before .pre)
+put-end-requires c κs = search needs
 
 returns : tie.Need-returns
 returns c = closes-none _ _ (c .enum-told .given .1)
@@ -20,7 +20,7 @@ same-length : tie.Need-same-length
 same-length c = search needs
 
 returns-2 : tie.Need-returns-2
-returns-2 c = closes-end _ (c .before .before .before .before .before .ink .given .1) (c .before .before .put-end .ensures)
+returns-2 c = closes-end _ (c .before .before .before .before .before .ink .given .1) (fit-pen (c .before .before .before .before .before .ink .given .1) (c .before .before .before .before .before .before .before .before .pre)) (c .before .before .put-end .ensures)
 
 pub last-spec : {M : Type 1} → statement M
 last-spec =

@@ -1,7 +1,7 @@
 -- `mark`: a marker where it is due and no code was wanting.
 use mathlib.Core.Path.{sym, _∙_, ap}
 use borrow.Author.Tests.{not-true, not-false}
-use Rattle.jpeg_writer.specs.Page.{restarted}
+use Rattle.jpeg_pen.specs.Page.{restarted}
 use Rattle.jpeg_writer.proofs.Inks.{fit-pen, moves-none, moves-not, moves-mark}
 use borrow.Author.Needs.{needs}
 use Rattle.jpeg_writer.proofs.mark.Statement.{statement}
@@ -26,7 +26,7 @@ cast-restart : tie.Need-cast-restart
 cast-restart c = search needs
 
 restart-requires : tie.Need-restart-requires
-restart-requires c κs = fit-pen (c .before .before .before .ink .given .1) (c .before .before .before .before .before .before .before .before .pre)
+restart-requires c κs = search needs
 
 returns-2 : tie.Need-returns-2
 returns-2 c = moves-none _ _ _ (c .enum-told .given .1)
@@ -35,7 +35,7 @@ same-length : tie.Need-same-length
 same-length c = search needs
 
 returns-3 : tie.Need-returns-3
-returns-3 c = moves-mark _ (sym (c .before .before .before .before .before .before .before .before .before .restart-due .ensures) ∙ not-false _ (c .before .before .before .before .before .before .before .before .if1 .left)) (c .before .before .before .before .before .before .ink .given .1) (c .before .before .restart .ensures ∙ ap (restarted _) (c .before .before .before .before .restart-code .ensures))
+returns-3 c = moves-mark _ (sym (c .before .before .before .before .before .before .before .before .before .restart-due .ensures) ∙ not-false _ (c .before .before .before .before .before .before .before .before .if1 .left)) (c .before .before .before .before .before .before .ink .given .1) (fit-pen (c .before .before .before .before .before .before .ink .given .1) (c .before .before .before .before .before .before .before .before .before .before .before .pre)) (c .before .before .restart .ensures ∙ ap (restarted _) (c .before .before .before .before .restart-code .ensures))
 
 pub mark-spec : {M : Type 1} → statement M
 mark-spec =

@@ -16,7 +16,7 @@ use Rattle.reading.specs.Answers.{said, levelsOf}
 use Rattle.reading.specs.Settled.{onto}
 use Rattle.jpeg_scan.proofs.Onward.{blockBy}
 use Rattle.jpeg_scan.proofs.OneMcu.{head, below}
-use Rattle.jpeg_writer.specs.declared.Outcome.{Outcome}
+use Rattle.jpeg_pen.specs.declared.Outcome.{Outcome}
 use Rattle.jpeg_writer.specs.Pass.{Moves}
 use Rattle.jpeg_writer.proofs.Quiets.{quiet-block}
 use Rattle.jpeg_writer.proofs.SheetFilled.{sheet-long}

@@ -4,7 +4,7 @@ use mathlib.Core.Path.{sym, _∙_, ap}
 use native.Mathlib.Nat.{le-mul-of-pos-right}
 use native.Mathlib.Omega.{arith}
 use borrow.Author.Needs.{needs}
-use Rattle.jpeg_writer.specs.declared.Outcome.the-variants.{Done}
+use Rattle.jpeg_pen.specs.declared.Outcome.the-variants.{Done}
 use Rattle.jpeg_writer.proofs.ScanPassed.{Walk, begin, ended-done, ended-not, at-mcu, stopped, gained, broken, further}
 use Rattle.jpeg_writer.proofs.run.Statement.{statement}
 use Rattle.jpeg_writer.proofs.run.Tie as tie

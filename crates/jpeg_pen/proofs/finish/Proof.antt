@@ -1,30 +1,32 @@
 -- `finish`: what waits, and ones behind it, is a data byte; where nothing waits there is none.
 use mathlib.Core.Path.{_∙_}
 use native.Mathlib.Omega.{arith}
+use native.Mathlib.Nat.{le-refl}
 use lib.Pow.{pow-pos}
-use Rattle.jpeg_writer.proofs.Bytes.{pad-small, product-small}
-use Rattle.jpeg_writer.proofs.Forwards.{closed-full, closed-pad}
+use Rattle.jpeg_pen.proofs.Bytes.{with-ones, product-small}
+use Rattle.jpeg_pen.proofs.Propers.{proper-begun}
+use Rattle.jpeg_pen.proofs.Closings.{closed-full, closed-pad}
 use borrow.Author.Needs.{needs}
-use Rattle.jpeg_writer.proofs.finish.Statement.{statement}
-use Rattle.jpeg_writer.proofs.finish.Tie as tie
+use Rattle.jpeg_pen.proofs.finish.Statement.{statement}
+use Rattle.jpeg_pen.proofs.finish.Tie as tie
 
 returns : tie.Need-returns
 returns c = closed-full _ (c .if1 .taken)
 
 power-requires : tie.Need-power-requires
-power-requires c κs = search needs
+power-requires c κs = omega (arith, proper-begun _ (c .before .before .pre) .few)
 
 mul-byte : tie.Need-mul-byte
-mul-byte c = omega (arith, product-small _ _ (c .before .before .before .before .pre .low) (c .before .power .ensures))
+mul-byte c = omega (arith, product-small (proper-begun _ (c .before .before .before .before .pre)) _ (le-refl _) (c .before .power .ensures))
 
 sub-byte : tie.Need-sub-byte
 sub-byte c = omega (arith, c .before .power .ensures, pow-pos (c .before .before .before .before .args .p .missing))
 
 add-byte : tie.Need-add-byte
-add-byte c = omega (arith, pad-small _ _ (c .before .before .before .before .pre .low) (c .before .power .ensures))
+add-byte c = omega (arith, with-ones (proper-begun _ (c .before .before .before .before .pre)) _ (le-refl _) (c .before .power .ensures))
 
 cast-put-data : tie.Need-cast-put-data
-cast-put-data c = omega (arith, pad-small _ _ (c .before .before .before .before .before .pre .low) (c .before .before .power .ensures))
+cast-put-data c = omega (arith, with-ones (proper-begun _ (c .before .before .before .before .before .pre)) _ (le-refl _) (c .before .before .power .ensures))
 
 put-data-requires : tie.Need-put-data-requires
 put-data-requires c κs = search needs

@@ -1,15 +1,17 @@
 -- Bits put into bytes, forwards: a page is a lent list of bytes and a pen.
-use Prim.Native.Nat.{ℕ, suc, _+_, _*_, _-_, _^_, _<_, _≤_}
+use Prim.Native.Nat.{ℕ, _+_, _*_, _-_, _^_}
 use mathlib.Core.Path.{_≡_}
 use mathlib.Core.Bool.{Bool, true, false, cond}
 use mathlib.Core.List.{List, [], _∷_}
 use mathlib.Core.Option.{none, some}
-use lib.Dec.{eqb, ltb}
+use lib.Dec.{eqb, ltb, leb}
 use lib.ListN.{set}
 use Rattle.reading.specs.Settled.{Written, packFrom}
-use Rattle.jpeg_writer.specs.declared.Pen.{Pen}
-use Rattle.jpeg_writer.specs.declared.Outcome.{Outcome}
-use Rattle.jpeg_writer.specs.declared.Outcome.the-variants.{Done, NoCode}
+use Rattle.reading.specs.Tests.{_and_, within}
+use Rattle.jpeg_codes.specs.Words.{wordCode}
+use Rattle.jpeg_pen.specs.declared.Pen.{Pen}
+use Rattle.jpeg_pen.specs.declared.Outcome.{Outcome}
+use Rattle.jpeg_pen.specs.declared.Outcome.the-variants.{Done, NoCode}
 
 -- the bytes, and where the next one goes
 pub record Spot : Type 0 where
@@ -72,32 +74,36 @@ unfoldable pub closedAt : Page → Spot
 unfolding packAt
 closedAt q = packAt q []
 
+-- a pen as writing leaves it: its byte wants 1 to 8 bits, and those that it has make the value
+unfoldable pub proper : Pen → Bool
+proper p = within 1 8 (p .missing) and ltb (p .value) (2 ^ (8 - p .missing))
+
+abbrev pub Proper : Pen → Type 0
+Proper p = proper p ≡ true
+
+-- ---- what is written by a pen: nothing, where it is not proper
+
 -- the padding, then a marker, then a fresh pen
 unfoldable pub restarted : Page → ℕ → Page
-restarted q code = paged (bytesAt (closedAt q) (255 ∷ code ∷ [])) 0 8
+restarted q code = cond (proper (q .pen)) (paged (bytesAt (closedAt q) (255 ∷ code ∷ [])) 0 8) q
 
--- the value fits what is there of its byte: it holds after each bit more, and says that the byte is below 256
-pub record Proper (p : Pen) : Type 0 where
-  pub some : 0 < p .missing
-  pub few : p .missing ≤ 8
-  pub low : suc (p .value) * 2 ^ p .missing ≤ 256
+-- the padding, then the last marker
+unfoldable pub endAt : Page → Spot
+endAt q = cond (proper (q .pen)) (bytesAt (closedAt q) (255 ∷ 217 ∷ [])) (spotOf q)
 
--- a page to which bits were put
-pub record Grown (q : Page) (bs : List ℕ) (q′ : Page) : Type 0 where
-  pub same : q′ ≡ putAll q bs
-  pub proper : Proper (q′ .pen)
+-- the code of a word, and the low bits of a field behind it, of which there are at most 12
+unfoldable pub symbolBits : Pen → ℕ → ℕ → ℕ → Written
+symbolBits p word field size = cond (proper p and leb size 12) (wordCode word field size) none
 
--- a page to which the bits of `w` were put
-pub record Wrote (w : Written) (q q′ : Page) : Type 0 where
-  pub bits : List ℕ
-  pub told : w ≡ some bits
-  pub same : q′ ≡ putAll q bits
-  pub proper : Proper (q′ .pen)
+-- what a writer answers, and the bytes as it leaves them
+pub record Stroke : Type 0 where
+  pub ink : Outcome
+  pub out : List ℕ
 
--- what a writer answers, with the bytes as it leaves them; for want of a code they may be anything
-abbrev pub Told : Written → Page → Outcome → List ℕ → Type 0
-Told w q (Done p) out = Wrote w q (page out p)
-Told w q NoCode out = w ≡ none
+abbrev pub stroke : Outcome → List ℕ → Stroke
+stroke r out = record { ink = r; out = out }
 
-pub record Puts (w : Written) (q : Page) (r : Outcome) (out : List ℕ) : Type 0 where
-  pub told : Told w q r out
+-- bits put to a page; for want of a code it stays as it was
+unfoldable pub strokeOf : Written → Page → Stroke
+strokeOf none q = stroke NoCode (q .out)
+strokeOf (some bs) q = stroke (Done (putAll q bs .pen)) (putAll q bs .out)

@@ -1,10 +1,10 @@
 -- `put_marker`: two bytes, one after the other.
 use mathlib.Core.Path.{_∙_, ap}
-use Rattle.jpeg_writer.specs.Page.{Spot, byteAt}
-use Rattle.jpeg_writer.proofs.Forwards.{two-bytes}
+use Rattle.jpeg_pen.specs.Page.{Spot, byteAt}
+use Rattle.jpeg_pen.proofs.Closings.{two-bytes}
 use borrow.Author.Needs.{needs}
-use Rattle.jpeg_writer.proofs.put_marker.Statement.{statement}
-use Rattle.jpeg_writer.proofs.put_marker.Tie as tie
+use Rattle.jpeg_pen.proofs.put_marker.Statement.{statement}
+use Rattle.jpeg_pen.proofs.put_marker.Tie as tie
 
 put-byte-requires : tie.Need-put-byte-requires
 put-byte-requires c κs = search needs

@@ -1,8 +1,8 @@
 -- `put_byte`: stored or not, the byte is counted up to the last place.
-use Rattle.jpeg_writer.proofs.Bytes.{byte-in, byte-past, byte-last}
+use Rattle.jpeg_pen.proofs.Bytes.{byte-in, byte-past, byte-last}
 use borrow.Author.Needs.{needs}
-use Rattle.jpeg_writer.proofs.put_byte.Statement.{statement}
-use Rattle.jpeg_writer.proofs.put_byte.Tie as tie
+use Rattle.jpeg_pen.proofs.put_byte.Statement.{statement}
+use Rattle.jpeg_pen.proofs.put_byte.Tie as tie
 
 slice-write-out : tie.Need-slice-write-out
 slice-write-out c = search needs

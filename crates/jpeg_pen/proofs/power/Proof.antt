@@ -2,8 +2,8 @@
 use native.Mathlib.Omega.{arith}
 use borrow.Author.Needs.{needs}
 use Rattle.whole.specs.Powers.{power-is}
-use Rattle.jpeg_writer.proofs.power.Statement.{statement}
-use Rattle.jpeg_writer.proofs.power.Tie as tie
+use Rattle.jpeg_pen.proofs.power.Statement.{statement}
+use Rattle.jpeg_pen.proofs.power.Tie as tie
 
 shl-result : tie.Need-shl-result
 shl-result c = search needs

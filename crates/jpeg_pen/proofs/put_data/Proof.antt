@@ -1,10 +1,10 @@
 -- `put_data`: 0 follows 255.
 use mathlib.Core.Path.{sym, _∙_, ap}
-use Rattle.jpeg_writer.specs.Page.{Spot, byteAt}
-use Rattle.jpeg_writer.proofs.Bytes.{stuffed-full, stuffed-data}
+use Rattle.jpeg_pen.specs.Page.{Spot, byteAt}
+use Rattle.jpeg_pen.proofs.Bytes.{stuffed-full, stuffed-data}
 use borrow.Author.Needs.{needs}
-use Rattle.jpeg_writer.proofs.put_data.Statement.{statement}
-use Rattle.jpeg_writer.proofs.put_data.Tie as tie
+use Rattle.jpeg_pen.proofs.put_data.Statement.{statement}
+use Rattle.jpeg_pen.proofs.put_data.Tie as tie
 
 put-byte-requires : tie.Need-put-byte-requires
 put-byte-requires c κs = search needs

@@ -4,16 +4,16 @@ use mathlib.Core.Path.{_≡_, refl, sym, ap, ap₂, _∙_}
 use mathlib.Core.Bool.{Bool, true, false}
 use mathlib.Core.List.{List, [], _∷_, _++_}
 use native.Mathlib.Omega.{arith}
-use native.Mathlib.Nat.{not-suc-le-zero, mul-assoc, suc-mul, add-zero, add-suc, mod-lt, mul-le-mul, le-refl, le-trans}
+use native.Mathlib.Nat.{not-suc-le-zero, add-zero, add-suc, mod-lt}
 use lib.Dec.{eqb}
-use lib.Pow.{pow-pos, pow-add, shr-shr}
+use lib.Pow.{pow-pos, pow-mono, shr-shr}
 use lib.ListN.{length, set}
 use lib.Seq.{set-out}
 use borrow.Author.Tests.{eq-eqb, ne-eqb, lt-ltb, le-ltb}
 use Rattle.reading.specs.Huffman.{bitsOf}
-use Rattle.whole.specs.Powers.{one-more}
-use Rattle.jpeg_writer.specs.declared.Pen.{Pen}
-use Rattle.jpeg_writer.specs.Page.{Spot, spot, byteAt, stuffedAt, Page, page, paged, spotOf, putNext, putFrom, putAll, Proper, Grown}
+use Rattle.whole.specs.Powers.{one-more, grown-by}
+use Rattle.jpeg_pen.specs.declared.Pen.{Pen}
+use Rattle.jpeg_pen.specs.Page.{Spot, spot, byteAt, stuffedAt, Page, page, paged, spotOf, putNext, putFrom, putAll}
 
 -- ---- a byte
 
@@ -94,41 +94,30 @@ from-byte (suc m) k x s v h l = ap (λ n. putFrom (bitsOf n x) s v (suc m)) same
 
 -- ---- what a byte is, and what waits for one
 
-module _ (v m : ℕ) (h : suc v * 2 ^ m ≤ 256) where
-  pub value-small : v < 256
-  value-small = omega (arith, h, mul-le-mul (le-refl (suc v)) (pow-pos m))
+-- v is what there is of a byte of which m bits are missing
+pub record Begun (v m : ℕ) : Type 0 where
+  pub some : 0 < m
+  pub few : m ≤ 8
+  pub low : v < 2 ^ (8 - m)
 
-  module _ {q : ℕ} (e : q ≡ 2 ^ m) where
-    -- what waits, and m bits more
-    pub data-small : (y : ℕ) → v * q + y % q < 256
-    data-small y = rw e (omega (arith, h, mod-lt y (pow-pos m), suc-mul v (2 ^ m)))
+pub begun-none : Begun 0 8
+begun-none = record { some = omega arith; few = omega arith; low = omega arith }
 
-    pub product-small : v * q < 256
-    product-small = omega (arith, data-small 0)
+-- with k bits more it is below 256
+module _ {v m : ℕ} (b : Begun v m) (k : ℕ) (h : k ≤ m) {q : ℕ} (e : q ≡ 2 ^ k) where
+  with-bits : (y : ℕ) → y < 2 ^ k → v * q + y < 256
+  with-bits y l =
+      let most : 2 ^ (8 - (m - k)) ≤ 2 ^ 8 = pow-mono {j = 8} (omega arith) in
+      rw e (omega (arith, most, grown-by 8 m k h (b .few) (b .low) l))
 
-    -- what waits, and ones
-    pub pad-small : v * q + (q - 1) < 256
-    pad-small = rw e (omega (arith, h, pow-pos m, suc-mul v (2 ^ m)))
+  pub with-low : (x : ℕ) → v * q + x % q < 256
+  with-low x = with-bits (x % q) (rw e (mod-lt x (pow-pos k)))
 
--- what waits, with k bits more, of m that were missing
-pub part-low : (v m k x : ℕ) → k ≤ m → suc v * 2 ^ m ≤ 256 → suc (v * 2 ^ k + x % 2 ^ k) * 2 ^ (m - k) ≤ 256
-part-low v m k x l h = le-trans (mul-le-mul up (le-refl (2 ^ (m - k)))) (rw same h)
-  where
-    up : suc (v * 2 ^ k + x % 2 ^ k) ≤ suc v * 2 ^ k
-    up = omega (arith, mod-lt x (pow-pos k), suc-mul v (2 ^ k))
+  pub with-ones : v * q + (q - 1) < 256
+  with-ones = with-bits (q - 1) (omega (arith, e, pow-pos k))
 
-    there : k + (m - k) ≡ m
-    there = omega arith
-
-    same : suc v * 2 ^ k * 2 ^ (m - k) ≡ suc v * 2 ^ m
-    same = mul-assoc (suc v) (2 ^ k) (2 ^ (m - k)) ∙ ap (λ n. suc v * n) (sym (pow-add 2 k (m - k)) ∙ ap (λ n. 2 ^ n) there)
-
-module _ (v m k : ℕ) {q : ℕ} (h : suc v * 2 ^ m ≤ 256) (l : k < m) (e : q ≡ 2 ^ k) where
-  pub waiting-small : (x : ℕ) → v * q + x % q < 256
-  waiting-small x = rw e (value-small _ (m - k) (part-low v m k x (omega arith) h))
-
-  pub waiting-product : v * q < 256
-  waiting-product = omega (arith, waiting-small 0)
+  pub product-small : v * q < 256
+  product-small = omega (arith, with-low 0)
 
 -- ---- the loop over the bytes of x
 
@@ -139,6 +128,6 @@ module _ {t : Page} (k x : ℕ) (s : Spot) (v m : ℕ) (same : t ≡ putFrom (bi
   pub put-last : {q : ℕ} → k < m → q ≡ 2 ^ k → paged s (v * q + x % q) (m - k) ≡ t
   put-last l e = rw e (sym (same ∙ from-part k x s v m l))
 
-pub put-grown : (out : List ℕ) (p : Pen) (bs : List ℕ) (q′ : Page) → q′ ≡ putFrom bs (spot out (p .at)) (p .value) (p .missing) → Proper (q′ .pen) → Grown (page out p) bs q′
+pub put-all : (out : List ℕ) (p : Pen) (bs : List ℕ) {q : Page} → q ≡ putFrom bs (spot out (p .at)) (p .value) (p .missing) → q ≡ putAll (page out p) bs
 unfolding putAll
-put-grown out p bs q′ e h = record { same = e; proper = h }
+put-all out p bs e = e

@@ -1,22 +1,22 @@
 -- `put`: at each turn the bits still to come, put behind what waits now, make the page that all of them make.
 use mathlib.Core.Path.{_≡_, refl}
 use mathlib.Core.List.{List}
-use Prim.Native.Nat.{ℕ, suc, _*_, _/_, _^_, _<_, _≤_}
+use Prim.Native.Nat.{ℕ, _/_, _≤_}
 use native.Mathlib.Omega.{arith}
+use native.Mathlib.Nat.{le-refl, le-of-lt}
 use borrow.Author.Needs.{needs}
 use lib.ListN.{length}
 use lib.Pow.{pow-pos}
 use Rattle.reading.specs.Huffman.{bitsOf}
-use Rattle.jpeg_writer.specs.Page.{spot, putFrom}
-use Rattle.jpeg_writer.proofs.Bytes.{product-small, data-small, waiting-small, waiting-product, put-more, put-last, put-grown, part-low}
-use Rattle.jpeg_writer.proofs.put.Statement.{statement}
-use Rattle.jpeg_writer.proofs.put.Tie as tie
+use Rattle.jpeg_pen.specs.Page.{spot, putFrom}
+use Rattle.jpeg_pen.proofs.Bytes.{Begun, begun-none, product-small, with-low, put-more, put-last, put-all}
+use Rattle.jpeg_pen.proofs.Propers.{proper-begun}
+use Rattle.jpeg_pen.proofs.put.Statement.{statement}
+use Rattle.jpeg_pen.proofs.put.Tie as tie
 
 -- the bits so far are put; `left` are to come
 record Walk (out₀ : List ℕ) (x n at₀ v₀ m₀ : ℕ) (out : List ℕ) (at v m k : ℕ) : Type 0 where
-  some : 0 < m
-  few : m ≤ 8
-  low : suc v * 2 ^ m ≤ 256
+  begun : Begun v m
   left : k ≤ 32
   long : length out ≡ length out₀
   same : putFrom (bitsOf n x) (spot out₀ at₀) v₀ m₀ ≡ putFrom (bitsOf k x) (spot out at) v m
@@ -30,13 +30,13 @@ abbrev μ-loop : tie.MeasureT-loop
 
 loop-holds : tie.Need-loop-holds Inv-loop μ-loop
 loop-holds c =
-    record { some = c .before .pre .0 .some; few = c .before .pre .0 .few; low = c .before .pre .0 .low; left = c .before .pre .1; long = refl; same = refl }
+    record { begun = proper-begun _ (c .before .pre .0); left = c .before .pre .1; long = refl; same = refl }
 
 power-requires : tie.Need-power-requires Inv-loop μ-loop
 power-requires c κs = omega arith
 
 mul-byte : tie.Need-mul-byte Inv-loop μ-loop
-mul-byte c = omega (arith, product-small _ _ (c .before .before .loop .inv .low) (c .power .ensures))
+mul-byte c = omega (arith, product-small (c .before .before .loop .inv .begun) _ (le-refl _) (c .power .ensures))
 
 power-requires-2 : tie.Need-power-requires-2 Inv-loop μ-loop
 power-requires-2 c κs = omega arith
@@ -48,10 +48,10 @@ rem-byte : tie.Need-rem-byte Inv-loop μ-loop
 rem-byte c = rw (c .before .power .ensures) (pow-pos _)
 
 add-byte : tie.Need-add-byte Inv-loop μ-loop
-add-byte c = omega (arith, data-small _ _ (c .before .before .before .loop .inv .low) (c .before .power .ensures) (c .before .before .before .before .before .args .x / c .power2 .result))
+add-byte c = omega (arith, with-low (c .before .before .before .loop .inv .begun) _ (le-refl _) (c .before .power .ensures) (c .before .before .before .before .before .args .x / c .power2 .result))
 
 cast-put-data : tie.Need-cast-put-data Inv-loop μ-loop
-cast-put-data c = omega (arith, data-small _ _ (c .before .before .before .before .loop .inv .low) (c .before .before .power .ensures) (c .before .before .before .before .before .before .args .x / c .before .power2 .result))
+cast-put-data c = omega (arith, with-low (c .before .before .before .before .loop .inv .begun) _ (le-refl _) (c .before .before .power .ensures) (c .before .before .before .before .before .before .args .x / c .before .power2 .result))
 
 put-data-requires : tie.Need-put-data-requires Inv-loop μ-loop
 put-data-requires c κs = search needs
@@ -61,19 +61,19 @@ loop-less c = omega arith
 
 loop-again : tie.Need-loop-again Inv-loop μ-loop
 loop-again c =
-    record { some = omega arith; few = omega arith; low = omega arith; left = omega arith; long = search needs; same = put-more _ _ _ _ _ (c .before .before .before .before .before .before .before .loop .inv .same) (c .before .before .before .before .before .before .before .loop .inv .some) (c .before .before .before .before .before .before .loop-test .taken) (c .before .before .before .before .before .power .ensures) (c .before .before .before .before .power2 .ensures) (c .before .before .put-data .ensures) }
+    record { begun = begun-none; left = omega arith; long = search needs; same = put-more _ _ _ _ _ (c .before .before .before .before .before .before .before .loop .inv .same) (c .before .before .before .before .before .before .before .loop .inv .begun .some) (c .before .before .before .before .before .before .loop-test .taken) (c .before .before .before .before .before .power .ensures) (c .before .before .before .before .power2 .ensures) (c .before .before .put-data .ensures) }
 
 power-requires-3 : tie.Need-power-requires-3 Inv-loop μ-loop
 power-requires-3 c κs = omega arith
 
 mul-t20 : tie.Need-mul-t20 Inv-loop μ-loop
-mul-t20 c = omega (arith, waiting-product _ _ _ (c .before .before .loop .inv .low) (c .before .loop-test .left) (c .power3 .ensures))
+mul-t20 c = omega (arith, product-small (c .before .before .loop .inv .begun) _ (le-of-lt (c .before .loop-test .left)) (c .power3 .ensures))
 
 rem-t21 : tie.Need-rem-t21 Inv-loop μ-loop
 rem-t21 c = rw (c .power3 .ensures) (pow-pos _)
 
 add-t22 : tie.Need-add-t22 Inv-loop μ-loop
-add-t22 c = omega (arith, waiting-small _ _ _ (c .before .before .loop .inv .low) (c .before .loop-test .left) (c .power3 .ensures) (c .before .before .before .before .args .x))
+add-t22 c = omega (arith, with-low (c .before .before .loop .inv .begun) _ (le-of-lt (c .before .loop-test .left)) (c .power3 .ensures) (c .before .before .before .before .args .x))
 
 sub-t23 : tie.Need-sub-t23 Inv-loop μ-loop
 sub-t23 c = omega arith
@@ -83,7 +83,7 @@ same-length c = search needs
 
 returns : tie.Need-returns Inv-loop μ-loop
 returns c =
-    put-grown _ _ _ _ (put-last _ _ _ _ _ (c .before .before .loop .inv .same) (c .before .loop-test .left) (c .power3 .ensures)) (record { some = omega arith; few = omega arith; low = rw (c .power3 .ensures) (part-low _ _ _ _ (omega arith) (c .before .before .loop .inv .low)) })
+    put-all _ _ _ (put-last _ _ _ _ _ (c .before .before .loop .inv .same) (c .before .loop-test .left) (c .power3 .ensures))
 
 pub put-spec : {M : Type 1} → statement M
 put-spec =

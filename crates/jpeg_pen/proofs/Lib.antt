@@ -1,0 +1,4 @@
+pub mod Bytes
+pub mod Propers
+pub mod Closings
+pub mod Symbols
