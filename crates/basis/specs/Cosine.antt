@@ -11,7 +11,7 @@ use mathlib.Core.Bool.{Bool, true, false, cond}
 use lib.Dec.{leb}
 use lib.IntN.{ℤ, pos, negℤ, _+ℤ_, _-ℤ_, _*ℤ_}
 use lib.Signed.{ltZ, nonNeg}
-use Rattle.reading.specs.Tests.{_and_}
+use Rattle.whole.specs.Tests.{_and_}
 
 -- a tower of square roots: a whole number, or the root of 2 plus a tower, or the root of 2 minus a tower
 pub data Tower : Type 0 where

@@ -17,12 +17,9 @@ use lib.Signed.{ltZ, _≤ℤ_, _<ℤ_, leZ-yes, ltZ-yes, ltZ-no, <ℤ-≤ℤ-tra
 use Rattle.whole.specs.Ring.{*ℤ-distrib-left}
 use Rattle.whole.specs.Order.{up, gap, either, plus-order, minus-order}
 use Rattle.whole.specs.Expressions.{neg}
-use Rattle.reading.specs.Tests.{_and_, allFrom}
-use Rattle.reading.specs.Transform.{basis}
-use Rattle.reading.specs.Cosine.{Tower, whole, rootOf2Plus, rootOf2Minus, cosine, Side, below, on, above, opposite, against, side, isBelow, isAbove, nearestTo, nearestInHalf, folded, angle, nearest}
-use Rattle.reading.proofs.Plain.{and-left, and-right}
-use Rattle.reading.proofs.Fits.{all-at}
-use Rattle.reading.proofs.DoubleSum.{basisAt}
+use Rattle.whole.specs.Tests.{_and_, and-left, and-right, allFrom, all-at}
+use Rattle.basis.specs.Basis.{basis, basisAt}
+use Rattle.basis.specs.Cosine.{Tower, whole, rootOf2Plus, rootOf2Minus, cosine, Side, below, on, above, opposite, against, side, isBelow, isAbove, nearestTo, nearestInHalf, folded, angle, nearest}
 
 -- ---- sides keep the order of numbers
 
