@@ -4,8 +4,8 @@ use Prim.Native.Nat.{ℕ, _+_, _*_, _^_}
 use native.Mathlib.Omega.{arith}
 use borrow.Author.Tests.{le-leb, lt-leb, leb-true, leb-false}
 use lib.Dec.{leb}
-use Rattle.jpeg.proofs.past_counting.Statement.{statement}
-use Rattle.jpeg.proofs.past_counting.Tie as tie
+use Rattle.jpeg_admission.proofs.past_counting.Statement.{statement}
+use Rattle.jpeg_admission.proofs.past_counting.Tie as tie
 
 -- 2n + 1 reaches 2^64 exactly where n reaches 2^63
 doubled : (n : ℕ) → leb 9223372036854775808 n ≡ leb (2 ^ 64) (2 * n + 1)

@@ -1,7 +1,7 @@
 use mathlib.Core.Path.{refl}
 use borrow.Author.Tests.{lt-ltb, le-ltb}
-use Rattle.jpeg.proofs.too_large.Statement.{statement}
-use Rattle.jpeg.proofs.too_large.Tie as tie
+use Rattle.jpeg_admission.proofs.too_large.Statement.{statement}
+use Rattle.jpeg_admission.proofs.too_large.Tie as tie
 
 returns : tie.Need-returns
 returns c = rw (lt-ltb _ _ (c .if1 .taken)) refl

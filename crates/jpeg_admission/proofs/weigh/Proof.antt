@@ -1,9 +1,9 @@
 use mathlib.Core.Path.{ap, _∙_}
-use Rattle.jpeg.specs.Steps.{admission}
-use Rattle.jpeg.proofs.Admitted.{weighed-large, weighed-poor, weighed-well}
+use Rattle.jpeg_admission.specs.Admission.{admission}
+use Rattle.jpeg_admission.proofs.Admitted.{weighed-large, weighed-poor, weighed-well}
 use borrow.Author.Needs.{needs}
-use Rattle.jpeg.proofs.weigh.Statement.{statement}
-use Rattle.jpeg.proofs.weigh.Tie as tie
+use Rattle.jpeg_admission.proofs.weigh.Statement.{statement}
+use Rattle.jpeg_admission.proofs.weigh.Tie as tie
 
 too-large-requires : tie.Need-too-large-requires
 too-large-requires c κs = search needs

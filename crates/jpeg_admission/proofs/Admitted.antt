@@ -3,7 +3,7 @@
 use mathlib.Core.Path.{_≡_, refl, sym, ap, _∙_, subst, subst⁻¹}
 use mathlib.Core.Bool.{Bool, true, false, not, cond}
 use mathlib.Core.List.{List}
-use Prim.Native.Nat.{ℕ, _+_, _-_, _^_, _<_, _≤_}
+use Prim.Native.Nat.{ℕ, _+_, _*_, _-_, _^_, _<_, _≤_}
 use native.Mathlib.Omega.{arith}
 use borrow.Author.Tests.{lt-ltb, le-ltb, ltb-true, ltb-false, leb-true, leb-false, not-true, not-false}
 use lib.Dec.{ltb, leb}
@@ -22,7 +22,7 @@ use Rattle.reading.specs.Header.{Stage, more, done, stop, header, headed}
 use Rattle.reading.specs.Scan.{levels}
 use Rattle.reading.specs.Calls.{headerPrice, gives, judge, tooLarge, judgedScan, judgedRecord, judgedHeader, judged, remaining, inspection}
 use Rattle.reading.proofs.HeaderEnds.{or-right}
-use Rattle.jpeg.specs.Steps.{admission, weighed, admittedHeader, admitted}
+use Rattle.jpeg_admission.specs.Admission.{fittedPrice, admission, weighed, admittedHeader, admitted}
 
 -- ---- what the header's answer says of its stage
 
@@ -49,6 +49,17 @@ done-found st h e v = headed-done st (sym (ap (λ (k : Head). k .verdict) e) ∙
 
 pub stop-verdict : (st : Stage) (h : Head) (x : Refusal) → h ≡ headed st → h .verdict ≡ Refused x → headed st .verdict ≡ Refused x
 stop-verdict st h x e v = sym (ap (λ (k : Head). k .verdict) e) ∙ v
+
+-- ---- the header's price
+
+module _ (n : ℕ) {t : Bool} (e : t ≡ leb (2 ^ 64) (2 * n + 1)) where
+  pub price-past : t ≡ true → 2 ^ 64 - 1 ≡ fittedPrice n
+  unfolding fittedPrice
+  price-past p = rw (sym e ∙ p) refl
+
+  pub price-fits : t ≡ false → 2 * n + 1 ≡ fittedPrice n
+  unfolding fittedPrice
+  price-fits p = rw (sym e ∙ p) refl
 
 -- ---- budgets
 
@@ -98,6 +109,12 @@ module _ (s : List ℕ) (colour : Bool) (l : Limits) (budget : Budget) where
   admitted-long e = rw e refl
 
   module _ (e1 : long ≡ false) where
+    fits : leb (2 ^ 64) (headerPrice s) ≡ false
+    fits = or-right (ltb (l .input) (length s)) (leb (2 ^ 64) (headerPrice s)) e1
+
+    pub admitted-price : fittedPrice (length s) ≡ headerPrice s
+    admitted-price = sym (price-fits (length s) refl fits)
+
     pub admitted-poor : budget .left < headerPrice s → inspection (gives OverBudget) budget ≡ admitted s colour l budget
     unfolding admitted
     admitted-poor h = rw (e1, lt-ltb (budget .left) (headerPrice s) h) refl
@@ -159,7 +176,7 @@ module _ (s : List ℕ) (colour : Bool) (l : Limits) (budget : Budget) where
         price false p q =
             record {
               head = e;
-              counted = leb-false (2 ^ 64) (headerPrice s) (or-right (ltb (l .input) (length s)) (leb (2 ^ 64) (headerPrice s)) e1);
+              counted = leb-false (2 ^ 64) (headerPrice s) (fits s colour l budget e1);
               taken = headerPrice s + r .work;
               judgement = here ∙ enough;
               left = taken-twice budget (headerPrice s) (r .work);

@@ -1,5 +1,5 @@
-use Rattle.jpeg.proofs.refused.Statement.{statement}
-use Rattle.jpeg.proofs.refused.Tie as tie
+use Rattle.jpeg_admission.proofs.refused.Statement.{statement}
+use Rattle.jpeg_admission.proofs.refused.Tie as tie
 
 none-requires : tie.Need-none-requires
 none-requires c κs = tt
