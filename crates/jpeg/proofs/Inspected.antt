@@ -20,7 +20,7 @@ use Rattle.reading.proofs.FileBytes.{AllBytes}
 use Rattle.reading.proofs.ScanAnswers as E
 use Rattle.reading.proofs.Counted.{scan-is}
 use Rattle.reading.proofs.States.{header-readable}
-use Rattle.jpeg.proofs.Admitted.{Stops, Goes}
+use Rattle.jpeg_admission.proofs.Admitted.{Stops, Goes}
 
 -- the answer of a judgement
 abbrev answer : Budget → Judged → Inspection

@@ -1,5 +1,4 @@
 -- Laws of the calls.
-pub mod Admitted
 pub mod Inspected
 pub mod Refiled
 pub mod SettledCode

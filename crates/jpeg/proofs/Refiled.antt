@@ -24,7 +24,7 @@ use Rattle.reading.proofs.Counted.{scan-is}
 use Rattle.reading.proofs.States.{header-readable}
 use Rattle.jpeg_rewrite.specs.Refiled.{remade, refiledBy, refiled}
 use Rattle.jpeg_rewrite.proofs.Refiling.{refiled-is}
-use Rattle.jpeg.proofs.Admitted.{Stops, Goes}
+use Rattle.jpeg_admission.proofs.Admitted.{Stops, Goes}
 
 -- ---- the settled scan of a record that the header gave
 

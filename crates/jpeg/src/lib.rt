@@ -1,13 +1,12 @@
 // The public calls (the rules' 'Refusal numbers'): inspect, decode and settle, with their prices, limits and refusals in order.
 ghost use mathlib.Core.Path.{_≡_};
-ghost use Prim.Native.Nat.{_+_, _*_, _^_, _<_};
-ghost use lib.Dec.{ltb, leb};
+ghost use lib.Dec.{ltb};
 ghost use Rattle.reading.specs.Tests.{_or_};
 ghost use Rattle.reading.specs.declared.Verdict.the-variants.{Refused};
-ghost use Rattle.reading.specs.Calls.{tooLarge, gives, inspection, inspect, decode, settle};
+ghost use Rattle.reading.specs.Calls.{inspect, decode, settle};
 ghost use Rattle.jpeg.specs.Meets.{Meets};
 ghost use Rattle.jpeg_rewrite.specs.Refiled.{remade};
-ghost use Rattle.jpeg.specs.Steps.{weighed, admitted, drawnAs, left};
+ghost use Rattle.jpeg.specs.Steps.{drawnAs, left};
 use reading::Budget;
 use reading::Decoding;
 use reading::Inspection;
@@ -18,112 +17,18 @@ use reading::ScanRead;
 use reading::Settling;
 use reading::Verdict;
 
-// 2n + 1 does not fit 64 bits. No slice is so long; the test keeps the price whole without that.
-fn past_counting(n: usize) -> bool
-    ensures { λ r. ⌜ r ≡ leb (2 ^ 64) (2 * n + 1) ⌝ }
-{
-    9223372036854775808 <= n
-}
-
-// Number 1.
-fn too_long(n: usize, limit: usize) -> bool
-    ensures { λ r. ⌜ r ≡ (ltb limit n or leb (2 ^ 64) (2 * n + 1)) ⌝ }
-{
-    if limit < n {
-        return true;
-    }
-    past_counting(n)
-}
-
-// The header's price.
-fn header_price(n: usize) -> u64
-    requires { ⌜ 2 * n + 1 < 2 ^ 64 ⌝ }
-    ensures { λ r. ⌜ r ≡ 2 * n + 1 ⌝ }
-{
-    Budget::FILE_BYTE * (n as u64) + Budget::FILE
-}
-
-// Number 6.
-fn too_large(limits: Limits, found: Record) -> bool
-    ensures { λ r. ⌜ r ≡ tooLarge limits found ⌝ }
-{
-    if limits.side < found.width {
-        return true;
-    }
-    if limits.side < found.height {
-        return true;
-    }
-    if limits.output < found.scratch {
-        return true;
-    }
-    limits.output < found.output
-}
-
-fn refused(x: Refusal, budget: Budget) -> Inspection
-    ensures { λ r. ⌜ r ≡ inspection (gives x) budget ⌝ }
-{
-    let found = Record::none();
-    Inspection {
-        verdict: Verdict::Refused(x),
-        budget: budget,
-        found: found,
-    }
-}
-
-// A record against limits and budget: 6, then 2 for work, which is taken where the record is accepted.
-fn weigh(limits: Limits, left: Budget, found: Record) -> Inspection
-    ensures { λ r. ⌜ r ≡ weighed limits left found ⌝ }
-{
-    if too_large(limits, found) {
-        return refused(Refusal::TooLarge, left);
-    }
-    let work = found.work;
-    if !left.covers(work) {
-        return refused(Refusal::OverBudget, left);
-    }
-    let rest = left.less(work);
-    Inspection {
-        verdict: Verdict::Accepted,
-        budget: rest,
-        found: found,
-    }
-}
-
-// What inspect and settle test before the scan is read: 1, 2 for the header, the header, 6, 2 for work. The budget is looked at
-// before the first byte.
-fn admit(s: &[u8], colour: bool, limits: Limits, budget: Budget) -> Inspection
-    ensures { λ r. ⌜ r ≡ admitted (now (s .entry)) colour limits budget ⌝ }
-{
-    let n = s.len();
-    if too_long(n, limits.input) {
-        return refused(Refusal::TooLong, budget);
-    }
-    let price = header_price(n);
-    if !budget.covers(price) {
-        return refused(Refusal::OverBudget, budget);
-    }
-    let left = budget.less(price);
-    let head = jpeg_header::header(s, colour);
-    let verdict = head.verdict;
-    let found = head.found;
-    match verdict {
-        Verdict::Refused(x) => refused(x, left),
-        Verdict::Accepted => weigh(limits, left, found),
-    }
-}
-
 // What a file holds: its record, or the number of the first rule that refuses it.
 pub fn inspect(s: &[u8], colour: bool, limits: Limits, budget: Budget) -> Inspection
     ensures { λ r. ⌜ r ≡ inspect (now (s .entry)) colour limits budget ⌝ }
 {
-    let seen = admit(s, colour, limits, budget);
+    let seen = jpeg_admission::admit(s, colour, limits, budget);
     let verdict = seen.verdict;
     let rest = seen.budget;
     let found = seen.found;
     match verdict {
-        Verdict::Refused(x) => refused(x, rest),
+        Verdict::Refused(x) => jpeg_admission::refused(x, rest),
         Verdict::Accepted => match jpeg_scan::validate(s, found) {
-            ScanRead::Stop(f) => refused(Refusal::Scan(f), rest),
+            ScanRead::Stop(f) => jpeg_admission::refused(Refusal::Scan(f), rest),
             ScanRead::Done => Inspection {
                 verdict: Verdict::Accepted,
                 budget: rest,
@@ -195,10 +100,10 @@ pub fn decode(
         return undecoded(Refusal::ShortRoom, budget);
     }
     let n = s.len();
-    if past_counting(n) {
+    if jpeg_admission::past_counting(n) {
         return undecoded(Refusal::OverBudget, budget);
     }
-    let price = header_price(n);
+    let price = jpeg_admission::header_price(n);
     if !budget.covers(price) {
         return undecoded(Refusal::OverBudget, budget);
     }
@@ -222,7 +127,7 @@ pub fn decode(
 pub fn settle(s: &[u8], limits: Limits, budget: Budget, out: &mut [u8]) -> Settling
     ensures { λ r. ⌜ remade r (now (out .exit)) ≡ settle (now (s .entry)) limits budget (now (out .entry)) ⌝ }
 {
-    let seen = admit(s, false, limits, budget);
+    let seen = jpeg_admission::admit(s, false, limits, budget);
     let verdict = seen.verdict;
     let rest = seen.budget;
     let found = seen.found;

@@ -20,6 +20,7 @@ use Rattle.whole.specs.Lists.{from, length-from, getD-from}
 use Rattle.reading.specs.Tests.{all}
 use Rattle.reading.specs.Transform.{basis, weights, line, row, plane, clamped, sampleOf, samples}
 use Rattle.reading.proofs.Plain.{and-left, and-right}
+pub use Rattle.basis.specs.Basis.{basisAt}
 
 -- ---- sums
 
@@ -63,10 +64,6 @@ dot-sum (k ∷ ks) f i (suc n) h =
     later i j = omega arith
 
 -- ---- the double sum
-
--- the weight of input u in output x
-abbrev pub basisAt : ℕ → ℕ → ℤ
-basisAt x u = at (weights x) u
 
 -- the sum over v and u of coefficient (v, u) x basis (x, u) x basis (y, v)
 unfoldable pub doubleSum : List ℤ → ℕ → ℕ → ℤ

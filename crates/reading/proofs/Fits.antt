@@ -1,16 +1,15 @@
 -- What a test on a segment's body says once it is passed.
-use Prim.Native.Nat.{ℕ, zero, suc, _+_, _/_, _%_, _<_, _≤_}
-use mathlib.Core.Path.{_≡_, refl, sym, _∙_, subst, subst⁻¹}
-use mathlib.Core.Bool.{Bool, true, false}
+use Prim.Native.Nat.{ℕ, _+_, _/_, _%_, _≤_}
+use mathlib.Core.Path.{_≡_, subst⁻¹}
+use mathlib.Core.Bool.{Bool, true}
 use mathlib.Core.List.{List, [], _∷_}
 use lib.Dec.{T, leb, eqb, leb→le, eqb→eq}
 use lib.ListN.{length, getD}
-use native.Mathlib.Omega.{arith}
-use borrow.Author.Tests.{eq-eqb}
-use Rattle.reading.specs.Tests.{within, allFrom}
+use Rattle.reading.specs.Tests.{within}
 use Rattle.reading.specs.Huffman.{sum, codesFit}
 use Rattle.reading.specs.Header.{byte, each, quantizerFits, countsOf, tableFits, scanKnown}
 use Rattle.reading.proofs.Plain.{and-left, and-right}
+pub use Rattle.whole.specs.Tests.{all-at}
 
 pub so : {b : Bool} → b ≡ true → T b
 so e = subst⁻¹ T e tt
@@ -51,18 +50,3 @@ module _ (b : List ℕ) where
 -- three bytes of a body, one for each channel
 pub each-made : (n i j k : ℕ) (f : ℕ → ℕ) → i ≡ f 0 → j ≡ f 1 → k ≡ f 2 → each n (λ c. getD (i ∷ j ∷ k ∷ []) c 0) ≡ each n f
 each-made n i j k f p q r = rw (p, q, r)
-
--- what a test of n numbers from i on says of one of them
-pub all-at : (p : ℕ → Bool) (n i : ℕ) → T (allFrom n i p) → (c : ℕ) → i ≤ c → c < i + n → T (p c)
-all-at p zero i t c a b = absurd (none-left a b)
-  where
-    none-left : i ≤ c → c < i + 0 → ⊥
-    none-left x y = omega arith
-all-at p (suc n) i t c a b = go (eqb i c) refl (all-at p n (suc i) (and-right (p i) (allFrom n (suc i) p) t) c)
-  where
-    go : (e : Bool) → eqb i c ≡ e → (suc i ≤ c → c < suc i + n → T (p c)) → T (p c)
-    go true q ih = subst (λ k. T (p k)) (eqb→eq i c (subst⁻¹ T q tt)) (and-left (p i) (allFrom n (suc i) p) t)
-    go false q ih = ih (omega (arith, a, apart)) (omega (arith, b))
-      where
-        apart : i ≡ c → ⊥
-        apart r = absurd (subst T (sym (eq-eqb i c r) ∙ q) tt)

@@ -4,7 +4,6 @@ pub mod FileBytes
 pub mod Restarts
 pub mod Equal
 pub mod DoubleSum
-pub mod Cosine
 pub mod Inside
 pub mod Theorems
 pub mod Plain

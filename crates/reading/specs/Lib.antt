@@ -6,7 +6,6 @@ pub mod Huffman
 pub mod Block
 pub mod Answers
 pub mod Transform
-pub mod Cosine
 pub mod Layout
 pub mod Colour
 pub mod Tables

@@ -1,15 +1,11 @@
 -- Tests on numbers as Booleans, and small functions on lists.
-use Prim.Native.Nat.{ℕ, zero, suc}
+use Prim.Native.Nat.{ℕ, suc}
 use mathlib.Core.Bool.{Bool, true, false, cond}
 use mathlib.Core.List.{List, [], _∷_, _++_}
 use mathlib.Core.Option.{Option, none, some}
 use lib.Dec.{leb, eqb}
 use lib.ListN.{getElem?, length, drop}
-
-infixr 40 _and_
-abbrev pub _and_ : Bool → Bool → Bool
-true and b = b
-false and b = false
+pub use Rattle.whole.specs.Tests.{_and_, allFrom}
 
 infixr 35 _or_
 abbrev pub _or_ : Bool → Bool → Bool
@@ -40,11 +36,6 @@ isAt s i x = isSome (getElem? s i) x
 abbrev pub all : {A : Type 0} → (A → Bool) → List A → Bool
 all p [] = true
 all p (x ∷ xs) = p x and all p xs
-
--- p holds of the n numbers from c on
-abbrev pub allFrom : ℕ → ℕ → (ℕ → Bool) → Bool
-allFrom zero c p = true
-allFrom (suc n) c p = p c and allFrom n (suc c) p
 
 -- what an option holds, or 0
 abbrev pub orZero : Option ℕ → ℕ

@@ -7,8 +7,10 @@ use lib.ListN.{getD, take, length}
 use lib.IntN.{ℤ, pos, natAbs, _+ℤ_, _*ℤ_}
 use lib.Signed.{leZ}
 use Rattle.whole.specs.Lists.{from, listOf}
-use Rattle.whole.specs.Expressions.{dot, at, neg}
+use Rattle.whole.specs.Expressions.{dot, at}
 use Rattle.reading.specs.Tests.{placeOf, orZero, over}
+unfoldable pub use Rattle.basis.specs.Basis.{basis}
+pub use Rattle.basis.specs.Basis.{weights}
 
 -- the natural place of each zigzag place
 abbrev pub zigzag : List ℕ
@@ -30,23 +32,6 @@ dequantizedAt q l k = getD l k (pos 0) *ℤ pos (getD q k 0)
 unfoldable pub coefficients : List ℕ → List ℤ → List ℤ
 unfolding from
 coefficients q l = listOf 64 (λ i. dequantizedAt q l (zigzagPlace i))
-
--- the 64-entry basis: row x has the weights of the eight inputs in output x (what they are nearest to: `Cosine`)
-unfoldable pub basis : List (List ℤ)
-basis =
-    (pos 11585 ∷ pos 16069 ∷ pos 15137 ∷ pos 13623 ∷ pos 11585 ∷ pos 9102 ∷ pos 6270 ∷ pos 3196 ∷ [])
-    ∷ (pos 11585 ∷ pos 13623 ∷ pos 6270 ∷ neg 3196 ∷ neg 11585 ∷ neg 16069 ∷ neg 15137 ∷ neg 9102 ∷ [])
-    ∷ (pos 11585 ∷ pos 9102 ∷ neg 6270 ∷ neg 16069 ∷ neg 11585 ∷ pos 3196 ∷ pos 15137 ∷ pos 13623 ∷ [])
-    ∷ (pos 11585 ∷ pos 3196 ∷ neg 15137 ∷ neg 9102 ∷ pos 11585 ∷ pos 13623 ∷ neg 6270 ∷ neg 16069 ∷ [])
-    ∷ (pos 11585 ∷ neg 3196 ∷ neg 15137 ∷ pos 9102 ∷ pos 11585 ∷ neg 13623 ∷ neg 6270 ∷ pos 16069 ∷ [])
-    ∷ (pos 11585 ∷ neg 9102 ∷ neg 6270 ∷ pos 16069 ∷ neg 11585 ∷ neg 3196 ∷ pos 15137 ∷ neg 13623 ∷ [])
-    ∷ (pos 11585 ∷ neg 13623 ∷ pos 6270 ∷ pos 3196 ∷ neg 11585 ∷ pos 16069 ∷ neg 15137 ∷ pos 9102 ∷ [])
-    ∷ (pos 11585 ∷ neg 16069 ∷ pos 15137 ∷ neg 13623 ∷ pos 11585 ∷ neg 9102 ∷ pos 6270 ∷ neg 3196 ∷ [])
-    ∷ []
-
--- the weights of output x
-abbrev pub weights : ℕ → List ℤ
-weights x = getD basis x []
 
 -- output x of eight inputs: the sum over u of f u x basis x u
 abbrev pub line : (ℕ → ℤ) → ℕ → ℤ

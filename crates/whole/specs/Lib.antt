@@ -6,3 +6,4 @@ pub mod Signs
 pub mod Expressions
 pub mod Powers
 pub mod Held
+pub mod Tests

@@ -1,14 +1,14 @@
 use mathlib.Core.Path.{_≡_, refl, sym, ap, _∙_}
 use Prim.Native.Nat.{ℕ, _+_, _*_, _-_, _^_, _<_, _≤_}
 use native.Mathlib.Omega.{arith}
-use borrow.Author.Tests.{leb-true, leb-false}
+use borrow.Author.Tests.{leb-true}
 use mathlib.Core.Bool.{Bool, true}
 use lib.Dec.{leb}
 use Rattle.reading.specs.declared.Budget.{Budget}
 use Rattle.reading.specs.Header.{header}
-use Rattle.reading.specs.Calls.{remaining}
+use Rattle.reading.specs.Calls.{headerPrice, remaining}
 use Rattle.jpeg.specs.Steps.{left, drawnAs}
-use Rattle.jpeg.proofs.Admitted.{poor, rich, done-found, stop-verdict, taken-twice}
+use Rattle.jpeg_admission.proofs.Admitted.{price-fits, poor, rich, done-found, stop-verdict, taken-twice}
 use Rattle.jpeg.proofs.Decodes.{roomy-out, roomy-scratch, decode-room, decode-poor, decode-head, decode-drawn}
 use borrow.Author.Needs.{needs}
 use Rattle.jpeg.proofs.decode.Statement.{statement}
@@ -47,7 +47,11 @@ returns-2 : tie.Need-returns-2
 returns-2 c = ap (λ a. left a (c .before .before .before .before .before .before .before .before .args .out .now) (c .before .before .before .before .before .before .before .before .args .scratch .now)) (c .undecoded2 .ensures) ∙ decode-poor (c .before .before .before .before .before .before .before .before .args .s .now) (c .before .before .before .before .before .before .before .before .args .found) (c .before .before .before .before .before .before .before .before .args .out .now) (c .before .before .before .before .before .before .before .before .args .scratch .now) (c .before .before .before .before .before .before .before .before .args .budget) (sym (c .before .before .before .before .short-room .ensures) ∙ c .before .before .before .if1 .left) (beyond _ _ _ _ (omega arith) (c .before .before .past-counting .ensures) (c .before .if2 .taken))
 
 header-price-requires : tie.Need-header-price-requires
-header-price-requires c κs = leb-false _ _ (sym (c .before .past-counting .ensures) ∙ c .if2 .left)
+header-price-requires c κs = search needs
+
+-- behind the test of past_counting the price is 2n + 1
+price : (c : tie.After-header-price) → c .header-price .result ≡ headerPrice (c .before .before .before .before .before .before .before .before .args .s .now)
+price c = c .header-price .ensures ∙ sym (price-fits _ (c .before .before .past-counting .ensures) (c .before .if2 .left))
 
 covers-requires : tie.Need-covers-requires
 covers-requires c κs = search needs
@@ -56,7 +60,7 @@ undecoded-requires-3 : tie.Need-undecoded-requires-3
 undecoded-requires-3 c κs = search needs
 
 returns-3 : tie.Need-returns-3
-returns-3 c = ap (λ a. left a (c .before .before .before .before .before .before .before .before .before .before .before .args .out .now) (c .before .before .before .before .before .before .before .before .before .before .before .args .scratch .now)) (c .undecoded3 .ensures) ∙ decode-poor (c .before .before .before .before .before .before .before .before .before .before .before .args .s .now) (c .before .before .before .before .before .before .before .before .before .before .before .args .found) (c .before .before .before .before .before .before .before .before .before .before .before .args .out .now) (c .before .before .before .before .before .before .before .before .before .before .before .args .scratch .now) (c .before .before .before .before .before .before .before .before .before .before .before .args .budget) (sym (c .before .before .before .before .before .before .before .short-room .ensures) ∙ c .before .before .before .before .before .before .if1 .left) (more _ _ _ (poor _ _ _ _ (c .before .before .before .header-price .ensures) (c .before .before .covers .ensures) (c .before .if3 .taken)))
+returns-3 c = ap (λ a. left a (c .before .before .before .before .before .before .before .before .before .before .before .args .out .now) (c .before .before .before .before .before .before .before .before .before .before .before .args .scratch .now)) (c .undecoded3 .ensures) ∙ decode-poor (c .before .before .before .before .before .before .before .before .before .before .before .args .s .now) (c .before .before .before .before .before .before .before .before .before .before .before .args .found) (c .before .before .before .before .before .before .before .before .before .before .before .args .out .now) (c .before .before .before .before .before .before .before .before .before .before .before .args .scratch .now) (c .before .before .before .before .before .before .before .before .before .before .before .args .budget) (sym (c .before .before .before .before .before .before .before .short-room .ensures) ∙ c .before .before .before .before .before .before .if1 .left) (more _ _ _ (poor _ _ _ _ (price (c .before .before .before)) (c .before .before .covers .ensures) (c .before .if3 .taken)))
 
 less-requires : tie.Need-less-requires
 less-requires c κs = search needs
@@ -68,7 +72,7 @@ undecoded-requires-4 : tie.Need-undecoded-requires-4
 undecoded-requires-4 c κs = search needs
 
 returns-4 : tie.Need-returns-4
-returns-4 c = ap (λ a. left a (c .before .before .before .before .before .before .before .before .before .before .before .before .before .before .args .out .now) (c .before .before .before .before .before .before .before .before .before .before .before .before .before .before .args .scratch .now)) (c .undecoded4 .ensures) ∙ decode-poor (c .before .before .before .before .before .before .before .before .before .before .before .before .before .before .args .s .now) (c .before .before .before .before .before .before .before .before .before .before .before .before .before .before .args .found) (c .before .before .before .before .before .before .before .before .before .before .before .before .before .before .args .out .now) (c .before .before .before .before .before .before .before .before .before .before .before .before .before .before .args .scratch .now) (c .before .before .before .before .before .before .before .before .before .before .before .before .before .before .args .budget) (sym (c .before .before .before .before .before .before .before .before .before .before .short-room .ensures) ∙ c .before .before .before .before .before .before .before .before .before .if1 .left) (short _ _ _ (c .before .before .before .less .ensures) (c .before .before .before .before .before .before .header-price .ensures) (poor _ _ _ _ refl (c .before .before .covers2 .ensures) (c .before .if4 .taken)))
+returns-4 c = ap (λ a. left a (c .before .before .before .before .before .before .before .before .before .before .before .before .before .before .args .out .now) (c .before .before .before .before .before .before .before .before .before .before .before .before .before .before .args .scratch .now)) (c .undecoded4 .ensures) ∙ decode-poor (c .before .before .before .before .before .before .before .before .before .before .before .before .before .before .args .s .now) (c .before .before .before .before .before .before .before .before .before .before .before .before .before .before .args .found) (c .before .before .before .before .before .before .before .before .before .before .before .before .before .before .args .out .now) (c .before .before .before .before .before .before .before .before .before .before .before .before .before .before .args .scratch .now) (c .before .before .before .before .before .before .before .before .before .before .before .before .before .before .args .budget) (sym (c .before .before .before .before .before .before .before .before .before .before .short-room .ensures) ∙ c .before .before .before .before .before .before .before .before .before .if1 .left) (short _ _ _ (c .before .before .before .less .ensures) (price (c .before .before .before .before .before .before)) (poor _ _ _ _ refl (c .before .before .covers2 .ensures) (c .before .if4 .taken)))
 
 less-requires-2 : tie.Need-less-requires-2
 less-requires-2 c κs = search needs
@@ -95,8 +99,8 @@ draw-requires c κs =
 
 returns-5 : tie.Need-returns-5
 returns-5 c =
-    ap (λ a. left a (c .before .before .before .before .before .before .before .before .before .before .before .before .before .before .before .before .before .before .before .args .out .now) (c .before .before .before .before .before .before .before .before .before .before .before .before .before .before .before .before .before .before .before .args .scratch .now)) (c .undecoded5 .ensures) ∙ ap (λ b. left (record { verdict = _; budget = b }) (c .before .before .before .before .before .before .before .before .before .before .before .before .before .before .before .before .before .before .before .args .out .now) (c .before .before .before .before .before .before .before .before .before .before .before .before .before .before .before .before .before .before .before .args .scratch .now)) (c .before .before .before .before .before .less2 .ensures ∙ ap (λ b. remaining b (c .before .before .before .before .before .before .before .before .before .before .before .before .before .before .before .before .before .before .before .args .found .work)) (c .before .before .before .before .before .before .before .before .less .ensures ∙ ap (remaining (c .before .before .before .before .before .before .before .before .before .before .before .before .before .before .before .before .before .before .before .args .budget)) (c .before .before .before .before .before .before .before .before .before .before .before .header-price .ensures)) ∙ taken-twice (c .before .before .before .before .before .before .before .before .before .before .before .before .before .before .before .before .before .before .before .args .budget) _ _)
-    ∙ decode-head (c .before .before .before .before .before .before .before .before .before .before .before .before .before .before .before .before .before .before .before .args .s .now) (c .before .before .before .before .before .before .before .before .before .before .before .before .before .before .before .before .before .before .before .args .found) (c .before .before .before .before .before .before .before .before .before .before .before .before .before .before .before .before .before .before .before .args .out .now) (c .before .before .before .before .before .before .before .before .before .before .before .before .before .before .before .before .before .before .before .args .scratch .now) (c .before .before .before .before .before .before .before .before .before .before .before .before .before .before .before .before .before .before .before .args .budget) (sym (c .before .before .before .before .before .before .before .before .before .before .before .before .before .before .before .short-room .ensures) ∙ c .before .before .before .before .before .before .before .before .before .before .before .before .before .before .if1 .left) (enough _ _ _ (rich _ _ _ _ (c .before .before .before .before .before .before .before .before .before .before .before .header-price .ensures) (c .before .before .before .before .before .before .before .before .before .before .covers .ensures) (c .before .before .before .before .before .before .before .before .before .if3 .left)) (c .before .before .before .before .before .before .before .before .less .ensures) (c .before .before .before .before .before .before .before .before .before .before .before .header-price .ensures) (rich _ _ _ _ refl (c .before .before .before .before .before .before .before .covers2 .ensures) (c .before .before .before .before .before .before .if4 .left))) _ (stop-verdict (header (c .before .before .before .before .before .before .before .before .before .before .before .before .before .before .before .before .before .before .before .args .s .now) (c .before .before .before .before .before .before .before .before .before .before .before .before .before .before .before .before .before .before .before .args .found .colour)) _ _ (c .before .before .before .before .header .ensures) (c .before .enum-told .given .1))
+    ap (λ a. left a (c .before .before .before .before .before .before .before .before .before .before .before .before .before .before .before .before .before .before .before .args .out .now) (c .before .before .before .before .before .before .before .before .before .before .before .before .before .before .before .before .before .before .before .args .scratch .now)) (c .undecoded5 .ensures) ∙ ap (λ b. left (record { verdict = _; budget = b }) (c .before .before .before .before .before .before .before .before .before .before .before .before .before .before .before .before .before .before .before .args .out .now) (c .before .before .before .before .before .before .before .before .before .before .before .before .before .before .before .before .before .before .before .args .scratch .now)) (c .before .before .before .before .before .less2 .ensures ∙ ap (λ b. remaining b (c .before .before .before .before .before .before .before .before .before .before .before .before .before .before .before .before .before .before .before .args .found .work)) (c .before .before .before .before .before .before .before .before .less .ensures ∙ ap (remaining (c .before .before .before .before .before .before .before .before .before .before .before .before .before .before .before .before .before .before .before .args .budget)) (price (c .before .before .before .before .before .before .before .before .before .before .before))) ∙ taken-twice (c .before .before .before .before .before .before .before .before .before .before .before .before .before .before .before .before .before .before .before .args .budget) _ _)
+    ∙ decode-head (c .before .before .before .before .before .before .before .before .before .before .before .before .before .before .before .before .before .before .before .args .s .now) (c .before .before .before .before .before .before .before .before .before .before .before .before .before .before .before .before .before .before .before .args .found) (c .before .before .before .before .before .before .before .before .before .before .before .before .before .before .before .before .before .before .before .args .out .now) (c .before .before .before .before .before .before .before .before .before .before .before .before .before .before .before .before .before .before .before .args .scratch .now) (c .before .before .before .before .before .before .before .before .before .before .before .before .before .before .before .before .before .before .before .args .budget) (sym (c .before .before .before .before .before .before .before .before .before .before .before .before .before .before .before .short-room .ensures) ∙ c .before .before .before .before .before .before .before .before .before .before .before .before .before .before .if1 .left) (enough _ _ _ (rich _ _ _ _ (price (c .before .before .before .before .before .before .before .before .before .before .before)) (c .before .before .before .before .before .before .before .before .before .before .covers .ensures) (c .before .before .before .before .before .before .before .before .before .if3 .left)) (c .before .before .before .before .before .before .before .before .less .ensures) (price (c .before .before .before .before .before .before .before .before .before .before .before)) (rich _ _ _ _ refl (c .before .before .before .before .before .before .before .covers2 .ensures) (c .before .before .before .before .before .before .if4 .left))) _ (stop-verdict (header (c .before .before .before .before .before .before .before .before .before .before .before .before .before .before .before .before .before .before .before .args .s .now) (c .before .before .before .before .before .before .before .before .before .before .before .before .before .before .before .before .before .before .before .args .found .colour)) _ _ (c .before .before .before .before .header .ensures) (c .before .enum-told .given .1))
 
 same-length : tie.Need-same-length
 same-length c = search needs
@@ -106,8 +110,8 @@ same-length-2 c = search needs
 
 returns-6 : tie.Need-returns-6
 returns-6 c =
-    c .before .before .before .before .draw .ensures ∙ ap (λ b. drawnAs (c .before .before .before .before .before .before .before .before .before .before .before .before .before .before .before .before .before .before .before .before .before .before .before .before .before .args .s .now) (c .before .before .before .before .before .before .before .before .before .before .header .result .found) (c .before .before .before .before .before .before .before .before .before .before .before .before .before .before .before .before .before .before .before .before .before .before .before .before .before .args .found) (c .before .before .before .before .before .before .before .before .before .before .before .before .before .before .before .before .before .before .before .before .before .before .before .before .before .args .out .now) (c .before .before .before .before .before .before .before .before .before .before .before .before .before .before .before .before .before .before .before .before .before .before .before .before .before .args .scratch .now) b) (c .before .before .before .before .before .before .before .before .before .before .before .less2 .ensures ∙ ap (λ b. remaining b (c .before .before .before .before .before .before .before .before .before .before .before .before .before .before .before .before .before .before .before .before .before .before .before .before .before .args .found .work)) (c .before .before .before .before .before .before .before .before .before .before .before .before .before .before .less .ensures ∙ ap (remaining (c .before .before .before .before .before .before .before .before .before .before .before .before .before .before .before .before .before .before .before .before .before .before .before .before .before .args .budget)) (c .before .before .before .before .before .before .before .before .before .before .before .before .before .before .before .before .before .header-price .ensures)) ∙ taken-twice (c .before .before .before .before .before .before .before .before .before .before .before .before .before .before .before .before .before .before .before .before .before .before .before .before .before .args .budget) _ _)
-    ∙ decode-drawn (c .before .before .before .before .before .before .before .before .before .before .before .before .before .before .before .before .before .before .before .before .before .before .before .before .before .args .s .now) (c .before .before .before .before .before .before .before .before .before .before .before .before .before .before .before .before .before .before .before .before .before .before .before .before .before .args .found) (c .before .before .before .before .before .before .before .before .before .before .before .before .before .before .before .before .before .before .before .before .before .before .before .before .before .args .out .now) (c .before .before .before .before .before .before .before .before .before .before .before .before .before .before .before .before .before .before .before .before .before .before .before .before .before .args .scratch .now) (c .before .before .before .before .before .before .before .before .before .before .before .before .before .before .before .before .before .before .before .before .before .before .before .before .before .args .budget) (sym (c .before .before .before .before .before .before .before .before .before .before .before .before .before .before .before .before .before .before .before .before .before .short-room .ensures) ∙ c .before .before .before .before .before .before .before .before .before .before .before .before .before .before .before .before .before .before .before .before .if1 .left) (enough _ _ _ (rich _ _ _ _ (c .before .before .before .before .before .before .before .before .before .before .before .before .before .before .before .before .before .header-price .ensures) (c .before .before .before .before .before .before .before .before .before .before .before .before .before .before .before .before .covers .ensures) (c .before .before .before .before .before .before .before .before .before .before .before .before .before .before .before .if3 .left)) (c .before .before .before .before .before .before .before .before .before .before .before .before .before .before .less .ensures) (c .before .before .before .before .before .before .before .before .before .before .before .before .before .before .before .before .before .header-price .ensures) (rich _ _ _ _ refl (c .before .before .before .before .before .before .before .before .before .before .before .before .before .covers2 .ensures) (c .before .before .before .before .before .before .before .before .before .before .before .before .if4 .left))) _ (done-found (header (c .before .before .before .before .before .before .before .before .before .before .before .before .before .before .before .before .before .before .before .before .before .before .before .before .before .args .s .now) (c .before .before .before .before .before .before .before .before .before .before .before .before .before .before .before .before .before .before .before .before .before .before .before .before .before .args .found .colour)) _ (c .before .before .before .before .before .before .before .before .before .before .header .ensures) (c .before .before .before .before .before .before .before .enum-told2 .given .1))
+    c .before .before .before .before .draw .ensures ∙ ap (λ b. drawnAs (c .before .before .before .before .before .before .before .before .before .before .before .before .before .before .before .before .before .before .before .before .before .before .before .before .before .args .s .now) (c .before .before .before .before .before .before .before .before .before .before .header .result .found) (c .before .before .before .before .before .before .before .before .before .before .before .before .before .before .before .before .before .before .before .before .before .before .before .before .before .args .found) (c .before .before .before .before .before .before .before .before .before .before .before .before .before .before .before .before .before .before .before .before .before .before .before .before .before .args .out .now) (c .before .before .before .before .before .before .before .before .before .before .before .before .before .before .before .before .before .before .before .before .before .before .before .before .before .args .scratch .now) b) (c .before .before .before .before .before .before .before .before .before .before .before .less2 .ensures ∙ ap (λ b. remaining b (c .before .before .before .before .before .before .before .before .before .before .before .before .before .before .before .before .before .before .before .before .before .before .before .before .before .args .found .work)) (c .before .before .before .before .before .before .before .before .before .before .before .before .before .before .less .ensures ∙ ap (remaining (c .before .before .before .before .before .before .before .before .before .before .before .before .before .before .before .before .before .before .before .before .before .before .before .before .before .args .budget)) (price (c .before .before .before .before .before .before .before .before .before .before .before .before .before .before .before .before .before))) ∙ taken-twice (c .before .before .before .before .before .before .before .before .before .before .before .before .before .before .before .before .before .before .before .before .before .before .before .before .before .args .budget) _ _)
+    ∙ decode-drawn (c .before .before .before .before .before .before .before .before .before .before .before .before .before .before .before .before .before .before .before .before .before .before .before .before .before .args .s .now) (c .before .before .before .before .before .before .before .before .before .before .before .before .before .before .before .before .before .before .before .before .before .before .before .before .before .args .found) (c .before .before .before .before .before .before .before .before .before .before .before .before .before .before .before .before .before .before .before .before .before .before .before .before .before .args .out .now) (c .before .before .before .before .before .before .before .before .before .before .before .before .before .before .before .before .before .before .before .before .before .before .before .before .before .args .scratch .now) (c .before .before .before .before .before .before .before .before .before .before .before .before .before .before .before .before .before .before .before .before .before .before .before .before .before .args .budget) (sym (c .before .before .before .before .before .before .before .before .before .before .before .before .before .before .before .before .before .before .before .before .before .short-room .ensures) ∙ c .before .before .before .before .before .before .before .before .before .before .before .before .before .before .before .before .before .before .before .before .if1 .left) (enough _ _ _ (rich _ _ _ _ (price (c .before .before .before .before .before .before .before .before .before .before .before .before .before .before .before .before .before)) (c .before .before .before .before .before .before .before .before .before .before .before .before .before .before .before .before .covers .ensures) (c .before .before .before .before .before .before .before .before .before .before .before .before .before .before .before .if3 .left)) (c .before .before .before .before .before .before .before .before .before .before .before .before .before .before .less .ensures) (price (c .before .before .before .before .before .before .before .before .before .before .before .before .before .before .before .before .before)) (rich _ _ _ _ refl (c .before .before .before .before .before .before .before .before .before .before .before .before .before .covers2 .ensures) (c .before .before .before .before .before .before .before .before .before .before .before .before .if4 .left))) _ (done-found (header (c .before .before .before .before .before .before .before .before .before .before .before .before .before .before .before .before .before .before .before .before .before .before .before .before .before .args .s .now) (c .before .before .before .before .before .before .before .before .before .before .before .before .before .before .before .before .before .before .before .before .before .before .before .before .before .args .found .colour)) _ (c .before .before .before .before .before .before .before .before .before .before .header .ensures) (c .before .before .before .before .before .before .before .enum-told2 .given .1))
 
 pub decode-spec : {M : Type 1} → statement M
 decode-spec =

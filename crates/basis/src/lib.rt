@@ -1,0 +1,1 @@
+// The 64-entry basis of the transform (the rules' 'Samples') against the cosine: definitions and laws. The crate has no code of its own.
