@@ -13,7 +13,6 @@ use Rattle.reading.specs.Settled.{Written, _then_, blockBy}
 use Rattle.jpeg_pen.specs.declared.Pen.{Pen}
 use Rattle.jpeg_pen.specs.Page.{page}
 use Rattle.jpeg_codes.specs.Words.{coderOf, wordCode}
-use Rattle.jpeg_writer.specs.Puts.{Puts}
 use Rattle.jpeg_writer.specs.Steps.{onwards}
 use Rattle.jpeg_writer.proofs.Writing.{Onto, onto-start, onto-more, onto-end, onto-lacks, lacks-then, puts-as, puts-symbol, puts-done, puts-lack, is-done, is-lack}
 use Rattle.jpeg_writer.proofs.Turns.{Behind, zeros-behind, Fits, turn-within, onwards-block, onwards-over, onwards-turn, block-empty}
@@ -79,9 +78,6 @@ within c = turn-within _ _ _ _ (c .before .before .before .before .walk .inv .fu
 put-symbol-requires : tie.Need-put-symbol-requires Inv-walk μ-walk
 put-symbol-requires c κs = search needs
 
-symbol : (c : tie.After-put-symbol Inv-walk μ-walk) → Puts (wordCode (c .before .before .word-at .result) (c .before .before .before .next .result .field) (c .before .before .before .next .result .size)) (page (c .before .before .before .before .before .before .before .walk .out) (c .before .before .before .before .before .before .before .walk .q)) (c .put-symbol .result) (c .put-symbol .last .0)
-symbol c = puts-symbol _ _ _ _ _ (c .before .before .before .before .before .before .before .walk .inv .onto .proper) (within (c .before .before .before) .few) (c .put-symbol .ensures)
-
 enum-told : tie.Need-enum-told Inv-walk μ-walk
 enum-told c = search needs
 
@@ -98,7 +94,7 @@ walk-less c = omega (arith, within (c .before .before .before .before .before .b
 
 walk-again : tie.Need-walk-again Inv-walk μ-walk
 walk-again c =
-    record { full = c .before .before .before .before .before .before .before .before .before .before .before .before .walk .inv .full; within = within (c .before .before .before .before .before .before .before .before) .within; low = within (c .before .before .before .before .before .before .before .before) .low; long = search needs; onto = onto-more (c .before .before .before .before .before .before .before .before .before .before .before .before .walk .inv .onto) _ _ (stands (c .before .before .before .before .before .before .before)) (puts-done (symbol (c .before .before .before .before .before)) (c .before .t .given .1)) }
+    record { full = c .before .before .before .before .before .before .before .before .before .before .before .before .walk .inv .full; within = within (c .before .before .before .before .before .before .before .before) .within; low = within (c .before .before .before .before .before .before .before .before) .low; long = search needs; onto = onto-more (c .before .before .before .before .before .before .before .before .before .before .before .before .walk .inv .onto) _ _ (stands (c .before .before .before .before .before .before .before)) (puts-done (puts-symbol _ _ _ _ _ (c .before .before .before .before .before .before .before .before .before .before .before .before .walk .inv .onto .proper) (within (c .before .before .before .before .before .before .before .before) .few) (c .before .before .before .before .before .put-symbol .ensures)) (c .before .t .given .1)) }
 
 same-length : tie.Need-same-length Inv-walk μ-walk
 same-length c = search needs
@@ -112,7 +108,7 @@ same-length-2 c = search needs
 
 returns-3 : tie.Need-returns-3 Inv-walk μ-walk
 returns-3 c =
-    puts-as (whole (c .before .before .before .before .before .before .before .before .before .before .before .before .before .before .before .before)) (is-lack (onto-lacks (c .before .before .before .before .before .before .before .before .before .before .before .walk .inv .onto) (stands (c .before .before .before .before .before .before) ∙ lacks-then _ (puts-lack (symbol (c .before .before .before .before)) (c .enum-told .given .1)))))
+    puts-as (whole (c .before .before .before .before .before .before .before .before .before .before .before .before .before .before .before .before)) (is-lack (onto-lacks (c .before .before .before .before .before .before .before .before .before .before .before .walk .inv .onto) (stands (c .before .before .before .before .before .before) ∙ lacks-then _ (puts-lack (puts-symbol _ _ _ _ _ (c .before .before .before .before .before .before .before .before .before .before .before .walk .inv .onto .proper) (within (c .before .before .before .before .before .before .before) .few) (c .before .before .before .before .put-symbol .ensures)) (c .enum-told .given .1)))))
 
 pub put-block-spec : {M : Type 1} → statement M
 put-block-spec =
