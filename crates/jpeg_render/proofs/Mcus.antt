@@ -8,9 +8,9 @@ use native.Mathlib.Omega.{arith}
 use lib.Dec.{eqb}
 use lib.ListN.{getD, length}
 use Rattle.reading.specs.Tests.{_and_}
-use Rattle.jpeg_render.specs.Drawn.{pixels}
+use Rattle.jpeg_run.specs.Drawn.{pixels}
+use Rattle.jpeg_run.proofs.Drawing.{pixels-same}
 use Rattle.jpeg_render.specs.Rows.{RunsFit, ColourFits, McuFits, inRuns, inMcu, Spread}
-use Rattle.jpeg_render.proofs.Drawing.{pixels-same}
 use Rattle.jpeg_render.proofs.Shades.{and-true, and-false, gray-in-mcu, runs-in-mcu}
 
 -- ---- three channels, the chroma samples spread over the pixels

@@ -4,12 +4,10 @@ use mathlib.Core.Path.{_≡_, refl, ap, ap₂}
 use mathlib.Core.Bool.{Bool, true, false}
 use mathlib.Core.List.{List}
 use native.Mathlib.Omega.{arith}
-use lib.ListN.{getD, set}
+use lib.ListN.{getD}
 use Rattle.reading.specs.Tests.{_and_}
-use Rattle.reading.specs.Colour.{red, green, blue}
-use Rattle.jpeg_render.specs.Drawn.{written}
-use Rattle.jpeg_render.specs.Rows.{three, shown, lumaAt, inRun, inRuns, inMcu, Spread, Gathered}
-use Rattle.jpeg_render.proofs.Drawing.{three-channels}
+use Rattle.jpeg_run.specs.Runs.{three, shown, inRun}
+use Rattle.jpeg_render.specs.Rows.{lumaAt, inRuns, inMcu, Spread, Gathered}
 
 pub and-true : (b : Bool) → b and true ≡ b
 and-true true = refl
@@ -18,15 +16,6 @@ and-true false = refl
 pub and-false : (b : Bool) → b and false ≡ false
 and-false true = refl
 and-false false = refl
-
--- the stores of a pixel's channels
-module _ (y b r : ℕ) {colour : Bool} where
-  pub in-colour : colour ≡ true → (a : ℕ) (d : List ℕ) {k l m : ℕ} → k ≡ red y r → l ≡ green y b r → m ≡ blue y b
-      → set (set (set d a k) (a + 1) l) (a + 2) m ≡ written (shown colour (three y b r)) a 3 d
-  in-colour e a d p q s = three-channels (shown colour (three y b r)) a d (rw e p) (rw e q) (rw e s)
-
-  pub as-they-are : colour ≡ false → (a : ℕ) (d : List ℕ) → set (set (set d a y) (a + 1) b) (a + 2) r ≡ written (shown colour (three y b r)) a 3 d
-  as-they-are e a d = three-channels (shown colour (three y b r)) a d (rw e) (rw e) (rw e)
 
 -- what is shown depends on the three samples alone
 pub shown-cong : (b : Bool) (v w : ℕ → ℕ) → v 0 ≡ w 0 → v 1 ≡ w 1 → v 2 ≡ w 2 → (c : ℕ) → c < 3 → shown b v c ≡ shown b w c

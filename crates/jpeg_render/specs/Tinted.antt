@@ -7,7 +7,7 @@ use lib.ListN.{getD, length}
 use Rattle.whole.specs.Expressions.{at}
 use Rattle.reading.specs.Colour.{toByte}
 use Rattle.jpeg_color.specs.Parts.{redPart, greenPart, bluePart}
-use Rattle.jpeg_render.specs.Rows.{three}
+use Rattle.jpeg_run.specs.Runs.{three}
 
 -- the first n numbers of a list have a property, each by its place
 pub record First (P : ℕ → ℤ → Type 0) (n : ℕ) (u : List ℤ) : Type 0 where

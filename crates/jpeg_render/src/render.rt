@@ -12,8 +12,8 @@ ghost use lib.Dec.{eqb};
 ghost use lib.ListN.{length, getD};
 ghost use Rattle.reading.specs.Tests.{_and_, over};
 ghost use Rattle.reading.specs.Reading.{pixel, picture};
-ghost use Rattle.jpeg_render.specs.Drawn.{written, pixels};
-ghost use Rattle.jpeg_render.specs.Rows.{Drawable, RunsFit, ColourFits, McuFits, three, shown, inRun, inRuns, inMcu, Spread, Gathered};
+ghost use Rattle.jpeg_run.specs.Drawn.{written, pixels};
+ghost use Rattle.jpeg_render.specs.Rows.{Drawable, RunsFit, ColourFits, McuFits, inRuns, inMcu, Spread, Gathered};
 ghost use Rattle.jpeg_render.specs.Tinted.{First, Part, redAt, greenAt, blueAt, Twice, TintFits, tinted};
 
 // The smaller of two numbers.
@@ -55,22 +55,6 @@ fn spread_wide(samples: &[u8], chroma: usize, hs: usize, spread: &mut [u8; 32])
     }
 }
 
-// One pixel of three channels.
-fn pixel(y: u8, b: u8, r: u8, colour: bool, out: &mut [u8], at: usize)
-    requires { ⌜ at + 3 ≤ length (now out) ⌝ }
-    ensures { λ _. ⌜ now (out .exit) ≡ written (shown colour (three y b r)) at 3 (now (out .entry)) ⌝ }
-{
-    if colour {
-        out[at] = jpeg_color::red(y, r);
-        out[at + 1] = jpeg_color::green(y, b, r);
-        out[at + 2] = jpeg_color::blue(y, b);
-    } else {
-        out[at] = y;
-        out[at + 1] = b;
-        out[at + 2] = r;
-    }
-}
-
 // The 8 luma samples of a block's row, side by side from x on.
 fn gather_8(samples: &[u8], from: usize, x: usize, gathered: &mut [u8; 32])
     requires { ⌜ (from + 8 ≤ length (now samples)) × (x + 8 ≤ 32) × (length (now gathered) ≡ 32) ⌝ }
@@ -95,29 +79,6 @@ fn gather(samples: &[u8], luma: usize, n: usize, gathered: &mut [u8; 32])
     }
 }
 
-// Pixels of three channels, whose samples stand in three lists.
-fn run(
-    luma: &[u8; 32],
-    cb: &[u8; 32],
-    cr: &[u8; 32],
-    n: usize,
-    colour: bool,
-    out: &mut [u8],
-    at: usize,
-)
-    requires { ⌜ (n ≤ 32) × (at + n * 3 ≤ length (now out)) ⌝ }
-    ensures { λ _. ⌜ now (out .exit) ≡ pixels (inRun (now (luma .entry)) (now (cb .entry)) (now (cr .entry)) colour) 3 at n (now (out .entry)) ⌝ }
-{
-    let mut i = 0usize;
-    while i < n {
-        let y = luma[i];
-        let b = cb[i];
-        let r = cr[i];
-        pixel(y, b, r, colour, out, at + i * 3);
-        i += 1;
-    }
-}
-
 // The pixels of an MCU in one row. Its luma samples are gathered before the loop over pixels, which is then one loop and quick.
 fn runs(
     samples: &[u8],
@@ -134,7 +95,8 @@ fn runs(
 {
     let mut gathered = [0u8; 32];
     gather(samples, luma, n, &mut gathered);
-    run(&gathered, cb, cr, n, colour, out, at);
+    let e = at + n * 3;
+    jpeg_run::run(&gathered, cb, cr, n, colour, &mut out[at..e]);
 }
 
 // An MCU of three channels in one row, sampling 1 across. This and the next are two functions, and not one with a choice in it: so

@@ -2,8 +2,8 @@
 -- gathered make the pixels of the MCU. Assumes nothing.
 use native.Mathlib.Omega.{arith}
 use borrow.Author.Needs.{needs}
+use Rattle.jpeg_run.proofs.Drawing.{pixels-same}
 use Rattle.jpeg_render.specs.Rows.{lumaAt}
-use Rattle.jpeg_render.proofs.Drawing.{pixels-same}
 use Rattle.jpeg_render.proofs.Tinting.{spread-parts, small-parts, tinted-in-mcu}
 use Rattle.jpeg_render.proofs.render.coloured_2.Statement.{statement}
 use Rattle.jpeg_render.proofs.render.coloured_2.Tie as tie

@@ -3,8 +3,8 @@ use Prim.Native.Nat.{_+_, _*_, _-_, _<_}
 use native.Mathlib.Omega.{arith}
 use lib.ListN.{getD, length-set}
 use Rattle.whole.specs.Expressions.{fits-abs}
+use Rattle.jpeg_run.proofs.Drawing.{DrawnTo, drawn-none, drawn-next, drawn-all, three-channels}
 use Rattle.jpeg_render.specs.Tinted.{tinted}
-use Rattle.jpeg_render.proofs.Drawing.{DrawnTo, drawn-none, drawn-next, drawn-all, three-channels}
 use Rattle.jpeg_render.proofs.Tinting.{shade-fits, shade}
 use Rattle.jpeg_render.proofs.render.tint.Statement.{statement}
 use Rattle.jpeg_render.proofs.render.tint.Tie as tie
