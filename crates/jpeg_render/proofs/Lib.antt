@@ -3,7 +3,6 @@ pub mod Drawing
 pub mod Shades
 pub mod RowPlaces
 pub mod Spreading
-pub mod Tinting
 pub mod Mcus
 pub mod RowDrawn
 pub mod Fitting

@@ -9,9 +9,11 @@ use lib.ListN.{length}
 use Rattle.reading.specs.declared.Record.{Record}
 use Rattle.reading.specs.Tests.{_and_, over}
 use Rattle.reading.specs.Reading.{pixel, picture}
-use Rattle.jpeg_render.specs.Drawn.{pixels, rows}
+use Rattle.jpeg_run.specs.Drawn.{pixels}
+use Rattle.jpeg_run.proofs.Drawing.{length-pixels, DrawnTo, drawn-none, drawn-more}
+use Rattle.jpeg_render.specs.Drawn.{rows}
 use Rattle.jpeg_render.specs.Rows.{Drawable, McuFits, perOf, lumaOfRow, chromaOfRow, inMcu}
-use Rattle.jpeg_render.proofs.Drawing.{length-pixels, DrawnTo, drawn-none, drawn-more, no-rows, row-more, rows-over}
+use Rattle.jpeg_render.proofs.Drawing.{no-rows, row-more, rows-over}
 use Rattle.jpeg_render.proofs.RowPlaces.{channels-in, area-most, row-room, mcu-within, luma-within, chroma-within, chroma-most, pixel-in-row}
 
 -- after k MCUs

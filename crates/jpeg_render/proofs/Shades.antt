@@ -1,15 +1,15 @@
 -- The channels of a pixel, in colour or as the samples are.
-use Prim.Native.Nat.{ℕ, zero, suc, _+_, _*_, _<_}
-use mathlib.Core.Path.{_≡_, refl, ap, ap₂}
+use Prim.Native.Nat.{ℕ, zero, suc, _+_, _*_, _/_, _<_, _≤_}
+use mathlib.Core.Path.{_≡_, refl, ap, ap₂, _∙_}
 use mathlib.Core.Bool.{Bool, true, false}
 use mathlib.Core.List.{List}
 use native.Mathlib.Omega.{arith}
-use lib.ListN.{getD, set}
+use lib.ListN.{getD, take, drop}
+use lib.Seq.{getD-take, getD-drop}
 use Rattle.reading.specs.Tests.{_and_}
-use Rattle.reading.specs.Colour.{red, green, blue}
-use Rattle.jpeg_render.specs.Drawn.{written}
-use Rattle.jpeg_render.specs.Rows.{three, shown, lumaAt, inRun, inRuns, inMcu, Spread, Gathered}
-use Rattle.jpeg_render.proofs.Drawing.{three-channels}
+use Rattle.jpeg_run.specs.Runs.{three, shown, inRun}
+use Rattle.jpeg_tint.specs.Tinted.{inPairs}
+use Rattle.jpeg_render.specs.Rows.{lumaAt, inRuns, inMcu, Spread, Gathered}
 
 pub and-true : (b : Bool) → b and true ≡ b
 and-true true = refl
@@ -18,15 +18,6 @@ and-true false = refl
 pub and-false : (b : Bool) → b and false ≡ false
 and-false true = refl
 and-false false = refl
-
--- the stores of a pixel's channels
-module _ (y b r : ℕ) {colour : Bool} where
-  pub in-colour : colour ≡ true → (a : ℕ) (d : List ℕ) {k l m : ℕ} → k ≡ red y r → l ≡ green y b r → m ≡ blue y b
-      → set (set (set d a k) (a + 1) l) (a + 2) m ≡ written (shown colour (three y b r)) a 3 d
-  in-colour e a d p q s = three-channels (shown colour (three y b r)) a d (rw e p) (rw e q) (rw e s)
-
-  pub as-they-are : colour ≡ false → (a : ℕ) (d : List ℕ) → set (set (set d a y) (a + 1) b) (a + 2) r ≡ written (shown colour (three y b r)) a 3 d
-  as-they-are e a d = three-channels (shown colour (three y b r)) a d (rw e) (rw e) (rw e)
 
 -- what is shown depends on the three samples alone
 pub shown-cong : (b : Bool) (v w : ℕ → ℕ) → v 0 ≡ w 0 → v 1 ≡ w 1 → v 2 ≡ w 2 → (c : ℕ) → c < 3 → shown b v c ≡ shown b w c
@@ -52,6 +43,17 @@ pub runs-in-mcu : (s : List ℕ) (a b hs : ℕ) (cb cr : List ℕ) (coloured : B
 unfolding inRuns inMcu
 runs-in-mcu s a b hs cb cr coloured p q i c h =
     ap₂ (λ k l. shown coloured (three (getD s (lumaAt a i) 0) k l) c) (p i h) (q i h)
+
+-- the pixels of an MCU with sampling 2 in colour: the chroma samples are the 8 that are lent of each channel
+pub pairs-in-mcu : (s : List ℕ) (a b k l n : ℕ) (luma : List ℕ) → n ≤ 16 → 8 ≤ k → 8 ≤ l → Gathered s a n luma
+    → (i c : ℕ) → i < n → inPairs luma (take k (drop b s)) (take l (drop (b + 64) s)) i c ≡ inMcu s a b 2 true i c
+unfolding inPairs inMcu
+pairs-in-mcu s a b k l n luma most p q g i c h =
+    ap (λ y. shown true (three y (getD (take k (drop b s)) (i / 2) 0) (getD (take l (drop (b + 64) s)) (i / 2) 0)) c) (g i h)
+    ∙ ap₂ (λ u v. shown true (three (getD s (lumaAt a i) 0) u v) c) (sample b k p) (sample (b + 64) l q)
+  where
+    sample : (from many : ℕ) → 8 ≤ many → getD (take many (drop from s)) (i / 2) 0 ≡ getD s (from + i / 2) 0
+    sample from many enough = getD-take many (drop from s) (i / 2) 0 (omega arith) ∙ getD-drop from s (i / 2) 0
 
 -- one channel, of one block's width
 pub gray-in-mcu : (s : List ℕ) (a b hs i c : ℕ) → i < 8 → c < 1 → getD s (a + i) 0 ≡ inMcu s a b hs false i c

@@ -7,9 +7,9 @@ use native.Mathlib.Omega.{arith}
 use native.Mathlib.Decide.{decLt}
 use lib.Arith.{digits-div}
 use lib.ListN.{getD, length}
-use Rattle.jpeg_render.specs.Drawn.{written}
+use Rattle.jpeg_run.specs.Drawn.{written}
+use Rattle.jpeg_run.proofs.Drawing.{length-written, written-in, written-before}
 use Rattle.jpeg_render.specs.Rows.{Spread, Gathered, lumaAt}
-use Rattle.jpeg_render.proofs.Drawing.{length-written, written-in, written-before}
 
 pub record SpreadTo (s : List ℕ) (b hs j : ℕ) (u : List ℕ) : Type 0 where
   pub turns : j ≤ 8

@@ -1,5 +1,4 @@
 -- The picture of a record from its block samples, in the parts that the code has.
 pub mod Drawn
 pub mod Rows
-pub mod Tinted
 pub mod Rendered

@@ -1,15 +1,15 @@
 -- What rendering stands on: the numbers of a record, where a row of pixels begins among the block samples, and the
 -- pixels of an MCU in that row.
-use Prim.Native.Nat.{ℕ, zero, suc, _+_, _*_, _-_, _/_, _%_, _<_, _≤_}
+use Prim.Native.Nat.{ℕ, _+_, _*_, _-_, _/_, _%_, _<_, _≤_}
 use mathlib.Core.Path.{_≡_}
-use mathlib.Core.Bool.{Bool, cond}
+use mathlib.Core.Bool.{Bool}
 use mathlib.Core.List.{List}
 use mathlib.Core.Logic.{_⊎_}
 use lib.ListN.{getD, length}
 use Rattle.reading.specs.declared.Record.{Record}
 use Rattle.reading.specs.Layout.{ceiling, blockCount}
 use Rattle.reading.specs.Tables.{shapeIn}
-use Rattle.reading.specs.Colour.{colourOf}
+use Rattle.jpeg_run.specs.Runs.{three, shown}
 
 -- the frame's numbers
 pub record Sized (r : Record) : Type 0 where
@@ -48,20 +48,6 @@ abbrev pub chromaOfRow : Record → ℕ → ℕ
 chromaOfRow r y = 64 * (blocksAbove r y + r .hs * r .vs) + 8 * (y % (8 * r .vs) / r .vs)
 
 -- ---- the pixels of an MCU in a row
-
--- the samples of a pixel's channels
-abbrev pub three : ℕ → ℕ → ℕ → ℕ → ℕ
-three y cb cr zero = y
-three y cb cr (suc zero) = cb
-three y cb cr (suc (suc c)) = cr
-
--- channel c of a pixel whose channels have the samples v
-abbrev pub shown : Bool → (ℕ → ℕ) → ℕ → ℕ
-shown coloured v c = cond coloured (colourOf c (v 0) (v 1) (v 2)) (v c)
-
--- pixel i of a run: what stands in three lists of samples
-unfoldable pub inRun : List ℕ → List ℕ → List ℕ → Bool → ℕ → ℕ → ℕ
-inRun luma cb cr coloured i = shown coloured (three (getD luma i 0) (getD cb i 0) (getD cr i 0))
 
 -- the place of luma sample i in a row of blocks side by side whose first sample is at a: 8 of each block
 abbrev pub lumaAt : ℕ → ℕ → ℕ

@@ -12,9 +12,8 @@ ghost use lib.Dec.{eqb};
 ghost use lib.ListN.{length, getD};
 ghost use Rattle.reading.specs.Tests.{_and_, over};
 ghost use Rattle.reading.specs.Reading.{pixel, picture};
-ghost use Rattle.jpeg_render.specs.Drawn.{written, pixels};
-ghost use Rattle.jpeg_render.specs.Rows.{Drawable, RunsFit, ColourFits, McuFits, three, shown, inRun, inRuns, inMcu, Spread, Gathered};
-ghost use Rattle.jpeg_render.specs.Tinted.{First, Part, redAt, greenAt, blueAt, Twice, TintFits, tinted};
+ghost use Rattle.jpeg_run.specs.Drawn.{written, pixels};
+ghost use Rattle.jpeg_render.specs.Rows.{Drawable, RunsFit, ColourFits, McuFits, inRuns, inMcu, Spread, Gathered};
 
 // The smaller of two numbers.
 fn least(a: usize, b: usize) -> usize
@@ -55,22 +54,6 @@ fn spread_wide(samples: &[u8], chroma: usize, hs: usize, spread: &mut [u8; 32])
     }
 }
 
-// One pixel of three channels.
-fn pixel(y: u8, b: u8, r: u8, colour: bool, out: &mut [u8], at: usize)
-    requires { ⌜ at + 3 ≤ length (now out) ⌝ }
-    ensures { λ _. ⌜ now (out .exit) ≡ written (shown colour (three y b r)) at 3 (now (out .entry)) ⌝ }
-{
-    if colour {
-        out[at] = jpeg_color::red(y, r);
-        out[at + 1] = jpeg_color::green(y, b, r);
-        out[at + 2] = jpeg_color::blue(y, b);
-    } else {
-        out[at] = y;
-        out[at + 1] = b;
-        out[at + 2] = r;
-    }
-}
-
 // The 8 luma samples of a block's row, side by side from x on.
 fn gather_8(samples: &[u8], from: usize, x: usize, gathered: &mut [u8; 32])
     requires { ⌜ (from + 8 ≤ length (now samples)) × (x + 8 ≤ 32) × (length (now gathered) ≡ 32) ⌝ }
@@ -95,29 +78,6 @@ fn gather(samples: &[u8], luma: usize, n: usize, gathered: &mut [u8; 32])
     }
 }
 
-// Pixels of three channels, whose samples stand in three lists.
-fn run(
-    luma: &[u8; 32],
-    cb: &[u8; 32],
-    cr: &[u8; 32],
-    n: usize,
-    colour: bool,
-    out: &mut [u8],
-    at: usize,
-)
-    requires { ⌜ (n ≤ 32) × (at + n * 3 ≤ length (now out)) ⌝ }
-    ensures { λ _. ⌜ now (out .exit) ≡ pixels (inRun (now (luma .entry)) (now (cb .entry)) (now (cr .entry)) colour) 3 at n (now (out .entry)) ⌝ }
-{
-    let mut i = 0usize;
-    while i < n {
-        let y = luma[i];
-        let b = cb[i];
-        let r = cr[i];
-        pixel(y, b, r, colour, out, at + i * 3);
-        i += 1;
-    }
-}
-
 // The pixels of an MCU in one row. Its luma samples are gathered before the loop over pixels, which is then one loop and quick.
 fn runs(
     samples: &[u8],
@@ -134,7 +94,8 @@ fn runs(
 {
     let mut gathered = [0u8; 32];
     gather(samples, luma, n, &mut gathered);
-    run(&gathered, cb, cr, n, colour, out, at);
+    let e = at + n * 3;
+    jpeg_run::run(&gathered, cb, cr, n, colour, &mut out[at..e]);
 }
 
 // An MCU of three channels in one row, sampling 1 across. This and the next are two functions, and not one with a choice in it: so
@@ -179,101 +140,25 @@ fn mcu_wide(
     runs(samples, luma, &cb, &cr, n, colour, out, at);
 }
 
-// What each of 8 chroma samples adds to luma in red. This and the next two are three loops, each with one list to write, and a part is
-// kept in 16 bits: so they are compiled to vector code.
-fn red_parts(samples: &[u8], cr: usize, parts: &mut [i16; 8])
-    requires { ⌜ (cr + 8 ≤ length (now samples)) × (length (now parts) ≡ 8) ⌝ }
-    ensures { λ _. ⌜ First (λ j. Part (redAt (now (samples .entry)) cr j)) 8 (now (parts .exit)) ⌝ }
-{
-    let mut j = 0usize;
-    while j < 8 {
-        parts[j] = jpeg_color::red_part(samples[cr + j]) as i16;
-        j += 1;
-    }
-}
-
-// What each of 8 pairs of chroma samples adds in green; the block of the second chroma channel stands behind that of the first.
-fn green_parts(samples: &[u8], cb: usize, parts: &mut [i16; 8])
-    requires { ⌜ (cb + 72 ≤ length (now samples)) × (length (now parts) ≡ 8) ⌝ }
-    ensures { λ _. ⌜ First (λ j. Part (greenAt (now (samples .entry)) cb j)) 8 (now (parts .exit)) ⌝ }
-{
-    let mut j = 0usize;
-    while j < 8 {
-        parts[j] = jpeg_color::green_part(samples[cb + j], samples[cb + 64 + j]) as i16;
-        j += 1;
-    }
-}
-
-// What each of 8 chroma samples adds in blue.
-fn blue_parts(samples: &[u8], cb: usize, parts: &mut [i16; 8])
-    requires { ⌜ (cb + 8 ≤ length (now samples)) × (length (now parts) ≡ 8) ⌝ }
-    ensures { λ _. ⌜ First (λ j. Part (blueAt (now (samples .entry)) cb j)) 8 (now (parts .exit)) ⌝ }
-{
-    let mut j = 0usize;
-    while j < 8 {
-        parts[j] = jpeg_color::blue_part(samples[cb + j]) as i16;
-        j += 1;
-    }
-}
-
-// Each of 8 parts for two pixels.
-fn twice(parts: &[i16; 8], spread: &mut [i16; 16])
-    requires { ⌜ length (now spread) ≡ 16 ⌝ }
-    ensures { λ _. ⌜ First (Twice (now (parts .entry))) 16 (now (spread .exit)) ⌝ }
-{
-    let mut j = 0usize;
-    while j < 8 {
-        let part = parts[j];
-        spread[2 * j] = part;
-        spread[2 * j + 1] = part;
-        j += 1;
-    }
-}
-
-// Pixels in colour from their luma samples and what is added to them. Sums and clamps stay in 16 bits, which makes the loop quick.
-fn tint(
-    luma: &[u8; 32],
-    reds: &[i16; 16],
-    greens: &[i16; 16],
-    blues: &[i16; 16],
-    n: usize,
-    out: &mut [u8],
-    at: usize,
-)
-    requires { ⌜ TintFits (now luma) (now reds) (now greens) (now blues) (now out) n at ⌝ }
-    ensures { λ _. ⌜ now (out .exit) ≡ pixels (tinted (now (luma .entry)) (now (reds .entry)) (now (greens .entry)) (now (blues .entry))) 3 at n (now (out .entry)) ⌝ }
-{
-    let mut i = 0usize;
-    while i < n {
-        let y = luma[i] as i16;
-        out[at + i * 3] = jpeg_color::short_to_byte(y + reds[i]);
-        out[at + i * 3 + 1] = jpeg_color::short_to_byte(y + greens[i]);
-        out[at + i * 3 + 2] = jpeg_color::short_to_byte(y + blues[i]);
-        i += 1;
-    }
-}
-
-// An MCU of three channels in one row in colour, sampling 2 across. Two pixels have one chroma sample: what it adds is worked out once,
-// before it is spread over them.
+// An MCU of three channels in one row in colour, sampling 2 across. Two pixels have one chroma sample: what it adds is worked out once.
+// The 8 samples of each chroma channel are lent, and the second channel's block stands behind the first's.
 fn coloured_2(samples: &[u8], luma: usize, chroma: usize, n: usize, out: &mut [u8], at: usize)
     requires { ⌜ ColourFits (now samples) (now out) luma chroma 2 n at ⌝ }
     ensures { λ _. ⌜ now (out .exit) ≡ pixels (inMcu (now (samples .entry)) luma chroma 2 true) 3 at n (now (out .entry)) ⌝ }
 {
-    let mut red = [0i16; 8];
-    let mut green = [0i16; 8];
-    let mut blue = [0i16; 8];
-    red_parts(samples, chroma + 64, &mut red);
-    green_parts(samples, chroma, &mut green);
-    blue_parts(samples, chroma, &mut blue);
-    let mut reds = [0i16; 16];
-    let mut greens = [0i16; 16];
-    let mut blues = [0i16; 16];
-    twice(&red, &mut reds);
-    twice(&green, &mut greens);
-    twice(&blue, &mut blues);
     let mut gathered = [0u8; 32];
     gather(samples, luma, n, &mut gathered);
-    tint(&gathered, &reds, &greens, &blues, n, out, at);
+    let second = chroma + 64;
+    let first_end = chroma + 8;
+    let second_end = second + 8;
+    let e = at + n * 3;
+    jpeg_tint::tinted(
+        &gathered,
+        &samples[chroma..first_end],
+        &samples[second..second_end],
+        n,
+        &mut out[at..e],
+    );
 }
 
 // At most 8 pixels of one channel: the samples as they are.

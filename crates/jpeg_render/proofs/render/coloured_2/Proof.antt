@@ -1,71 +1,87 @@
--- `jpeg_render::render::coloured_2` meets its contract: what the chroma samples add, each for its two pixels, and the luma samples that were
--- gathered make the pixels of the MCU. Assumes nothing.
+-- `jpeg_render::render::coloured_2` meets its contract: the luma samples that were gathered and the chroma samples that are lent make the
+-- pixels of the MCU. Assumes nothing.
+use mathlib.Core.Path.{ap, _∙_}
 use native.Mathlib.Omega.{arith}
 use borrow.Author.Needs.{needs}
-use Rattle.jpeg_render.specs.Rows.{lumaAt}
-use Rattle.jpeg_render.proofs.Drawing.{pixels-same}
-use Rattle.jpeg_render.proofs.Tinting.{spread-parts, small-parts, tinted-in-mcu}
+use lib.ListN.{length}
+use Rattle.jpeg_run.proofs.Drawing.{length-pixels}
+use Rattle.jpeg_render.proofs.Mcus.{pairs-mcu}
 use Rattle.jpeg_render.proofs.render.coloured_2.Statement.{statement}
 use Rattle.jpeg_render.proofs.render.coloured_2.Tie as tie
-
-add-red-parts : tie.Need-add-red-parts
-add-red-parts c = search needs
-
-red-parts-requires : tie.Need-red-parts-requires
-red-parts-requires c κs = search needs
-
-green-parts-requires : tie.Need-green-parts-requires
-green-parts-requires c κs = search needs
-
-blue-parts-requires : tie.Need-blue-parts-requires
-blue-parts-requires c κs = search needs
-
-twice-requires : tie.Need-twice-requires
-twice-requires c κs = search needs
-
-twice-requires-2 : tie.Need-twice-requires-2
-twice-requires-2 c κs = search needs
-
-twice-requires-3 : tie.Need-twice-requires-3
-twice-requires-3 c κs = search needs
 
 gather-requires : tie.Need-gather-requires
 gather-requires c κs = search needs
 
-tint-requires : tie.Need-tint-requires
-tint-requires c κs =
-    record {
-      bytes = λ i h. omega (arith, c .before .before .before .before .before .gather .ensures i h, c .before .before .before .before .before .before .before .before .before .before .before .before .before .before .before .before .before .before .before .before .before .before .before .shared-slice-known .given (lumaAt (c .before .before .before .before .before .before .before .before .before .before .before .before .before .before .before .before .before .before .before .before .before .before .before .before .args .luma) i));
-      red = small-parts (spread-parts (c .before .before .before .before .before .before .before .before .before .before .before .before .before .before .before .before .before .before .before .before .red-parts .ensures) (c .before .before .before .before .before .before .before .before .before .before .before .before .before .twice .ensures));
-      green = small-parts (spread-parts (c .before .before .before .before .before .before .before .before .before .before .before .before .before .before .before .before .before .before .green-parts .ensures) (c .before .before .before .before .before .before .before .before .before .before .twice2 .ensures));
-      blue = small-parts (spread-parts (c .before .before .before .before .before .before .before .before .before .before .before .before .before .before .before .before .blue-parts .ensures) (c .before .before .before .before .before .before .before .twice3 .ensures));
-      within = omega (arith, c .before .before .before .before .before .before .before .before .before .before .before .before .before .before .before .before .before .before .before .before .before .before .before .before .pre .within);
-      room = c .before .before .before .before .before .before .before .before .before .before .before .before .before .before .before .before .before .before .before .before .before .before .before .before .pre .room;
-    }
+add-second : tie.Need-add-second
+add-second c = omega (arith, c .before .before .before .before .pre .others, c .before .before .before .before .good)
+
+add-first-end : tie.Need-add-first-end
+add-first-end c = omega (arith, c .before .before .before .before .pre .others, c .before .before .before .before .good)
+
+add-second-end : tie.Need-add-second-end
+add-second-end c = omega (arith, c .before .before .before .before .pre .others, c .before .before .before .before .good)
+
+mul-e : tie.Need-mul-e
+mul-e c = omega (arith, c .before .before .before .before .pre .within)
+
+add-e : tie.Need-add-e
+add-e c = omega (arith, c .before .before .before .before .pre .room, c .before .before .before .before .good)
+
+sub-tinted : tie.Need-sub-tinted
+sub-tinted c = omega arith
+
+part-tinted-start : tie.Need-part-tinted-start
+part-tinted-start c = omega arith
+
+part-tinted-end : tie.Need-part-tinted-end
+part-tinted-end c = omega (arith, c .before .before .before .before .before .pre .others)
+
+sub-tinted-2 : tie.Need-sub-tinted-2
+sub-tinted-2 c = omega arith
+
+part-tinted-start-2 : tie.Need-part-tinted-start-2
+part-tinted-start-2 c = omega arith
+
+part-tinted-end-2 : tie.Need-part-tinted-end-2
+part-tinted-end-2 c = omega (arith, c .before .before .before .before .before .before .pre .others)
+
+sub-tinted-3 : tie.Need-sub-tinted-3
+sub-tinted-3 c = omega arith
+
+part-tinted-start-3 : tie.Need-part-tinted-start-3
+part-tinted-start-3 c = omega arith
+
+part-tinted-end-3 : tie.Need-part-tinted-end-3
+part-tinted-end-3 c = c .before .before .before .before .before .before .before .pre .room
+
+tinted-requires : tie.Need-tinted-requires
+tinted-requires c κs = tt
 
 same-length : tie.Need-same-length
-same-length c = search needs
+same-length c = ap length (pairs-mcu (c .before .before .before .before .before .before .before .before .before .before .before .pre) _ _ (c .before .before .before .before .before .before .before .gather .ensures) (c .before .before .tinted .ensures)) ∙ length-pixels _ _ _ _ _
 
 returns : tie.Need-returns
-returns c =
-    pixels-same _ _ _ _ _ _ _ (c .before .before .tint .ensures)
-    (tinted-in-mcu _ _ _ _ _ _ _ _ (omega (arith, c .before .before .before .before .before .before .before .before .before .before .before .before .before .before .before .before .before .before .before .before .before .before .before .before .before .before .before .pre .within)) (c .before .before .before .before .before .before .before .before .gather .ensures)
-    (spread-parts (c .before .before .before .before .before .before .before .before .before .before .before .before .before .before .before .before .before .before .before .before .before .before .before .red-parts .ensures) (c .before .before .before .before .before .before .before .before .before .before .before .before .before .before .before .before .twice .ensures))
-    (spread-parts (c .before .before .before .before .before .before .before .before .before .before .before .before .before .before .before .before .before .before .before .before .before .green-parts .ensures) (c .before .before .before .before .before .before .before .before .before .before .before .before .before .twice2 .ensures))
-    (spread-parts (c .before .before .before .before .before .before .before .before .before .before .before .before .before .before .before .before .before .before .before .blue-parts .ensures) (c .before .before .before .before .before .before .before .before .before .before .twice3 .ensures)))
+returns c = pairs-mcu (c .before .before .before .before .before .before .before .before .before .before .before .pre) _ _ (c .before .before .before .before .before .before .before .gather .ensures) (c .before .before .tinted .ensures)
 
 pub coloured-2-spec : {M : Type 1} → statement M
 coloured-2-spec =
     tie.close
     (tie.spec
-    add-red-parts
-    red-parts-requires
-    green-parts-requires
-    blue-parts-requires
-    twice-requires
-    twice-requires-2
-    twice-requires-3
     gather-requires
-    tint-requires
+    add-second
+    add-first-end
+    add-second-end
+    mul-e
+    add-e
+    sub-tinted
+    part-tinted-start
+    part-tinted-end
+    sub-tinted-2
+    part-tinted-start-2
+    part-tinted-end-2
+    sub-tinted-3
+    part-tinted-start-3
+    part-tinted-end-3
+    tinted-requires
     same-length
     returns)

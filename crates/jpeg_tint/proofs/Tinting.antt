@@ -1,11 +1,10 @@
--- What chroma samples add to luma: lists of such numbers filled place by place, and that luma and they make the pixels of an MCU.
+-- What chroma samples add to luma: lists of such numbers filled place by place, and that luma and they make pixels in colour.
 use Prim.Native.Nat.{ℕ, zero, suc, _+_, _*_, _/_, _<_, _≤_}
-use mathlib.Core.Path.{_≡_, refl, ap, ap₂, _∙_, subst}
-use mathlib.Core.Bool.{true}
+use mathlib.Core.Path.{_≡_, refl, ap, _∙_, subst}
 use mathlib.Core.List.{List}
 use native.Mathlib.Omega.{arith}
 use lib.IntN.{ℤ, pos, natAbs, _+ℤ_}
-use lib.ListN.{length, set, length-set}
+use lib.ListN.{length, getD, set, length-set}
 use mir.Syntax.{w8, w16, w32}
 use mir.Val.{Fits, SFits, toZ, ofZ}
 use mir.Facts.{toZ-ofZ}
@@ -13,8 +12,8 @@ use Rattle.whole.specs.Expressions.{at, fits-abs}
 use Rattle.whole.specs.Lists.{stored}
 use Rattle.reading.specs.Colour.{toByte}
 use Rattle.jpeg_color.proofs.Luma.{red-is, green-is, blue-is, sum-fits, sum-is}
-use Rattle.jpeg_render.specs.Rows.{Gathered, inMcu}
-use Rattle.jpeg_render.specs.Tinted.{First, Part, redAt, greenAt, blueAt, Twice, tinted}
+use Rattle.jpeg_tint.specs.Tinted.{inPairs}
+use Rattle.jpeg_tint.specs.Parts.{First, Part, redAt, greenAt, blueAt, Twice, summed}
 
 -- ---- a list of n numbers, i of them written
 
@@ -81,26 +80,27 @@ small-parts parts = record { each = λ i h. parts .each i h .1 }
 
 -- ---- luma and what is added to it
 
-module _ {y i : ℕ} {u : List ℤ} (byte : y < 256) (small : First (λ k x. natAbs x ≤ 1024) 16 u) (within : i < 16) where
+module _ {y i : ℕ} {z : ℤ} {u : List ℤ} (luma : (z ≡ pos y) × (y < 256)) (small : First (λ k x. natAbs x ≤ 1024) 16 u) (within : i < 16) where
   byte-fits : Fits w8 y
-  byte-fits = record { fits = omega arith }
+  byte-fits = record { fits = luma .1 }
 
-  pub shade-fits : SFits w16 (toZ w16 (ofZ w16 (pos y)) +ℤ toZ w16 (ofZ w16 (at u i)))
-  shade-fits = sum-fits w16 {x = at u i} byte-fits (refl, small .each i within) tt
+  pub shade-fits : SFits w16 (toZ w16 (ofZ w16 z) +ℤ toZ w16 (ofZ w16 (at u i)))
+  shade-fits = rw (luma .0) (sum-fits w16 {x = at u i} byte-fits (refl, small .each i within) tt)
 
-  pub shade : {r : ℕ} → r ≡ toByte (toZ w16 (ofZ w16 (toZ w16 (ofZ w16 (pos y)) +ℤ toZ w16 (ofZ w16 (at u i)))))
+  pub shade : {r : ℕ} → r ≡ toByte (toZ w16 (ofZ w16 (toZ w16 (ofZ w16 z) +ℤ toZ w16 (ofZ w16 (at u i)))))
       → r ≡ toByte (pos y +ℤ at u i)
-  shade e = e ∙ ap toByte (sum-is w16 {x = at u i} byte-fits (refl, small .each i within) tt)
+  shade e = e ∙ ap (λ (x : ℤ). toByte (toZ w16 (ofZ w16 (toZ w16 (ofZ w16 x) +ℤ toZ w16 (ofZ w16 (at u i)))))) (luma .0) ∙ ap toByte (sum-is w16 {x = at u i} byte-fits (refl, small .each i within) tt)
 
-pub tinted-in-mcu : (s : List ℕ) (a b n : ℕ) (luma : List ℕ) (reds greens blues : List ℤ) → n ≤ 16 → Gathered s a n luma
-    → First (λ i. Part (redAt s (b + 64) (i / 2))) 16 reds
-    → First (λ i. Part (greenAt s b (i / 2))) 16 greens
-    → First (λ i. Part (blueAt s b (i / 2))) 16 blues
-    → (i c : ℕ) → i < n → c < 3 → tinted luma reds greens blues i c ≡ inMcu s a b 2 true i c
-unfolding tinted inMcu
-tinted-in-mcu s a b n luma reds greens blues most y r g u i zero h l =
-    ap₂ (λ k x. toByte (pos k +ℤ x)) (y i h) (r .each i (omega arith) .0) ∙ red-is _ _
-tinted-in-mcu s a b n luma reds greens blues most y r g u i (suc zero) h l =
-    ap₂ (λ k x. toByte (pos k +ℤ x)) (y i h) (g .each i (omega arith) .0) ∙ green-is _ _ _
-tinted-in-mcu s a b n luma reds greens blues most y r g u i (suc (suc c)) h l =
-    ap₂ (λ k x. toByte (pos k +ℤ x)) (y i h) (u .each i (omega arith) .0) ∙ blue-is _ _
+-- luma and the parts of a pixel's chroma samples make its colour
+pub summed-in-pairs : (luma cb cr : List ℕ) (n : ℕ) (reds greens blues : List ℤ) → n ≤ 16
+    → First (λ i. Part (redAt cr (i / 2))) 16 reds
+    → First (λ i. Part (greenAt cb cr (i / 2))) 16 greens
+    → First (λ i. Part (blueAt cb (i / 2))) 16 blues
+    → (i c : ℕ) → i < n → c < 3 → summed luma reds greens blues i c ≡ inPairs luma cb cr i c
+unfolding summed inPairs
+summed-in-pairs luma cb cr n reds greens blues most r g u i zero h l =
+    ap (λ x. toByte (pos (getD luma i 0) +ℤ x)) (r .each i (omega arith) .0) ∙ red-is _ _
+summed-in-pairs luma cb cr n reds greens blues most r g u i (suc zero) h l =
+    ap (λ x. toByte (pos (getD luma i 0) +ℤ x)) (g .each i (omega arith) .0) ∙ green-is _ _ _
+summed-in-pairs luma cb cr n reds greens blues most r g u i (suc (suc c)) h l =
+    ap (λ x. toByte (pos (getD luma i 0) +ℤ x)) (u .each i (omega arith) .0) ∙ blue-is _ _

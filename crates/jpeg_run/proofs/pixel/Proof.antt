@@ -1,9 +1,9 @@
--- `jpeg_render::render::pixel` meets its contract: three stores, in colour by what `red`, `green` and `blue` ensure. Assumes nothing.
+-- `jpeg_run::pixel` meets its contract: three stores, in colour by what `red`, `green` and `blue` ensure. Assumes nothing.
 use native.Mathlib.Omega.{arith}
 use lib.ListN.{length-set}
-use Rattle.jpeg_render.proofs.Shades.{in-colour, as-they-are}
-use Rattle.jpeg_render.proofs.render.pixel.Statement.{statement}
-use Rattle.jpeg_render.proofs.render.pixel.Tie as tie
+use Rattle.jpeg_run.proofs.Running.{in-colour, as-they-are}
+use Rattle.jpeg_run.proofs.pixel.Statement.{statement}
+use Rattle.jpeg_run.proofs.pixel.Tie as tie
 
 red-requires : tie.Need-red-requires
 red-requires c κs = tt

@@ -1,19 +1,18 @@
--- `jpeg_render::render::red_parts` meets its contract. The loop's invariant: j parts are written. Assumes nothing.
+-- `jpeg_tint::red_parts` meets its contract. The loop's invariant: j parts are written. Assumes nothing.
 use Prim.Native.Nat.{_-_}
 use native.Mathlib.Omega.{arith}
-use Rattle.jpeg_render.specs.Tinted.{Part, redAt}
-use Rattle.jpeg_render.proofs.Tinting.{FilledTo, filled-none, filled-next, filled-all, short-fits, short-part}
-use Rattle.jpeg_render.proofs.render.red_parts.Statement.{statement}
-use Rattle.jpeg_render.proofs.render.red_parts.Tie as tie
+use Rattle.jpeg_tint.specs.Parts.{Part, redAt}
+use Rattle.jpeg_tint.proofs.Tinting.{FilledTo, filled-none, filled-next, filled-all, short-fits, short-part}
+use Rattle.jpeg_tint.proofs.red_parts.Statement.{statement}
+use Rattle.jpeg_tint.proofs.red_parts.Tie as tie
 
 pub red-parts-spec : {M : Type 1} → statement M
 red-parts-spec =
     tie.close
     (tie.spec
-    (λ samples cr parts₀ j₀ parts j. FilledTo (λ k. Part (redAt samples cr k)) 8 j parts)
-    (λ samples cr parts₀ j₀ parts j. 8 - j)
+    (λ cr parts₀ j₀ parts j. FilledTo (λ k. Part (redAt cr k)) 8 j parts)
+    (λ cr parts₀ j₀ parts j. 8 - j)
     (λ c. filled-none _ _ _ (c .before .pre .1))
-    (λ c. omega arith)
     (λ c. omega arith)
     (λ c κs. tt)
     (λ c. short-fits (c .red-part .ensures))

@@ -1,19 +1,18 @@
--- `jpeg_render::render::blue_parts` meets its contract. The loop's invariant: j parts are written. Assumes nothing.
+-- `jpeg_tint::blue_parts` meets its contract. The loop's invariant: j parts are written. Assumes nothing.
 use Prim.Native.Nat.{_-_}
 use native.Mathlib.Omega.{arith}
-use Rattle.jpeg_render.specs.Tinted.{Part, blueAt}
-use Rattle.jpeg_render.proofs.Tinting.{FilledTo, filled-none, filled-next, filled-all, short-fits, short-part}
-use Rattle.jpeg_render.proofs.render.blue_parts.Statement.{statement}
-use Rattle.jpeg_render.proofs.render.blue_parts.Tie as tie
+use Rattle.jpeg_tint.specs.Parts.{Part, blueAt}
+use Rattle.jpeg_tint.proofs.Tinting.{FilledTo, filled-none, filled-next, filled-all, short-fits, short-part}
+use Rattle.jpeg_tint.proofs.blue_parts.Statement.{statement}
+use Rattle.jpeg_tint.proofs.blue_parts.Tie as tie
 
 pub blue-parts-spec : {M : Type 1} → statement M
 blue-parts-spec =
     tie.close
     (tie.spec
-    (λ samples cb parts₀ j₀ parts j. FilledTo (λ k. Part (blueAt samples cb k)) 8 j parts)
-    (λ samples cb parts₀ j₀ parts j. 8 - j)
+    (λ cb parts₀ j₀ parts j. FilledTo (λ k. Part (blueAt cb k)) 8 j parts)
+    (λ cb parts₀ j₀ parts j. 8 - j)
     (λ c. filled-none _ _ _ (c .before .pre .1))
-    (λ c. omega arith)
     (λ c. omega arith)
     (λ c κs. tt)
     (λ c. short-fits (c .blue-part .ensures))

@@ -1,13 +1,13 @@
--- `jpeg_render::render::twice` meets its contract. The loop's invariant: j numbers are stored, each twice. Assumes nothing.
+-- `jpeg_tint::twice` meets its contract. The loop's invariant: j numbers are stored, each twice. Assumes nothing.
 use Prim.Native.Nat.{_*_, _-_}
 use native.Mathlib.Omega.{arith}
 use borrow.Author.Needs.{sfits-of}
 use mir.Syntax.{w16}
 use mir.Facts.{toZ-ofZ}
-use Rattle.jpeg_render.specs.Tinted.{Twice}
-use Rattle.jpeg_render.proofs.Tinting.{FilledTo, filled-none, filled-all, twice-next}
-use Rattle.jpeg_render.proofs.render.twice.Statement.{statement}
-use Rattle.jpeg_render.proofs.render.twice.Tie as tie
+use Rattle.jpeg_tint.specs.Parts.{Twice}
+use Rattle.jpeg_tint.proofs.Tinting.{FilledTo, filled-none, filled-all, twice-next}
+use Rattle.jpeg_tint.proofs.twice.Statement.{statement}
+use Rattle.jpeg_tint.proofs.twice.Tie as tie
 
 abbrev Inv-loop : tie.InvT-loop
 Inv-loop parts spread₀ j₀ spread j = FilledTo (Twice parts) 16 (2 * j) spread

@@ -1,0 +1,3 @@
+-- Pixels written into a buffer, and a run of them.
+pub mod Drawn
+pub mod Runs
