@@ -18,11 +18,13 @@ use Rattle.reading.specs.Comments.{textAt, atComment, passed, commentsFrom, com
 use Rattle.reading.proofs.Stages.{refuse-go, refuse-yes}
 use Rattle.reading.proofs.HeaderEnds.{left, opens-two}
 use Rattle.reading.proofs.FileBytes.{AllBytes}
-use Rattle.jpeg_header.specs.Steps.{goesOn, stageOf}
-use Rattle.jpeg_header.specs.declared.Progress.{Progress}
-use Rattle.jpeg_header.specs.declared.Progress.the-variants.{More, Done, Stop}
-use Rattle.jpeg_header.specs.declared.Stepped.{Stepped}
-use Rattle.jpeg_header.proofs.Run.{Running, run-start, run-more, run-down, stage-more, stage-done, stage-stop}
+use Rattle.jpeg_header.specs.Steps.{goesOn}
+use Rattle.jpeg_state.specs.declared.Progress.{Progress}
+use Rattle.jpeg_state.specs.declared.Progress.the-variants.{More, Done, Stop}
+use Rattle.jpeg_state.specs.declared.Stepped.{Stepped}
+use Rattle.jpeg_state.specs.Segments.{stepped}
+use Rattle.jpeg_state.proofs.Segments.{stage-more, stage-done, stage-stop}
+use Rattle.jpeg_header.proofs.Run.{Running, run-start, run-more, run-down}
 
 -- ---- stages are apart
 
@@ -134,18 +136,19 @@ module _ (s : List ℕ) (i : ℕ) where
 
 -- ---- a step's answer
 
-pub goes-more : (r : Stepped) → goesOn (r .progress) ≡ true → more (r .state) ≡ stageOf r
-goes-more r e = go (r .progress) refl e
-  where
-    go : (p : Progress) → r .progress ≡ p → goesOn p ≡ true → more (r .state) ≡ stageOf r
-    go More q e = stage-more r q
-    go Done q e = absurd (subst (λ t. cond t ⊥ Unit) e tt)
-    go (Stop x) q e = absurd (subst (λ t. cond t ⊥ Unit) e tt)
+module _ {r : Stepped} {st : Stage} (e : r ≡ stepped st) where
+  pub goes-more : goesOn (r .progress) ≡ true → more (r .state) ≡ st
+  goes-more t = go (r .progress) refl t
+    where
+      go : (p : Progress) → r .progress ≡ p → goesOn p ≡ true → more (r .state) ≡ st
+      go More q t = stage-more e q
+      go Done q t = absurd (subst (λ b. cond b ⊥ Unit) t tt)
+      go (Stop x) q t = absurd (subst (λ b. cond b ⊥ Unit) t tt)
 
-pub goes-not : (r : Stepped) → goesOn (r .progress) ≡ false → (g : Header) → more g ≡ stageOf r → ⊥
-goes-not r e g w = go (r .progress) refl e
-  where
-    go : (p : Progress) → r .progress ≡ p → goesOn p ≡ false → ⊥
-    go More q e = subst (λ t. cond t Unit ⊥) e tt
-    go Done q e = subst going (w ∙ sym (stage-done r q)) tt
-    go (Stop x) q e = subst going (w ∙ sym (stage-stop r x q)) tt
+  pub goes-not : goesOn (r .progress) ≡ false → (g : Header) → more g ≡ st → ⊥
+  goes-not t g w = go (r .progress) refl t
+    where
+      go : (p : Progress) → r .progress ≡ p → goesOn p ≡ false → ⊥
+      go More q t = subst (λ b. cond b Unit ⊥) t tt
+      go Done q t = subst going (w ∙ sym (stage-done e q)) tt
+      go (Stop x) q t = subst going (w ∙ sym (stage-stop e x q)) tt

@@ -1,164 +1,21 @@
--- Each step of the header by its ways out, as the code finds them: one law for each way.
-use Prim.Native.Nat.{ℕ, suc, _+_, _*_, _/_, _%_, _<_, _≤_, suc-le-suc}
+-- Each step of the header at a marker by its ways out, as the code finds them: one law for each way.
+use Prim.Native.Nat.{ℕ, suc, _+_, _<_, _≤_, suc-le-suc}
 use mathlib.Core.Path.{_≡_, refl, sym, ap, _∙_}
 use mathlib.Core.Bool.{Bool, true, false, not, cond}
 use mathlib.Core.List.{List}
 use native.Mathlib.Omega.{arith}
 use lib.Dec.{leb, ltb, eqb}
-use lib.ListN.{length, set}
+use lib.ListN.{length}
 use borrow.Author.Tests.{le-leb, lt-ltb, le-ltb, eq-eqb, ne-eqb, leb-true}
-use Rattle.reading.specs.declared.Refusal.the-variants.{CutShort, Malformed, Unsupported}
+use Rattle.reading.specs.declared.Refusal.the-variants.{CutShort, Malformed}
 use Rattle.reading.specs.declared.Case.the-variants.{Marker}
 use Rattle.reading.specs.declared.Kind.{Kind}
 use Rattle.reading.specs.declared.Kind.the-variants.{Frames, Skips, Others}
 use Rattle.reading.specs.declared.Header.{Header}
 use Rattle.reading.specs.Tests.{_or_, within}
-use Rattle.reading.specs.Huffman.{sum}
-use Rattle.reading.specs.Layout.{blockCount, outputLength}
-use Rattle.reading.specs.Header.{Stage, more, done, stop, refuse-if, byte, word, moved, window, each, withQuantizer, countsOf, withTable, frameKnown, frameOf, frameFits, withFrame, hasFrame, frame, withInterval, interval, shapeOf, dcId, acId, recordOf, complete, scanKnown, inOrder, selected, scan, kindOf, segment, segmentEnd, marker}
+use Rattle.reading.specs.Header.{Stage, more, stop, refuse-if, byte, word, moved, window, kindOf, segment, segmentEnd, marker}
 use Rattle.reading.proofs.Stages.{refuse-yes, refuse-go}
-use Rattle.reading.proofs.Accepted.{work-is}
-
-pub cond-yes : {A : Type 0} (t : Bool) (x y : A) → t ≡ true → x ≡ cond t x y
-cond-yes t x y e = rw e
-
-pub cond-no : {A : Type 0} (t : Bool) (x y : A) → t ≡ false → y ≡ cond t x y
-cond-no t x y e = rw e
-
--- ---- an entry of a segment of tables: the segment's end, an entry that does not fit, one that does
-
-module _ (h : Header) (e : ℕ) (fits : Bool) (next : Header) where
-  abbrev entry : Stage
-  entry = cond (eqb (h .at) e) (more (moved h e Marker)) (refuse-if (not fits) Malformed (more next))
-
-  pub entry-end : h .at ≡ e → more (moved h e Marker) ≡ entry
-  entry-end p = cond-yes (eqb (h .at) e) _ _ (eq-eqb (h .at) e p)
-
-  pub entry-bad : (h .at ≡ e → ⊥) → fits ≡ false → stop Malformed ≡ entry
-  entry-bad p q = sym (refuse-yes (not fits) Malformed _ (ap not q)) ∙ cond-no (eqb (h .at) e) _ _ (ne-eqb (h .at) e p)
-
-  pub entry-in : (h .at ≡ e → ⊥) → fits ≡ true → more next ≡ entry
-  entry-in p q = sym (refuse-go (not fits) Malformed _ (ap not q)) ∙ cond-no (eqb (h .at) e) _ _ (ne-eqb (h .at) e p)
-
--- ---- a quantizer
-
-module _ (b : List ℕ) (h : Header) where
-  -- the state behind a quantizer, as the code stores it
-  pub with-quantizer :
-      (q : List ℕ)
-      → q ≡ set (h .quants) (byte b 0) (h .at + 1)
-      → record { at = h .at + 65; case = h .case; quants = q; dcs = h .dcs; acs = h .acs; frame = h .frame; interval = h .interval } ≡ withQuantizer b h
-  with-quantizer q p = rw p
-
--- ---- a Huffman table
-
-module _ (b : List ℕ) (h : Header) where
-  -- the state behind a table, as the code stores it
-  module _ (l : List ℕ) (k : ℕ) (symbols : k ≡ sum (countsOf b)) where
-    pub with-dc :
-        l ≡ set (h .dcs) (byte b 0 % 16) (h .at + 1)
-        → byte b 0 / 16 ≡ 0
-        → record { at = h .at + (17 + k); case = h .case; quants = h .quants; dcs = l; acs = h .acs; frame = h .frame; interval = h .interval } ≡ withTable b h
-    with-dc e p = rw (e, symbols, p)
-
-    pub with-ac :
-        l ≡ set (h .acs) (byte b 0 % 16) (h .at + 1)
-        → byte b 0 / 16 ≡ 1
-        → record { at = h .at + (17 + k); case = h .case; quants = h .quants; dcs = h .dcs; acs = l; frame = h .frame; interval = h .interval } ≡ withTable b h
-    with-ac e p = rw (e, symbols, p)
-
--- ---- the frame and the interval
-
-module _ (b : List ℕ) (h : Header) (e : ℕ) where
-  pub frame-second : 0 < h .frame .channels → stop Malformed ≡ frame b h e
-  frame-second p = sym (refuse-yes (hasFrame h) Malformed _ (lt-ltb 0 (h .frame .channels) p))
-
-  module _ (first : h .frame .channels ≤ 0) where
-    pub frame-unknown : frameKnown b ≡ false → stop Unsupported ≡ frame b h e
-    frame-unknown q = sym (refuse-go (hasFrame h) Malformed _ (le-ltb 0 (h .frame .channels) first) ∙ refuse-yes (not (frameKnown b)) Unsupported _ (ap not q))
-
-    module _ (known : frameKnown b ≡ true) where
-      pub frame-length : (length b ≡ 6 + 3 * byte b 5 → ⊥) → stop Malformed ≡ frame b h e
-      frame-length q = sym (refuse-go (hasFrame h) Malformed _ (le-ltb 0 (h .frame .channels) first) ∙ refuse-go (not (frameKnown b)) Unsupported _ (ap not known) ∙ refuse-yes (not (eqb (length b) (6 + 3 * byte b 5))) Malformed _ (ap not (ne-eqb (length b) (6 + 3 * byte b 5) q)))
-
-      module _ (whole : length b ≡ 6 + 3 * byte b 5) where
-        pub frame-bad : frameFits b (frameOf b) ≡ false → stop Unsupported ≡ frame b h e
-        frame-bad q = sym (refuse-go (hasFrame h) Malformed _ (le-ltb 0 (h .frame .channels) first) ∙ refuse-go (not (frameKnown b)) Unsupported _ (ap not known) ∙ refuse-go (not (eqb (length b) (6 + 3 * byte b 5))) Malformed _ (ap not (eq-eqb (length b) (6 + 3 * byte b 5) whole)) ∙ refuse-yes (not (frameFits b (frameOf b))) Unsupported _ (ap not q))
-
-        pub frame-in : frameFits b (frameOf b) ≡ true → more (withFrame h e (frameOf b)) ≡ frame b h e
-        frame-in q = sym (refuse-go (hasFrame h) Malformed _ (le-ltb 0 (h .frame .channels) first) ∙ refuse-go (not (frameKnown b)) Unsupported _ (ap not known) ∙ refuse-go (not (eqb (length b) (6 + 3 * byte b 5))) Malformed _ (ap not (eq-eqb (length b) (6 + 3 * byte b 5) whole)) ∙ refuse-go (not (frameFits b (frameOf b))) Unsupported _ (ap not q))
-
-  pub interval-bad : (length b ≡ 2 → ⊥) → stop Malformed ≡ interval b h e
-  interval-bad q = sym (refuse-yes (not (eqb (length b) 2)) Malformed _ (ap not (ne-eqb (length b) 2 q)))
-
-  pub interval-in : length b ≡ 2 → more (withInterval h e (word b 0)) ≡ interval b h e
-  interval-in q = sym (refuse-go (not (eqb (length b) 2)) Malformed _ (ap not (eq-eqb (length b) 2 q)))
-
--- ---- the record
-
-pub record-made :
-    (b : List ℕ) (colour : Bool) (h : Header) (e : ℕ) (dcids acids : List ℕ) (n o : ℕ)
-    → dcids ≡ each (h .frame .channels) (dcId b) → acids ≡ each (h .frame .channels) (acId b)
-    → n ≡ blockCount (shapeOf (h .frame)) → o ≡ outputLength (shapeOf (h .frame))
-    → record {
-      width = h .frame .width;
-      height = h .frame .height;
-      channels = h .frame .channels;
-      hs = h .frame .hs;
-      vs = h .frame .vs;
-      ids = h .frame .ids;
-      qids = h .frame .qids;
-      dcids = dcids;
-      acids = acids;
-      quants = h .quants;
-      dcs = h .dcs;
-      acs = h .acs;
-      interval = h .interval;
-      start = e;
-      blocks = n;
-      scratch = 64 * n;
-      output = o;
-      work = 3136 * n + o;
-      colour = colour;
-    } ≡ recordOf b colour h e
-record-made b colour h e dcids acids n o ed ea en eo = rw (ed, ea, en, eo, work-is (shapeOf (h .frame)))
-
--- ---- the scan
-
-module _ (b : List ℕ) (colour : Bool) (h : Header) (e : ℕ) where
-  pub scan-frameless : h .frame .channels ≡ 0 → stop Malformed ≡ scan b colour h e
-  scan-frameless p = sym (refuse-yes (not (hasFrame h)) Malformed _ (ap not (le-ltb 0 (h .frame .channels) (omega arith))))
-
-  module _ (framed : h .frame .channels ≡ 0 → ⊥) where
-    has : not (hasFrame h) ≡ false
-    has = ap not (lt-ltb 0 (h .frame .channels) (omega arith))
-
-    pub scan-unknown : scanKnown b (h .frame .channels) ≡ false → stop Unsupported ≡ scan b colour h e
-    scan-unknown p = sym (refuse-go (not (hasFrame h)) Malformed _ has ∙ refuse-yes (not (scanKnown b (h .frame .channels))) Unsupported _ (ap not p))
-
-    module _ (known : scanKnown b (h .frame .channels) ≡ true) where
-      to-order : (st : Stage) → refuse-if (not (scanKnown b (h .frame .channels))) Unsupported st ≡ st
-      to-order st = refuse-go (not (scanKnown b (h .frame .channels))) Unsupported st (ap not known)
-
-      pub scan-order : inOrder b (h .frame .ids) (h .frame .channels) ≡ false → stop Malformed ≡ scan b colour h e
-      scan-order p = sym (refuse-go (not (hasFrame h)) Malformed _ has ∙ to-order _ ∙ refuse-yes (not (inOrder b (h .frame .ids) (h .frame .channels))) Malformed _ (ap not p))
-
-      module _ (order : inOrder b (h .frame .ids) (h .frame .channels) ≡ true) where
-        to-selected : (st : Stage) → refuse-if (not (inOrder b (h .frame .ids) (h .frame .channels))) Malformed st ≡ st
-        to-selected st = refuse-go (not (inOrder b (h .frame .ids) (h .frame .channels))) Malformed st (ap not order)
-
-        pub scan-selected : selected b (h .frame .channels) ≡ false → stop Unsupported ≡ scan b colour h e
-        scan-selected p = sym (refuse-go (not (hasFrame h)) Malformed _ has ∙ to-order _ ∙ to-selected _ ∙ refuse-yes (not (selected b (h .frame .channels))) Unsupported _ (ap not p))
-
-        module _ (chosen-ids : selected b (h .frame .channels) ≡ true) where
-          to-complete : (st : Stage) → refuse-if (not (selected b (h .frame .channels))) Unsupported st ≡ st
-          to-complete st = refuse-go (not (selected b (h .frame .channels))) Unsupported st (ap not chosen-ids)
-
-          pub scan-incomplete : complete (recordOf b colour h e) ≡ false → stop Malformed ≡ scan b colour h e
-          scan-incomplete p = sym (refuse-go (not (hasFrame h)) Malformed _ has ∙ to-order _ ∙ to-selected _ ∙ to-complete _ ∙ refuse-yes (not (complete (recordOf b colour h e))) Malformed _ (ap not p))
-
-          pub scan-in : complete (recordOf b colour h e) ≡ true → done (recordOf b colour h e) ≡ scan b colour h e
-          scan-in p = sym (refuse-go (not (hasFrame h)) Malformed _ has ∙ to-order _ ∙ to-selected _ ∙ to-complete _ ∙ refuse-go (not (complete (recordOf b colour h e))) Malformed _ (ap not p))
+use Rattle.jpeg_state.proofs.Rules.{cond-yes, cond-no}
 
 -- ---- marker codes
 

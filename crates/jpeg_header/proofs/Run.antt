@@ -20,9 +20,7 @@ use Rattle.reading.proofs.HeaderPrefix.{steps-done, steps-stop}
 use Rattle.reading.proofs.HeaderEnds.{Down, on, Ok, inside, left, step-down}
 use Rattle.reading.proofs.FileBytes.{AllBytes}
 use Rattle.reading.proofs.Frames.{Shaped}
-use Rattle.jpeg_header.specs.Steps.{stageBy, stageOf, Inside, InsideCase}
-use Rattle.jpeg_header.specs.declared.Progress.the-variants.{More, Done, Stop}
-use Rattle.jpeg_header.specs.declared.Stepped.{Stepped}
+use Rattle.jpeg_header.specs.Steps.{Inside, InsideCase}
 use Rattle.reading.proofs.Accepted.{Sound, step-sound}
 use Rattle.reading.proofs.Accepted as accepted
 
@@ -109,18 +107,6 @@ module _ (s : List ℕ) where
 
     pub opens-told : byte s 0 ≡ 255 → eqb (byte s 1) 216 ≡ opens s
     opens-told p = rw (le-leb 2 (length s) two, eq-eqb (byte s 0) 255 p) refl
-
--- ---- a step's answer
-
-module _ (r : Stepped) where
-  pub stage-more : r .progress ≡ More → more (r .state) ≡ stageOf r
-  stage-more e = ap (λ p. stageBy p (r .state) (r .found)) (sym e)
-
-  pub stage-done : r .progress ≡ Done → done (r .found) ≡ stageOf r
-  stage-done e = ap (λ p. stageBy p (r .state) (r .found)) (sym e)
-
-  pub stage-stop : (x : Refusal) → r .progress ≡ Stop x → stop x ≡ stageOf r
-  stage-stop x e = ap (λ p. stageBy p (r .state) (r .found)) (sym e)
 
 -- a window is no longer than its bounds say
 pub window-room : (s : List ℕ) (a e : ℕ) → a ≤ e → a + length (window s a e) ≤ e

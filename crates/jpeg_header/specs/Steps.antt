@@ -1,28 +1,17 @@
--- A step's answer as a stage of the header, and where a state stands in the file.
+-- Whether a step goes on, and where a state stands in the file.
 use Prim.Native.Nat.{ℕ, _≤_}
 use mathlib.Core.Bool.{Bool, true, false}
 use Rattle.reading.specs.declared.Case.{Case}
 use Rattle.reading.specs.declared.Case.the-variants.{Marker, Quantizers, Huffman}
 use Rattle.reading.specs.declared.Header.{Header}
-use Rattle.reading.specs.declared.Record.{Record}
-use Rattle.reading.specs.Header.{Stage, more, done, stop}
-use Rattle.jpeg_header.specs.declared.Progress.{Progress}
-use Rattle.jpeg_header.specs.declared.Progress.the-variants.{More, Done, Stop}
-use Rattle.jpeg_header.specs.declared.Stepped.{Stepped}
+use Rattle.jpeg_state.specs.declared.Progress.{Progress}
+use Rattle.jpeg_state.specs.declared.Progress.the-variants.{More, Done, Stop}
 
 -- the header goes on
 abbrev pub goesOn : Progress → Bool
 goesOn More = true
 goesOn Done = false
 goesOn (Stop x) = false
-
-abbrev pub stageBy : Progress → Header → Record → Stage
-stageBy More h r = more h
-stageBy Done h r = done r
-stageBy (Stop x) h r = stop x
-
-abbrev pub stageOf : Stepped → Stage
-stageOf r = stageBy (r .progress) (r .state) (r .found)
 
 -- inside a segment of tables the place is not past its end, and the end not past the file's
 abbrev pub InsideCase : ℕ → ℕ → Case → Type 0

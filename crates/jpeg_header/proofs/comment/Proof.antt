@@ -43,26 +43,26 @@ goes-on-requires : tie.Need-goes-on-requires Inv-loop μ-loop
 goes-on-requires c κs = tt
 
 returns-2 : tie.Need-returns-2 Inv-loop μ-loop
-returns-2 c = look-none (c .before .before .before .before .before .before .before .before .args .s .now) (c .before .before .before .before .before .before .before .before .args .i) (c .before .before .before .loop .state) (c .before .before .before .loop .before) (c .before .before .before .loop .inv) (λ g e. goes-not (c .before .before .step .result) (sym (c .before .goes-on .ensures) ∙ not-true _ (c .if2 .taken)) g (e ∙ sym (c .before .before .step .ensures)))
+returns-2 c = look-none (c .before .before .before .before .before .before .before .before .args .s .now) (c .before .before .before .before .before .before .before .before .args .i) (c .before .before .before .loop .state) (c .before .before .before .loop .before) (c .before .before .before .loop .inv) (goes-not (c .before .before .step .ensures) (sym (c .before .goes-on .ensures) ∙ not-true _ (c .if2 .taken)))
 
 at-comment-requires : tie.Need-at-comment-requires Inv-loop μ-loop
 at-comment-requires c κs = c .before .before .before .loop .inv .run .ok .0
 
 text-at-requires : tie.Need-text-at-requires Inv-loop μ-loop
-text-at-requires c κs = comment-room (c .before .before .before .before .before .before .before .before .before .before .before .args .s .now) false (c .before .before .before .before .before .before .loop .state) (c .before .before .before .before .before .step .result .state) (sym (c .before .before .at-comment .ensures) ∙ c .before .if3 .taken) (goes-more (c .before .before .before .before .before .step .result) (sym (c .before .before .before .before .goes-on .ensures) ∙ not-false _ (c .before .before .before .if2 .left)) ∙ c .before .before .before .before .before .step .ensures)
+text-at-requires c κs = comment-room (c .before .before .before .before .before .before .before .before .before .before .before .args .s .now) false (c .before .before .before .before .before .before .loop .state) (c .before .before .before .before .before .step .result .state) (sym (c .before .before .at-comment .ensures) ∙ c .before .if3 .taken) (goes-more (c .before .before .before .before .before .step .ensures) (sym (c .before .before .before .before .goes-on .ensures) ∙ not-false _ (c .before .before .before .if2 .left)))
 
 returns-3 : tie.Need-returns-3 Inv-loop μ-loop
-returns-3 c = ap There (c .text-at .ensures) ∙ look-found (c .before .before .before .before .before .before .before .before .before .before .before .before .args .s .now) (c .before .before .before .before .before .before .before .before .before .before .before .before .args .i) (bytes (c .before .before .before .before .before .before .before .before .before .before .before)) (c .before .before .before .before .before .before .before .loop .state) (c .before .before .before .before .before .before .step .result .state) (c .before .before .before .before .before .before .before .loop .before) (c .before .before .before .before .before .before .before .loop .inv) (goes-more (c .before .before .before .before .before .before .step .result) (sym (c .before .before .before .before .before .goes-on .ensures) ∙ not-false _ (c .before .before .before .before .if2 .left)) ∙ c .before .before .before .before .before .before .step .ensures) (sym (c .before .before .before .at-comment .ensures) ∙ c .before .before .if3 .taken) (c .before .if4 .taken)
+returns-3 c = ap There (c .text-at .ensures) ∙ look-found (c .before .before .before .before .before .before .before .before .before .before .before .before .args .s .now) (c .before .before .before .before .before .before .before .before .before .before .before .before .args .i) (bytes (c .before .before .before .before .before .before .before .before .before .before .before)) (c .before .before .before .before .before .before .before .loop .state) (c .before .before .before .before .before .before .step .result .state) (c .before .before .before .before .before .before .before .loop .before) (c .before .before .before .before .before .before .before .loop .inv) (goes-more (c .before .before .before .before .before .before .step .ensures) (sym (c .before .before .before .before .before .goes-on .ensures) ∙ not-false _ (c .before .before .before .before .if2 .left))) (sym (c .before .before .before .at-comment .ensures) ∙ c .before .before .if3 .taken) (c .before .if4 .taken)
 
 sub-before : tie.Need-sub-before Inv-loop μ-loop
 sub-before c = omega (arith, c .if4 .left)
 
 loop-less : tie.Need-loop-less Inv-loop μ-loop
-loop-less c = run-down (c .before .before .before .before .before .before .before .before .before .before .before .args .s .now) false (c .before .before .before .before .before .before .loop .state) (c .before .before .before .before .before .step .result .state) (c .before .before .before .before .before .before .loop .inv .run) (goes-more (c .before .before .before .before .before .step .result) (sym (c .before .before .before .before .goes-on .ensures) ∙ not-false _ (c .before .before .before .if2 .left)) ∙ c .before .before .before .before .before .step .ensures)
+loop-less c = run-down (c .before .before .before .before .before .before .before .before .before .before .before .args .s .now) false (c .before .before .before .before .before .before .loop .state) (c .before .before .before .before .before .step .result .state) (c .before .before .before .before .before .before .loop .inv .run) (goes-more (c .before .before .before .before .before .step .ensures) (sym (c .before .before .before .before .goes-on .ensures) ∙ not-false _ (c .before .before .before .if2 .left)))
 
 -- the step went on
 onward : (c : tie.After-next Inv-loop μ-loop) → more (c .before .before .before .before .before .step .result .state) ≡ step (c .before .before .before .before .before .before .before .before .before .before .before .args .s .now) false (c .before .before .before .before .before .before .loop .state)
-onward c = goes-more (c .before .before .before .before .before .step .result) (sym (c .before .before .before .before .goes-on .ensures) ∙ not-false _ (c .before .before .before .if2 .left)) ∙ c .before .before .before .before .before .step .ensures
+onward c = goes-more (c .before .before .before .before .before .step .ensures) (sym (c .before .before .before .before .goes-on .ensures) ∙ not-false _ (c .before .before .before .if2 .left))
 
 loop-again : tie.Need-loop-again Inv-loop μ-loop
 loop-again c =

@@ -7,7 +7,8 @@ use Rattle.reading.proofs.HeaderEnds.{left}
 use Rattle.reading.proofs.FileBytes.{AllBytes, all-bytes}
 use borrow.Author.Tests.{not-true, not-false}
 use Rattle.reading.proofs.HeaderEnds.{opens-two}
-use Rattle.jpeg_header.proofs.Run.{Running, run-start, run-closed, run-more, run-down, run-done, run-stop, run-inside, stage-more, stage-done, stage-stop}
+use Rattle.jpeg_header.proofs.Run.{Running, run-start, run-closed, run-more, run-down, run-done, run-stop, run-inside}
+use Rattle.jpeg_state.proofs.Segments.{stage-more, stage-done, stage-stop}
 use borrow.Author.Needs.{needs}
 use Rattle.jpeg_header.proofs.header.Statement.{statement}
 use Rattle.jpeg_header.proofs.header.Tie as tie
@@ -46,16 +47,16 @@ enum-told : tie.Need-enum-told Inv-loop μ-loop
 enum-told c = search needs
 
 loop-less : tie.Need-loop-less Inv-loop μ-loop
-loop-less c = run-down (c .before .before .before .before .before .before .before .before .before .args .s .now) (c .before .before .before .before .before .before .before .before .before .args .colour) (c .before .before .before .before .loop .state) (c .before .before .before .step .result .state) (c .before .before .before .before .loop .inv) (stage-more (c .before .before .before .step .result) (c .before .enum-told .given .1) ∙ c .before .before .before .step .ensures)
+loop-less c = run-down (c .before .before .before .before .before .before .before .before .before .args .s .now) (c .before .before .before .before .before .before .before .before .before .args .colour) (c .before .before .before .before .loop .state) (c .before .before .before .step .result .state) (c .before .before .before .before .loop .inv) (stage-more (c .before .before .before .step .ensures) (c .before .enum-told .given .1))
 
 loop-again : tie.Need-loop-again Inv-loop μ-loop
-loop-again c = run-more (c .before .before .before .before .before .before .before .before .before .args .s .now) (c .before .before .before .before .before .before .before .before .before .args .colour) (bytes (c .before .before .before .before .before .before .before .before)) (c .before .before .before .before .loop .state) (c .before .before .before .step .result .state) (c .before .before .before .before .loop .inv) (stage-more (c .before .before .before .step .result) (c .before .enum-told .given .1) ∙ c .before .before .before .step .ensures)
+loop-again c = run-more (c .before .before .before .before .before .before .before .before .before .args .s .now) (c .before .before .before .before .before .before .before .before .before .args .colour) (bytes (c .before .before .before .before .before .before .before .before)) (c .before .before .before .before .loop .state) (c .before .before .before .step .result .state) (c .before .before .before .before .loop .inv) (stage-more (c .before .before .before .step .ensures) (c .before .enum-told .given .1))
 
 enum-told-2 : tie.Need-enum-told-2 Inv-loop μ-loop
 enum-told-2 c = search needs
 
 returns-2 : tie.Need-returns-2 Inv-loop μ-loop
-returns-2 c = sym (ap headed (run-done (c .before .before .before .before .before .before .before .before .before .args .s .now) (c .before .before .before .before .before .before .before .before .before .args .colour) (c .before .before .before .before .loop .state) (c .before .before .before .step .result .found) (c .before .before .before .before .loop .inv) (stage-done (c .before .before .before .step .result) (c .before .enum-told2 .given .1) ∙ c .before .before .before .step .ensures)))
+returns-2 c = sym (ap headed (run-done (c .before .before .before .before .before .before .before .before .before .args .s .now) (c .before .before .before .before .before .before .before .before .before .args .colour) (c .before .before .before .before .loop .state) (c .before .before .before .step .result .found) (c .before .before .before .before .loop .inv) (stage-done (c .before .before .before .step .ensures) (c .before .enum-told2 .given .1))))
 
 enum-known-progress : tie.Need-enum-known-progress Inv-loop μ-loop
 enum-known-progress c = search needs
@@ -64,7 +65,7 @@ refused-requires-2 : tie.Need-refused-requires-2 Inv-loop μ-loop
 refused-requires-2 c κs = tt
 
 returns-3 : tie.Need-returns-3 Inv-loop μ-loop
-returns-3 c = c .refused2 .ensures ∙ ap headed (sym (run-stop (c .before .before .before .before .before .before .before .before .before .before .args .s .now) (c .before .before .before .before .before .before .before .before .before .before .args .colour) (c .before .before .before .before .before .loop .state) (c .before .before .progress .given .0 .0) (c .before .before .before .before .before .loop .inv) (stage-stop (c .before .before .before .before .step .result) (c .before .before .progress .given .0 .0) (c .before .before .progress .given .1) ∙ c .before .before .before .before .step .ensures)))
+returns-3 c = c .refused2 .ensures ∙ ap headed (sym (run-stop (c .before .before .before .before .before .before .before .before .before .before .args .s .now) (c .before .before .before .before .before .before .before .before .before .before .args .colour) (c .before .before .before .before .before .loop .state) (c .before .before .progress .given .0 .0) (c .before .before .before .before .before .loop .inv) (stage-stop (c .before .before .before .before .step .ensures) (c .before .before .progress .given .0 .0) (c .before .before .progress .given .1))))
 
 pub header-spec : {M : Type 1} → statement M
 header-spec =

@@ -5,6 +5,8 @@ use native.Mathlib.Omega.{arith}
 use Rattle.reading.specs.declared.Kind.the-variants.{Quants, Tables, Frames, Scans, Intervals, Skips, Others}
 use Rattle.reading.specs.Header.{more, window, kindOf}
 use Rattle.jpeg_header.proofs.Rules.{by-kind, kind-frames, kind-skips, kind-others}
+use Rattle.jpeg_state.specs.Segments.{stepped}
+use Rattle.jpeg_state.proofs.Segments.{behind-framed}
 use Rattle.jpeg_header.proofs.segment.Statement.{statement}
 use Rattle.jpeg_header.proofs.segment.Tie as tie
 
@@ -40,7 +42,7 @@ part-scan-end : tie.Need-part-scan-end
 part-scan-end c = omega (arith, c .before .before .pre .0, c .before .before .pre .1)
 
 scan-requires : tie.Need-scan-requires
-scan-requires c κs = c .before .before .before .pre .2
+scan-requires c κs = tt
 
 tables-requires-2 : tie.Need-tables-requires-2
 tables-requires-2 c κs = tt
@@ -79,25 +81,25 @@ more-requires : tie.Need-more-requires
 more-requires c κs = tt
 
 returns : tie.Need-returns
-returns c = c .tables .ensures ∙ by-kind (c .before .before .before .args .colour) (c .before .before .before .args .state) (window (c .before .before .before .args .s .now) (c .before .before .before .args .from) (c .before .before .before .args .end)) (c .before .before .before .args .from) (c .before .before .before .args .end) (kindOf (c .before .before .before .args .code)) Tables (ap kindOf (c .before .match .keys1))
+returns c = c .tables .ensures ∙ ap stepped (by-kind (c .before .before .before .args .colour) (c .before .before .before .args .state) (window (c .before .before .before .args .s .now) (c .before .before .before .args .from) (c .before .before .before .args .end)) (c .before .before .before .args .from) (c .before .before .before .args .end) (kindOf (c .before .before .before .args .code)) Tables (ap kindOf (c .before .match .keys1)))
 
 returns-2 : tie.Need-returns-2
-returns-2 c = c .scan .ensures ∙ by-kind (c .before .before .before .before .args .colour) (c .before .before .before .before .args .state) (window (c .before .before .before .before .args .s .now) (c .before .before .before .before .args .from) (c .before .before .before .before .args .end)) (c .before .before .before .before .args .from) (c .before .before .before .before .args .end) (kindOf (c .before .before .before .before .args .code)) Scans (ap kindOf (c .before .before .match .keys2))
+returns-2 c = c .scan .ensures ∙ ap stepped (behind-framed (c .before .before .before .before .args .state) _ (c .before .before .before .before .pre .2) ∙ by-kind (c .before .before .before .before .args .colour) (c .before .before .before .before .args .state) (window (c .before .before .before .before .args .s .now) (c .before .before .before .before .args .from) (c .before .before .before .before .args .end)) (c .before .before .before .before .args .from) (c .before .before .before .before .args .end) (kindOf (c .before .before .before .before .args .code)) Scans (ap kindOf (c .before .before .match .keys2)))
 
 returns-3 : tie.Need-returns-3
-returns-3 c = c .tables2 .ensures ∙ by-kind (c .before .before .before .args .colour) (c .before .before .before .args .state) (window (c .before .before .before .args .s .now) (c .before .before .before .args .from) (c .before .before .before .args .end)) (c .before .before .before .args .from) (c .before .before .before .args .end) (kindOf (c .before .before .before .args .code)) Quants (ap kindOf (c .before .match .keys3))
+returns-3 c = c .tables2 .ensures ∙ ap stepped (by-kind (c .before .before .before .args .colour) (c .before .before .before .args .state) (window (c .before .before .before .args .s .now) (c .before .before .before .args .from) (c .before .before .before .args .end)) (c .before .before .before .args .from) (c .before .before .before .args .end) (kindOf (c .before .before .before .args .code)) Quants (ap kindOf (c .before .match .keys3)))
 
 returns-4 : tie.Need-returns-4
-returns-4 c = c .interval .ensures ∙ by-kind (c .before .before .before .before .args .colour) (c .before .before .before .before .args .state) (window (c .before .before .before .before .args .s .now) (c .before .before .before .before .args .from) (c .before .before .before .before .args .end)) (c .before .before .before .before .args .from) (c .before .before .before .before .args .end) (kindOf (c .before .before .before .before .args .code)) Intervals (ap kindOf (c .before .before .match .keys4))
+returns-4 c = c .interval .ensures ∙ ap stepped (by-kind (c .before .before .before .before .args .colour) (c .before .before .before .before .args .state) (window (c .before .before .before .before .args .s .now) (c .before .before .before .before .args .from) (c .before .before .before .before .args .end)) (c .before .before .before .before .args .from) (c .before .before .before .before .args .end) (kindOf (c .before .before .before .before .args .code)) Intervals (ap kindOf (c .before .before .match .keys4)))
 
 returns-5 : tie.Need-returns-5
-returns-5 c = c .frame .ensures ∙ by-kind (c .before .before .before .before .before .before .args .colour) (c .before .before .before .before .before .before .args .state) (window (c .before .before .before .before .before .before .args .s .now) (c .before .before .before .before .before .before .args .from) (c .before .before .before .before .before .before .args .end)) (c .before .before .before .before .before .before .args .from) (c .before .before .before .before .before .before .args .end) (kindOf (c .before .before .before .before .before .before .args .code)) Frames (sym (kind-frames (c .before .before .before .before .before .before .args .code) (c .before .before .before .if1 .left) (c .before .before .if2 .taken)))
+returns-5 c = c .frame .ensures ∙ ap stepped (by-kind (c .before .before .before .before .before .before .args .colour) (c .before .before .before .before .before .before .args .state) (window (c .before .before .before .before .before .before .args .s .now) (c .before .before .before .before .before .before .args .from) (c .before .before .before .before .before .before .args .end)) (c .before .before .before .before .before .before .args .from) (c .before .before .before .before .before .before .args .end) (kindOf (c .before .before .before .before .before .before .args .code)) Frames (sym (kind-frames (c .before .before .before .before .before .before .args .code) (c .before .before .before .if1 .left) (c .before .before .if2 .taken))))
 
 returns-6 : tie.Need-returns-6
-returns-6 c = c .stop .ensures ∙ by-kind (c .before .before .before .before .args .colour) (c .before .before .before .before .args .state) (window (c .before .before .before .before .args .s .now) (c .before .before .before .before .args .from) (c .before .before .before .before .args .end)) (c .before .before .before .before .args .from) (c .before .before .before .before .args .end) (kindOf (c .before .before .before .before .args .code)) Others (others (c .before))
+returns-6 c = c .stop .ensures ∙ ap stepped (by-kind (c .before .before .before .before .args .colour) (c .before .before .before .before .args .state) (window (c .before .before .before .before .args .s .now) (c .before .before .before .before .args .from) (c .before .before .before .before .args .end)) (c .before .before .before .before .args .from) (c .before .before .before .before .args .end) (kindOf (c .before .before .before .before .args .code)) Others (others (c .before)))
 
 returns-7 : tie.Need-returns-7
-returns-7 c = c .more .ensures ∙ ap more (c .before .moved .ensures) ∙ by-kind (c .before .before .before .before .args .colour) (c .before .before .before .before .args .state) (window (c .before .before .before .before .args .s .now) (c .before .before .before .before .args .from) (c .before .before .before .before .args .end)) (c .before .before .before .before .args .from) (c .before .before .before .before .args .end) (kindOf (c .before .before .before .before .args .code)) Skips (skips (c .before .before))
+returns-7 c = c .more .ensures ∙ ap stepped (ap more (c .before .moved .ensures) ∙ by-kind (c .before .before .before .before .args .colour) (c .before .before .before .before .args .state) (window (c .before .before .before .before .args .s .now) (c .before .before .before .before .args .from) (c .before .before .before .before .args .end)) (c .before .before .before .before .args .from) (c .before .before .before .before .args .end) (kindOf (c .before .before .before .before .args .code)) Skips (skips (c .before .before)))
 
 pub segment-spec : {M : Type 1} → statement M
 segment-spec =

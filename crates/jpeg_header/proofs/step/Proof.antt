@@ -2,10 +2,12 @@ use Prim.Native.Nat.{_≤_}
 use mathlib.Core.Path.{sym, ap, _∙_, subst}
 use native.Mathlib.Omega.{arith}
 use lib.ListN.{length}
-use Rattle.reading.specs.Header.{stepIn}
+use Rattle.reading.specs.Header.{window, stepIn}
 use Rattle.jpeg_header.specs.Steps.{InsideCase}
 use Rattle.jpeg_header.proofs.Run.{window-room}
 use borrow.Author.Needs.{needs}
+use Rattle.jpeg_state.specs.Segments.{stepped}
+use Rattle.jpeg_state.proofs.Segments.{in-segment}
 use Rattle.jpeg_header.proofs.step.Statement.{statement}
 use Rattle.jpeg_header.proofs.step.Tie as tie
 
@@ -34,7 +36,7 @@ part-quantizer-end : tie.Need-part-quantizer-end
 part-quantizer-end c = omega (arith, in-quants (c .before))
 
 quantizer-requires : tie.Need-quantizer-requires
-quantizer-requires c κs = window-room (c .before .before .before .before .before .args .s .now) (c .before .before .before .before .before .args .state .at) (c .before .before .case .given .0 .0) (in-quants (c .before .before) .0)
+quantizer-requires c κs = tt
 
 enum-known-case-2 : tie.Need-enum-known-case-2
 enum-known-case-2 c = search needs
@@ -49,16 +51,16 @@ part-huffman-end : tie.Need-part-huffman-end
 part-huffman-end c = omega (arith, in-tables (c .before))
 
 huffman-requires : tie.Need-huffman-requires
-huffman-requires c κs = window-room (c .before .before .before .before .before .args .s .now) (c .before .before .before .before .before .args .state .at) (c .before .before .case2 .given .0 .0) (in-tables (c .before .before) .0)
+huffman-requires c κs = tt
 
 returns : tie.Need-returns
-returns c = c .marker .ensures ∙ ap (stepIn (c .before .before .before .before .args .s .now) (c .before .before .before .before .args .colour) (c .before .before .before .before .args .state)) (sym (c .before .enum-told .given .1))
+returns c = c .marker .ensures ∙ ap stepped (ap (stepIn (c .before .before .before .before .args .s .now) (c .before .before .before .before .args .colour) (c .before .before .before .before .args .state)) (sym (c .before .enum-told .given .1)))
 
 returns-2 : tie.Need-returns-2
-returns-2 c = c .quantizer .ensures ∙ ap (stepIn (c .before .before .before .before .before .before .args .s .now) (c .before .before .before .before .before .before .args .colour) (c .before .before .before .before .before .before .args .state)) (sym (c .before .before .before .case .given .1))
+returns-2 c = c .quantizer .ensures ∙ ap stepped (in-segment (window (c .before .before .before .before .before .before .args .s .now) (c .before .before .before .before .before .before .args .state .at) (c .before .before .before .case .given .0 .0)) (c .before .before .before .before .before .before .args .state) (c .before .before .before .case .given .0 .0) _ (window-room (c .before .before .before .before .before .before .args .s .now) (c .before .before .before .before .before .before .args .state .at) (c .before .before .before .case .given .0 .0) (in-quants (c .before .before .before) .0)) ∙ ap (stepIn (c .before .before .before .before .before .before .args .s .now) (c .before .before .before .before .before .before .args .colour) (c .before .before .before .before .before .before .args .state)) (sym (c .before .before .before .case .given .1)))
 
 returns-3 : tie.Need-returns-3
-returns-3 c = c .huffman .ensures ∙ ap (stepIn (c .before .before .before .before .before .before .args .s .now) (c .before .before .before .before .before .before .args .colour) (c .before .before .before .before .before .before .args .state)) (sym (c .before .before .before .case2 .given .1))
+returns-3 c = c .huffman .ensures ∙ ap stepped (in-segment (window (c .before .before .before .before .before .before .args .s .now) (c .before .before .before .before .before .before .args .state .at) (c .before .before .before .case2 .given .0 .0)) (c .before .before .before .before .before .before .args .state) (c .before .before .before .case2 .given .0 .0) _ (window-room (c .before .before .before .before .before .before .args .s .now) (c .before .before .before .before .before .before .args .state .at) (c .before .before .before .case2 .given .0 .0) (in-tables (c .before .before .before) .0)) ∙ ap (stepIn (c .before .before .before .before .before .before .args .s .now) (c .before .before .before .before .before .before .args .colour) (c .before .before .before .before .before .before .args .state)) (sym (c .before .before .before .case2 .given .1)))
 
 pub step-spec : {M : Type 1} → statement M
 step-spec =

@@ -4,9 +4,14 @@ use native.Mathlib.Omega.{arith}
 use Rattle.reading.specs.Header.{dcId, acId}
 use Rattle.reading.proofs.Fits.{each-made}
 use Rattle.reading.proofs.Accepted.{blocks-are, count-small, bytes-are, output-small}
-use Rattle.jpeg_header.proofs.Rules.{record-made}
-use Rattle.jpeg_header.proofs.record_of.Statement.{statement}
-use Rattle.jpeg_header.proofs.record_of.Tie as tie
+use Rattle.jpeg_state.proofs.Rules.{record-made}
+use Rattle.reading.proofs.Frames.{FrameOk}
+use Rattle.jpeg_state.proofs.Numbers.{alike, alike-ok}
+use Rattle.jpeg_state.proofs.record_of.Statement.{statement}
+use Rattle.jpeg_state.proofs.record_of.Tie as tie
+
+ok : (c : tie.Start) → FrameOk (alike (c .args .state .frame))
+ok c = alike-ok (c .args .state .frame) (c .pre)
 
 byte-at-requires : tie.Need-byte-at-requires
 byte-at-requires c κs = tt
@@ -30,13 +35,13 @@ output-length-requires : tie.Need-output-length-requires
 output-length-requires c κs = c .before .before .before .before .before .before .before .before .pre
 
 mul-t19 : tie.Need-mul-t19
-mul-t19 c = omega (arith, c .before .before .before .before .before .before .block-count .ensures, blocks-are (c .before .before .before .before .before .before .before .before .before .before .before .before .before .before .args .state .frame) (c .before .before .before .before .before .before .before .before .before .before .before .before .before .before .pre), count-small (c .before .before .before .before .before .before .before .before .before .before .before .before .before .before .args .state .frame) (c .before .before .before .before .before .before .before .before .before .before .before .before .before .before .pre))
+mul-t19 c = omega (arith, c .before .before .before .before .before .before .block-count .ensures, blocks-are (alike (c .before .before .before .before .before .before .before .before .before .before .before .before .before .before .args .state .frame)) (ok (c .before .before .before .before .before .before .before .before .before .before .before .before .before .before)), count-small (alike (c .before .before .before .before .before .before .before .before .before .before .before .before .before .before .args .state .frame)) (ok (c .before .before .before .before .before .before .before .before .before .before .before .before .before .before)))
 
 mul-t23 : tie.Need-mul-t23
-mul-t23 c = omega (arith, c .before .before .before .before .before .before .block-count .ensures, blocks-are (c .before .before .before .before .before .before .before .before .before .before .before .before .before .before .args .state .frame) (c .before .before .before .before .before .before .before .before .before .before .before .before .before .before .pre), count-small (c .before .before .before .before .before .before .before .before .before .before .before .before .before .before .args .state .frame) (c .before .before .before .before .before .before .before .before .before .before .before .before .before .before .pre))
+mul-t23 c = omega (arith, c .before .before .before .before .before .before .block-count .ensures, blocks-are (alike (c .before .before .before .before .before .before .before .before .before .before .before .before .before .before .args .state .frame)) (ok (c .before .before .before .before .before .before .before .before .before .before .before .before .before .before)), count-small (alike (c .before .before .before .before .before .before .before .before .before .before .before .before .before .before .args .state .frame)) (ok (c .before .before .before .before .before .before .before .before .before .before .before .before .before .before)))
 
 add-t25 : tie.Need-add-t25
-add-t25 c = omega (arith, c .before .before .before .before .before .before .block-count .ensures, blocks-are (c .before .before .before .before .before .before .before .before .before .before .before .before .before .before .args .state .frame) (c .before .before .before .before .before .before .before .before .before .before .before .before .before .before .pre), count-small (c .before .before .before .before .before .before .before .before .before .before .before .before .before .before .args .state .frame) (c .before .before .before .before .before .before .before .before .before .before .before .before .before .before .pre), c .before .before .before .before .before .output-length .ensures, bytes-are (c .before .before .before .before .before .before .before .before .before .before .before .before .before .before .args .state .frame) (c .before .before .before .before .before .before .before .before .before .before .before .before .before .before .pre), output-small (c .before .before .before .before .before .before .before .before .before .before .before .before .before .before .args .state .frame) (c .before .before .before .before .before .before .before .before .before .before .before .before .before .before .pre))
+add-t25 c = omega (arith, c .before .before .before .before .before .before .block-count .ensures, blocks-are (alike (c .before .before .before .before .before .before .before .before .before .before .before .before .before .before .args .state .frame)) (ok (c .before .before .before .before .before .before .before .before .before .before .before .before .before .before)), count-small (alike (c .before .before .before .before .before .before .before .before .before .before .before .before .before .before .args .state .frame)) (ok (c .before .before .before .before .before .before .before .before .before .before .before .before .before .before)), c .before .before .before .before .before .output-length .ensures, bytes-are (alike (c .before .before .before .before .before .before .before .before .before .before .before .before .before .before .args .state .frame)) (ok (c .before .before .before .before .before .before .before .before .before .before .before .before .before .before)), output-small (alike (c .before .before .before .before .before .before .before .before .before .before .before .before .before .before .args .state .frame)) (ok (c .before .before .before .before .before .before .before .before .before .before .before .before .before .before)))
 
 returns : tie.Need-returns
 returns c = record-made (c .before .before .before .before .before .before .before .before .before .before .before .before .before .before .args .body .now) (c .before .before .before .before .before .before .before .before .before .before .before .before .before .before .args .colour) (c .before .before .before .before .before .before .before .before .before .before .before .before .before .before .args .state) (c .before .before .before .before .before .before .before .before .before .before .before .before .before .before .args .end) _ _ _ _

@@ -1,7 +1,7 @@
 use mathlib.Core.Path.{refl}
 use native.Mathlib.Omega.{arith}
-use Rattle.jpeg_header.proofs.ceiling.Statement.{statement}
-use Rattle.jpeg_header.proofs.ceiling.Tie as tie
+use Rattle.jpeg_state.proofs.ceiling.Statement.{statement}
+use Rattle.jpeg_state.proofs.ceiling.Tie as tie
 
 sub-result : tie.Need-sub-result
 sub-result c = omega (arith, c .pre)
