@@ -1,2 +1,2 @@
--- Laws of the flattening.
-pub mod Flattening
+-- Decode by numbers that are no record's.
+pub mod NoRecord

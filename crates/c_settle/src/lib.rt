@@ -26,14 +26,14 @@ pub extern "C" fn tillsparrow_settle(
 {
     let seen = jpeg::settle(
         bytes,
-        c_functions::limits(input, side, output),
+        c_record::limits(input, side, output),
         Budget::fresh(budget),
         room,
     );
     let verdict = seen.verdict;
     let rest = seen.budget;
     Settled {
-        number: c_functions::number(verdict),
+        number: c_record::number(verdict),
         left: rest.left,
         length: seen.length,
     }

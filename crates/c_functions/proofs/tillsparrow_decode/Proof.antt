@@ -2,7 +2,7 @@ use mathlib.Core.Path.{refl, ap, _∙_}
 use native.Mathlib.Omega.{arith}
 use Rattle.reading.proofs.FileBytes.{all-bytes}
 use Rattle.c_functions.specs.Flat.{decoded}
-use Rattle.c_functions.proofs.Flattening.{asked-decodes}
+use Rattle.c_functions.proofs.NoRecord.{asked-decodes}
 use borrow.Author.Needs.{needs}
 use Rattle.c_functions.proofs.tillsparrow_decode.Statement.{statement}
 use Rattle.c_functions.proofs.tillsparrow_decode.Tie as tie

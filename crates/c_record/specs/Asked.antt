@@ -2,8 +2,8 @@
 use mathlib.Core.Bool.{cond}
 use lib.Dec.{ltb}
 use Rattle.reading.specs.declared.Record.{Record}
-use Rattle.c_functions.specs.declared.FlatRecord.{FlatRecord}
-use Rattle.c_functions.specs.Flat.{recordWith, recordOf}
+use Rattle.c_record.specs.declared.FlatRecord.{FlatRecord}
+use Rattle.c_record.specs.Flat.{recordWith, recordOf}
 
 abbrev pub channelless : FlatRecord → Record
 channelless f = recordWith 0 f

@@ -1,8 +1,8 @@
 use mathlib.Core.Path.{sym, _∙_}
 use borrow.Author.Needs.{needs}
-use Rattle.c_functions.proofs.Flattening.{asked-none, asked-so}
-use Rattle.c_functions.proofs.asked.Statement.{statement}
-use Rattle.c_functions.proofs.asked.Tie as tie
+use Rattle.c_record.proofs.Flattening.{asked-none, asked-so}
+use Rattle.c_record.proofs.asked.Statement.{statement}
+use Rattle.c_record.proofs.asked.Tie as tie
 
 record-of-requires : tie.Need-record-of-requires
 record-of-requires c κs = search needs

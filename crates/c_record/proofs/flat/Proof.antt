@@ -1,7 +1,7 @@
 use mathlib.Core.Path.{refl}
 use borrow.Author.Needs.{needs}
-use Rattle.c_functions.proofs.flat.Statement.{statement}
-use Rattle.c_functions.proofs.flat.Tie as tie
+use Rattle.c_record.proofs.flat.Statement.{statement}
+use Rattle.c_record.proofs.flat.Tie as tie
 
 digit-requires : tie.Need-digit-requires
 digit-requires c κs = search needs

@@ -1,11 +1,12 @@
--- Flattening and its inverse undo each other, and numbers that are no record's are refused as a record that is not the file's.
-use Prim.Native.Nat.{ℕ, zero, suc, _+_, _<_, _≤_}
-use mathlib.Core.Path.{_≡_, refl, sym, ap, _∙_}
+-- Numbers that are no record's are refused as a record that is not the file's: the record that decode is asked with then has no channels,
+-- and the record of an accepted header has at least one.
+use Prim.Native.Nat.{ℕ, _+_, _<_}
+use mathlib.Core.Path.{_≡_, refl, ap}
 use mathlib.Core.Bool.{Bool, true, false, cond}
 use mathlib.Core.List.{List}
 use native.Mathlib.Omega.{arith}
 use borrow.Author.Tests.{lt-ltb, le-ltb, ne-eqb, ltb-true, ltb-false}
-use lib.Dec.{T, ltb, eqb, ltb→lt}
+use lib.Dec.{ltb, eqb}
 use lib.ListN.{length}
 use lib.IntN.{ℤ}
 use Rattle.reading.specs.declared.Record.{Record}
@@ -21,44 +22,9 @@ use Rattle.reading.specs.Calls.{same, sameFrame, undecoded, decodedFrom, decode
 use Rattle.reading.proofs.FileBytes.{AllBytes}
 use Rattle.reading.proofs.Plain.{and-false}
 use Rattle.reading.proofs.Accepted.{header-accepted}
-use Rattle.c_functions.specs.declared.FlatRecord.{FlatRecord}
-use Rattle.c_functions.specs.Flat.{digit, flat, recordOf, isRecord, notItsRecord, decodeFlat}
-use Rattle.c_functions.specs.Asked.{channelless, asked}
-
--- ---- flattening
-
-eqb-digit : (b : Bool) → eqb (digit b) 1 ≡ b
-eqb-digit true = refl
-eqb-digit false = refl
-
-pub record-of-flat : (r : Record) → recordOf (flat r) ≡ r
-record-of-flat r = rw (eqb-digit (r .colour)) refl
-
-past : (n : ℕ) → suc (suc n) < 2 → ⊥
-past n p = omega arith
-
-digit-eqb : (n : ℕ) → T (ltb n 2) → digit (eqb n 1) ≡ n
-digit-eqb zero t = refl
-digit-eqb (suc zero) t = refl
-digit-eqb (suc (suc n)) t = absurd (past n (ltb→lt (suc (suc n)) 2 t))
-
-pub flat-of-record : (f : FlatRecord) → T (isRecord f) → flat (recordOf f) ≡ f
-flat-of-record f t = rw (digit-eqb (f .colour) t) refl
-
-pub flat-is-record : (r : Record) → T (isRecord (flat r))
-flat-is-record r = go (r .colour)
-  where
-    go : (b : Bool) → T (ltb (digit b) 2)
-    go true = tt
-    go false = tt
-
--- ---- numbers that are no record's
-
-pub asked-none : (f : FlatRecord) → 1 < f .colour → asked f ≡ channelless f
-asked-none f p = rw (lt-ltb 1 (f .colour) p) refl
-
-pub asked-so : (f : FlatRecord) → f .colour ≤ 1 → asked f ≡ recordOf f
-asked-so f p = rw (le-ltb 1 (f .colour) p) refl
+use Rattle.c_record.specs.declared.FlatRecord.{FlatRecord}
+use Rattle.c_record.specs.Asked.{channelless, asked}
+use Rattle.c_functions.specs.Flat.{notItsRecord, decodeFlat}
 
 and-first : (a b : Bool) → a ≡ false → (a and b) ≡ false
 and-first a b e = rw e refl

@@ -1,0 +1,2 @@
+-- Laws of the flattening.
+pub mod Flattening

@@ -1,0 +1,3 @@
+-- The record as numbers, and the one by which decode is asked.
+pub mod Flat
+pub mod Asked
