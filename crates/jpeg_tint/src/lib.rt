@@ -60,7 +60,7 @@ fn twice(parts: &[i16; 8], spread: &mut [i16; 16])
     }
 }
 
-// A luma sample in 16 bits. That it is a byte is known of a parameter, and not of what an array has.
+// A luma sample in 16 bits. It is a function since a parameter is known to be a byte, and what is read from a lent array is not.
 fn wide(y: u8) -> i16
     ensures { λ r. ⌜ (r ≡ pos y) × (y < 256) ⌝ }
 {

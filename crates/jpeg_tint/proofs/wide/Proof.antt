@@ -2,7 +2,6 @@
 use native.Mathlib.Omega.{arith}
 use lib.IntN.{pos}
 use mir.Syntax.{w16}
-use mir.Val.{SFits}
 use mir.Facts.{toZ-ofZ}
 use Rattle.whole.specs.Expressions.{fits-abs}
 use Rattle.jpeg_tint.proofs.wide.Statement.{statement}
