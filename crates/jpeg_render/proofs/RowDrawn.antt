@@ -44,8 +44,8 @@ module _ (r : Record) (t d : List ℕ) (ok : Drawable r t d) (y : ℕ) (below : 
     chroma-counted = omega (arith, mcu-within r t d ok y below (before .k) in-picture, before .chroma-is, chroma-most r (ok .sized) y, area-most r (ok .sized))
 
     module _ (n : ℕ) (some : n ≡ min (r .width - x) (8 * r .hs)) where
-      pub next-fits : McuFits t out luma chroma (r .hs) n (r .channels) (y * (r .width * r .channels) + x * r .channels)
-      next-fits =
+      pub next-fits : {at : ℕ} → at ≤ y * (r .width * r .channels) + x * r .channels → McuFits t out luma chroma (r .hs) n (r .channels) at
+      next-fits reached =
           record {
             counted = ok .sized .channels;
             alone = ok .sized .alone;
@@ -54,7 +54,7 @@ module _ (r : Record) (t d : List ℕ) (ok : Drawable r t d) (y : ℕ) (below : 
             within = omega arith;
             first = omega (arith, luma-within r t d ok y below (before .k) in-picture, before .luma-is);
             others = λ e. omega (arith, chroma-within r t d ok y below e (before .k) in-picture, before .chroma-is);
-            room = omega (arith, row-room r t d ok y below, mul-le-mul-right (r .channels) within-row, before .drawn .size);
+            room = omega (arith, reached, row-room r t d ok y below, mul-le-mul-right (r .channels) within-row, before .drawn .size);
           }
         where
           within-row : x + n ≤ r .width

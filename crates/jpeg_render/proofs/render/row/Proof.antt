@@ -56,7 +56,7 @@ add-mcu : tie.Need-add-mcu Inv-loop μ-loop
 add-mcu c = omega (arith, row-room _ _ _ (c .before .before .before .before .before .before .before .before .before .before .before .before .before .before .pre .0) _ (c .before .before .before .before .before .before .before .before .before .before .before .before .before .before .pre .1), mul-le-mul-right (c .before .before .before .before .before .before .before .before .before .before .before .before .before .before .args .found .channels) (c .before .before .before .before .before .before .before .loop .inv .drawn .within), c .before .before .before .before .before .before .before .before .before .before .before .before .before .before .good)
 
 mcu-requires : tie.Need-mcu-requires Inv-loop μ-loop
-mcu-requires c κs = next-fits _ _ _ (c .before .before .before .before .before .before .before .before .before .before .before .before .before .before .pre .0) _ (c .before .before .before .before .before .before .before .before .before .before .before .before .before .before .pre .1) (c .before .before .before .before .before .before .before .loop .inv) (c .before .before .before .before .before .if1 .taken) _ (c .before .before .least .ensures)
+mcu-requires c κs = next-fits _ _ _ (c .before .before .before .before .before .before .before .before .before .before .before .before .before .before .pre .0) _ (c .before .before .before .before .before .before .before .before .before .before .before .before .before .before .pre .1) (c .before .before .before .before .before .before .before .loop .inv) (c .before .before .before .before .before .if1 .taken) _ (c .before .before .least .ensures) (omega arith)
 
 add-luma : tie.Need-add-luma Inv-loop μ-loop
 add-luma c = omega (arith, luma-most _ _ _ (c .before .before .before .before .before .before .before .before .before .before .before .before .before .before .before .before .before .pre .0) _ (c .before .before .before .before .before .before .before .before .before .before .before .before .before .before .before .before .before .pre .1) (c .before .before .before .before .before .before .before .before .before .before .loop .inv) (c .before .before .before .before .before .before .before .before .if1 .taken), c .before .before .before .before .before .before .before .before .before .before .before .before .before .per-mcu .ensures, per-most _ (c .before .before .before .before .before .before .before .before .before .before .before .before .before .before .before .before .before .pre .0 .sized), c .before .before .before .before .before .before .before .before .before .before .before .before .before .before .before .before .before .good)
