@@ -15,10 +15,11 @@ use Rattle.reading.specs.declared.Refusal.the-variants.{OverBudget, ShortRoom, 
 use Rattle.reading.specs.declared.Bits.{Bits}
 use Rattle.reading.specs.Tests.{_and_, _or_}
 use Rattle.reading.specs.Reader.{Read, got, fault}
-use Rattle.reading.specs.Header.{Stage, more, done, stop, header}
+use Rattle.reading.specs.Header.{Stage, more, done, stop, header, noRecord}
 use Rattle.reading.specs.Scan.{levels}
-use Rattle.reading.specs.Reading.{scanned, readFrom}
-use Rattle.reading.specs.Calls.{same, sameFrame, undecoded, decodedFrom, decode, headerPrice, remaining}
+use Rattle.reading.specs.Reading.{scanned, readFrom, reading}
+use Rattle.reading.specs.Judging.{accepts, refuses, onward, _>>_, refuse, refuse-if, pay, remaining}
+use Rattle.reading.specs.Calls.{same, sameFrame, itsLevels, undecoded, decoded, decode, headerPrice}
 use Rattle.reading.proofs.FileBytes.{AllBytes}
 use Rattle.reading.proofs.Plain.{and-false}
 use Rattle.reading.proofs.Accepted.{header-accepted}
@@ -41,21 +42,29 @@ some n p = ne-eqb n 0 (λ e. omega (arith, p, e))
 
 module _ (s : List ℕ) (y : AllBytes s) (f : FlatRecord) (out scratch : List ℕ) where
   -- whatever is read, it is not the file's record
-  refused-so : (rest : Budget) (st : Stage) → header s (eqb (f .colour) 1) ≡ st → decodedFrom s (channelless f) out scratch rest (readFrom s st) ≡ undecoded NotItsRecord rest out scratch
+  refused-so : (rest : Budget) (st : Stage) → header s (eqb (f .colour) 1) ≡ st → itsLevels (channelless f) (readFrom s st) rest ≡ refuses NotItsRecord rest
   refused-so rest (more h) e = refl
   refused-so rest (stop x) e = refl
   refused-so rest (done q) e = by (levels s q)
     where
-      by : (l : Read Bits (List (List ℤ))) → decodedFrom s (channelless f) out scratch rest (scanned q l) ≡ undecoded NotItsRecord rest out scratch
+      by : (l : Read Bits (List (List ℤ))) → itsLevels (channelless f) (scanned q l) rest ≡ refuses NotItsRecord rest
       by (fault x) = refl
       by (got ls b) = rw (other q f (some (q .channels) (header-accepted (eqb (f .colour) 1) s y q e .frame .few .0))) refl
 
   channelless-decodes : (budget : Budget) → decode s (channelless f) out scratch budget ≡ notItsRecord s f out scratch budget
   unfolding decode
-  channelless-decodes budget =
-      ap (λ d. cond (ltb (length out) (f .output) or ltb (length scratch) (f .scratch)) (undecoded ShortRoom budget out scratch)
-      (cond (ltb (budget .left) (headerPrice s + f .work)) (undecoded OverBudget budget out scratch) d))
-      (refused-so (remaining budget (headerPrice s + f .work)) (header s (eqb (f .colour) 1)) refl)
+  channelless-decodes budget = room (ltb (length out) (f .output) or ltb (length scratch) (f .scratch))
+    where
+      last : decoded s (channelless f) out scratch (itsLevels (channelless f) (reading s (eqb (f .colour) 1)) (remaining budget (headerPrice s + f .work))) ≡ undecoded NotItsRecord (remaining budget (headerPrice s + f .work)) out scratch
+      last = ap (decoded s (channelless f) out scratch) (refused-so (remaining budget (headerPrice s + f .work)) (header s (eqb (f .colour) 1)) refl)
+
+      price : (t : Bool) → decoded s (channelless f) out scratch (onward (cond t (refuses OverBudget budget) (accepts (tt {0}) (remaining budget (headerPrice s + f .work)))) (λ _. itsLevels (channelless f) (reading s (eqb (f .colour) 1)))) ≡ decoded s noRecord out scratch (onward (cond t (refuses OverBudget budget) (accepts (tt {0}) (remaining budget (headerPrice s + f .work)))) (λ _. refuse NotItsRecord))
+      price true = refl
+      price false = last
+
+      room : (t : Bool) → decoded s (channelless f) out scratch (onward (refuse-if t ShortRoom budget) (λ _. pay (headerPrice s + f .work) >> itsLevels (channelless f) (reading s (eqb (f .colour) 1)))) ≡ decoded s noRecord out scratch (onward (refuse-if t ShortRoom budget) (λ _. pay (headerPrice s + f .work) >> refuse NotItsRecord))
+      room true = refl
+      room false = price (ltb (budget .left) (headerPrice s + f .work))
 
   -- what the code decodes by gives what the numbers are to give
   pub asked-decodes : (budget : Budget) → decode s (asked f) out scratch budget ≡ decodeFlat s f out scratch budget

@@ -4,12 +4,15 @@ use mathlib.Core.Bool.{cond}
 use mathlib.Core.List.{List}
 use lib.Dec.{ltb}
 use lib.ListN.{length}
+use lib.IntN.{ℤ}
 use Rattle.reading.specs.declared.Budget.{Budget}
 use Rattle.reading.specs.declared.Inspection.{Inspection}
 use Rattle.reading.specs.declared.Part.{Part}
 use Rattle.reading.specs.declared.Presence.{Presence}
-use Rattle.reading.specs.declared.Refusal.the-variants.{OverBudget, ShortRoom, NotItsRecord}
+use Rattle.reading.specs.declared.Refusal.the-variants.{ShortRoom, NotItsRecord}
 use Rattle.reading.specs.Tests.{_or_}
+use Rattle.reading.specs.Header.{noRecord}
+use Rattle.reading.specs.Judging.{Judging, _>>_, refuse, refuse-if, pay}
 use Rattle.reading.specs.Calls as calls
 use Rattle.c_record.specs.declared.FlatRecord.{FlatRecord}
 use Rattle.c_record.specs.Flat.{digit, flat, recordOf, isRecord}
@@ -26,11 +29,14 @@ inspected q = record { number = calls.number (q .verdict); left = q .budget .lef
 -- ---- decode
 
 -- numbers that are no record's are not the file's: 8, behind 7 and 2, and the price is taken
+abbrev pub refusing : List ℕ → FlatRecord → List ℕ → List ℕ → Judging (List (List ℤ))
+refusing s f out scratch = do
+  refuse-if (ltb (length out) (f .output) or ltb (length scratch) (f .scratch)) ShortRoom
+  pay (calls.headerPrice s + f .work)
+  refuse NotItsRecord
+
 abbrev pub notItsRecord : List ℕ → FlatRecord → List ℕ → List ℕ → Budget → calls.Decoded
-notItsRecord s f out scratch budget =
-    cond (ltb (length out) (f .output) or ltb (length scratch) (f .scratch)) (calls.undecoded ShortRoom budget out scratch)
-    (cond (ltb (budget .left) (calls.headerPrice s + f .work)) (calls.undecoded OverBudget budget out scratch)
-    (calls.undecoded NotItsRecord (calls.remaining budget (calls.headerPrice s + f .work)) out scratch))
+notItsRecord s f out scratch budget = calls.decoded s noRecord out scratch (refusing s f out scratch budget)
 
 unfoldable pub decodeFlat : List ℕ → FlatRecord → List ℕ → List ℕ → Budget → calls.Decoded
 decodeFlat s f out scratch budget =

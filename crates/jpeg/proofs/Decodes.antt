@@ -19,7 +19,8 @@ use Rattle.reading.specs.Reader.{Read, got, fault}
 use Rattle.reading.specs.Header.{Stage, more, done, stop, header, headed}
 use Rattle.reading.specs.Scan.{levels}
 use Rattle.reading.specs.Reading.{accepted, scanned, readFrom, reading, allSamples}
-use Rattle.reading.specs.Calls.{headerPrice, remaining, same, undecoded, decodedWith, decodedFrom, decode}
+use Rattle.reading.specs.Judging.{remaining}
+use Rattle.reading.specs.Calls.{headerPrice, same, shortRoom, itsLevels, undecoded, decodedWith, decoded, decode}
 use Rattle.reading.proofs.Equal.{records-equal}
 use Rattle.reading.proofs.HeaderEnds.{or-left, or-right}
 use Rattle.jpeg.specs.Steps.{drawnAs}
@@ -27,7 +28,7 @@ use Rattle.jpeg_admission.proofs.Admitted.{isRefused}
 
 module _ (s : List ℕ) (r : Record) (out scratch : List ℕ) (budget : Budget) where
   abbrev pub short : Bool
-  short = ltb (length out) (r .output) or ltb (length scratch) (r .scratch)
+  short = shortRoom r out scratch
 
   pub roomy-out : short ≡ false → r .output ≤ length out
   roomy-out e = ltb-false (length out) (r .output) (or-left (ltb (length out) (r .output)) (ltb (length scratch) (r .scratch)) e)
@@ -48,21 +49,21 @@ module _ (s : List ℕ) (r : Record) (out scratch : List ℕ) (budget : Budget) 
       abbrev pub rest : Budget
       rest = remaining budget (headerPrice s + r .work)
 
-      decode-on : decodedFrom s r out scratch rest (reading s (r .colour)) ≡ decode s r out scratch budget
+      decode-on : decoded s r out scratch (itsLevels r (reading s (r .colour)) rest) ≡ decode s r out scratch budget
       unfolding decode
       decode-on = rw (e1, le-ltb (budget .left) (headerPrice s + r .work) e2) refl
 
       pub decode-head : (x : Refusal) → headed (header s (r .colour)) .verdict ≡ Refused x → undecoded NotItsRecord rest out scratch ≡ decode s r out scratch budget
       decode-head x e = go (header s (r .colour)) e ∙ decode-on
         where
-          go : (st : Stage) → headed st .verdict ≡ Refused x → undecoded NotItsRecord rest out scratch ≡ decodedFrom s r out scratch rest (readFrom s st)
+          go : (st : Stage) → headed st .verdict ≡ Refused x → undecoded NotItsRecord rest out scratch ≡ decoded s r out scratch (itsLevels r (readFrom s st) rest)
           go (more h) q = refl
           go (done d) q = absurd (subst⁻¹ isRefused q tt)
           go (stop y) q = refl
 
       -- what a record leads to
-      from-record : (q : Record) → header s (r .colour) ≡ done q → decodedFrom s r out scratch rest (scanned q (levels s q)) ≡ decode s r out scratch budget
-      from-record q e = sym (ap (λ st. decodedFrom s r out scratch rest (readFrom s st)) e) ∙ decode-on
+      from-record : (q : Record) → header s (r .colour) ≡ done q → decoded s r out scratch (itsLevels r (scanned q (levels s q)) rest) ≡ decode s r out scratch budget
+      from-record q e = sym (ap (λ st. decoded s r out scratch (itsLevels r (readFrom s st) rest)) e) ∙ decode-on
 
       -- what drawing the record leaves is what decode leaves
       pub decode-drawn : (q : Record) → header s (r .colour) ≡ done q → drawnAs s q r out scratch rest ≡ decode s r out scratch budget
@@ -76,7 +77,7 @@ module _ (s : List ℕ) (q r : Record) (out scratch : List ℕ) (rest : Budget) 
   unfolding drawnAs
   drawn-other n = go (levels s q)
     where
-      go : (x : Read Bits (List (List ℤ))) → undecoded NotItsRecord rest out scratch ≡ decodedFrom s r out scratch rest (scanned q x)
+      go : (x : Read Bits (List (List ℤ))) → undecoded NotItsRecord rest out scratch ≡ decoded s r out scratch (itsLevels r (scanned q x) rest)
       go (got ls b) = rw n refl
       go (fault f) = refl
 
@@ -86,11 +87,11 @@ module _ (s : List ℕ) (q r : Record) (out scratch : List ℕ) (rest : Budget) 
 
     pub drawn-fault : (f : Fault) → levels s r ≡ fault f → undecoded NotItsRecord rest out scratch ≡ drawnAs s q r out scratch rest
     unfolding drawnAs
-    drawn-fault f p = sym (ap (λ x. decodedFrom s r out scratch rest (scanned q x)) (ap (levels s) itself ∙ p))
+    drawn-fault f p = sym (ap (λ x. decoded s r out scratch (itsLevels r (scanned q x) rest)) (ap (levels s) itself ∙ p))
 
     pub drawn-done : (ls : List (List ℤ)) (b : Bits) → levels s r ≡ got ls b → decodedWith r out scratch rest (allSamples s r ls) ≡ drawnAs s q r out scratch rest
     unfolding drawnAs
-    drawn-done ls b p = with-it ∙ sym (ap (λ x. decodedFrom s r out scratch rest (scanned q x)) (ap (levels s) itself ∙ p))
+    drawn-done ls b p = with-it ∙ sym (ap (λ x. decoded s r out scratch (itsLevels r (scanned q x) rest)) (ap (levels s) itself ∙ p))
       where
-        with-it : decodedWith r out scratch rest (allSamples s r ls) ≡ decodedFrom s r out scratch rest (accepted q ls)
+        with-it : decodedWith r out scratch rest (allSamples s r ls) ≡ decoded s r out scratch (itsLevels r (accepted q ls) rest)
         with-it = rw e refl

@@ -4,6 +4,7 @@ use mathlib.Core.Bool.{Bool, true}
 use mathlib.Core.List.{List}
 use Prim.Native.Nat.{ℕ}
 use lib.IntN.{ℤ}
+use Rattle.reading.specs.declared.Bits.{Bits}
 use Rattle.reading.specs.declared.Budget.{Budget}
 use Rattle.reading.specs.declared.Fault.{Fault}
 use Rattle.reading.specs.declared.Inspection.{Inspection}
@@ -14,36 +15,39 @@ use Rattle.reading.specs.declared.Refusal.the-variants.{Scan}
 use Rattle.reading.specs.declared.ScanRead.{ScanRead}
 use Rattle.reading.specs.declared.ScanRead.the-variants.{Done, Stop}
 use Rattle.reading.specs.Answers.{scanRead}
-use Rattle.reading.specs.Scan.{readable, scanOf}
-use Rattle.reading.specs.Calls.{takes, gives, Judged, judgedScan, remaining, inspection, inspect}
+use Rattle.reading.specs.Reader.{Read}
+use Rattle.reading.specs.Scan.{levels, readable, scanOf}
+use Rattle.reading.specs.Judging.{Judged, accepts, refuses, onward, give, whole}
+use Rattle.reading.specs.Calls.{admission, inspection, inspect}
 use Rattle.reading.proofs.FileBytes.{AllBytes}
 use Rattle.reading.proofs.ScanAnswers as E
 use Rattle.reading.proofs.Counted.{scan-is}
 use Rattle.reading.proofs.States.{header-readable}
-use Rattle.jpeg_admission.proofs.Admitted.{Stops, Goes}
+use Rattle.reading.proofs.Judgement.{scanBehind, foundIn}
+use Rattle.jpeg_admission.proofs.Admitted.{Goes}
 
--- the answer of a judgement
-abbrev answer : Budget → Judged → Inspection
-answer budget j = inspection (j .outcome) (remaining budget (j .taken))
+-- the answer behind the tests before the scan, and behind the scan
+abbrev answer : List ℕ → Judged Record → Inspection
+answer s m = foundIn (onward m (scanBehind s))
+
+abbrev read : Record → Budget → Read Bits (List (List ℤ)) → Inspection
+read r rest o = foundIn (onward (whole o rest) (λ ls. give (record { found = r; blocks = ls })))
 
 module _ (s : List ℕ) (colour : Bool) (l : Limits) (budget : Budget) {rest : Budget} where
-  pub inspect-stops : {x : Refusal} → Stops s colour l budget x rest → inspection (gives x) rest ≡ inspect s colour l budget
+  pub inspect-stops : {x : Refusal} → admission s colour l budget ≡ refuses x rest → inspection (refuses x rest) ≡ inspect s colour l budget
   unfolding inspect
-  inspect-stops {x} z = ap (inspection (gives x)) (z .left) ∙ sym (ap (answer budget) (z .judgement))
+  inspect-stops z = sym (ap (answer s) z)
 
   module _ {r : Record} (z : Goes s colour l budget r rest) (y : AllBytes s) (v : ScanRead) (e : v ≡ scanRead (scanOf s r)) where
     okay : readable s r ≡ true
     okay = header-readable s y colour r (z .head)
 
-    pub inspect-fault : {f : Fault} → v ≡ Stop f → inspection (gives (Scan f)) rest ≡ inspect s colour l budget
+    by-scan : read r rest (levels s r) ≡ inspect s colour l budget
     unfolding inspect
-    inspect-fault {f} p =
-        ap (inspection (gives (Scan f))) (z .left)
-        ∙ sym (ap (answer budget) (z .judgement ∙ ap (judgedScan r (z .taken)) (sym (scan-is s r okay) ∙ E.refused (scanOf s r) e p)))
+    by-scan = sym (ap (answer s) (z .is))
 
-    pub inspect-done : v ≡ Done → (ls : List (List ℤ)) → inspection (takes r ls) rest ≡ inspect s colour l budget
-    unfolding inspect
-    inspect-done p ls =
-        let q = E.accepted (scanOf s r) e p in
-        ap (inspection (takes r ls)) (z .left)
-        ∙ sym (ap (answer budget) (z .judgement ∙ ap (judgedScan r (z .taken)) (sym (scan-is s r okay) ∙ q .is)))
+    pub inspect-fault : {f : Fault} → v ≡ Stop f → inspection (refuses (Scan f) rest) ≡ inspect s colour l budget
+    inspect-fault p = sym (ap (read r rest) (sym (scan-is s r okay) ∙ E.refused (scanOf s r) e p)) ∙ by-scan
+
+    pub inspect-done : v ≡ Done → inspection (accepts r rest) ≡ inspect s colour l budget
+    inspect-done p = sym (ap (read r rest) (sym (scan-is s r okay) ∙ E.accepted (scanOf s r) e p .is)) ∙ by-scan

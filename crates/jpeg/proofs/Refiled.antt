@@ -17,14 +17,17 @@ use Rattle.reading.specs.Reader.{Read, got, fault}
 use Rattle.reading.specs.Header.{done, header}
 use Rattle.reading.specs.Scan.{levels, planOf}
 use Rattle.reading.specs.Settled.{settledRead, settledOf}
-use Rattle.reading.specs.Calls.{Judged, judgedScan, remaining, unsettled, settledFrom, settle}
+use Rattle.reading.specs.Judging.{Judged, refuses, onward, give, whole}
+use Rattle.reading.specs.Calls.{admission, Rewritten, rewritten, settle}
 use Rattle.reading.proofs.FileBytes.{AllBytes}
 use Rattle.reading.proofs.Accepted as H
 use Rattle.reading.proofs.Counted.{scan-is}
 use Rattle.reading.proofs.States.{header-readable}
 use Rattle.jpeg_rewrite.specs.Refiled.{remade, refiledBy, refiled}
 use Rattle.jpeg_rewrite.proofs.Refiling.{refiled-is}
-use Rattle.jpeg_admission.proofs.Admitted.{Stops, Goes}
+use Rattle.reading.proofs.Judgement.{scanBehind}
+use Rattle.reading.proofs.SettledCalls.{fileOf}
+use Rattle.jpeg_admission.proofs.Admitted.{Goes}
 
 -- ---- the settled scan of a record that the header gave
 
@@ -38,24 +41,22 @@ module _ (s : List ℕ) (y : AllBytes s) (r : Record) (head : header s false ≡
 
 -- ---- settle
 
+-- the answer behind the tests before the scan
+abbrev answer : List ℕ → List ℕ → Judged Record → Rewritten
+answer s out m = rewritten out (onward (onward m (scanBehind s)) (fileOf s))
+
 module _ (s : List ℕ) (l : Limits) (budget : Budget) (out : List ℕ) {rest : Budget} where
-  pub settle-stops : {x : Refusal} → Stops s false l budget x rest → {answer : Settling} → answer ≡ record { verdict = Refused x; budget = rest; length = 0 } → remade answer out ≡ settle s l budget out
+  pub settle-stops : {x : Refusal} → admission s false l budget ≡ refuses x rest → {answer : Settling} → answer ≡ record { verdict = Refused x; budget = rest; length = 0 } → remade answer out ≡ settle s l budget out
   unfolding settle
-  settle-stops {x} z a =
-      ap (λ y. remade y out) a ∙ ap (λ b. unsettled x b 0 out) (z .left)
-      ∙ sym (ap (λ (j : Judged). settledFrom s out (remaining budget (j .taken)) (j .outcome)) (z .judgement))
+  settle-stops z a = ap (λ y. remade y out) a ∙ sym (ap (answer s out) z)
 
   module _ {r : Record} where
     pub settle-goes : AllBytes s → Goes s false l budget r rest → refiled s r rest out ≡ settle s l budget out
     unfolding settle
     settle-goes y z =
-        refiled-is s r rest out (omega (arith, z .counted)) ∙ ap (refiledBy s r rest out) (settled-is s y r (z .head)) ∙ go (levels s r) ∙ ap (λ b. settledFrom s out b (judgedScan r (z .taken) (levels s r) .outcome)) (z .left ∙ sym (ap (remaining budget) (takes-it (levels s r))))
-        ∙ sym (ap (λ (j : Judged). settledFrom s out (remaining budget (j .taken)) (j .outcome)) (z .judgement))
+        refiled-is s r rest out (omega (arith, z .counted)) ∙ ap (refiledBy s r rest out) (settled-is s y r (z .head)) ∙ go (levels s r)
+        ∙ sym (ap (answer s out) (z .is))
       where
-        go : (x : Read Bits (List (List ℤ))) → refiledBy s r rest out (settledRead (planOf s r) x) ≡ settledFrom s out rest (judgedScan r (z .taken) x .outcome)
+        go : (x : Read Bits (List (List ℤ))) → refiledBy s r rest out (settledRead (planOf s r) x) ≡ rewritten out (onward (onward (whole x rest) (λ ls. give (record { found = r; blocks = ls }))) (fileOf s))
         go (got ls b) = refl
         go (fault f) = refl
-
-        takes-it : (x : Read Bits (List (List ℤ))) → judgedScan r (z .taken) x .taken ≡ z .taken
-        takes-it (got ls b) = refl
-        takes-it (fault f) = refl

@@ -1,23 +1,27 @@
--- Demand 3 of the code. What a call of settle or inspect returned is given by its contract; what follows of the bytes that settle left
--- in its buffer, where limits, budget and room are enough.
-use Prim.Native.Nat.{ℕ, _≤_}
-use mathlib.Core.Path.{_≡_, sym, ap, _∙_, subst, subst⁻¹}
-use mathlib.Core.Bool.{false}
+-- Demand 3 of the code. What a call of settle, inspect or decode returned is given by its contract; what follows of the bytes that settle
+-- left in its buffer, where limits, budget and room are enough.
+use Prim.Native.Nat.{ℕ, _+_, _≤_}
+use mathlib.Core.Path.{_≡_, sym, ap, _∙_, subst⁻¹}
+use mathlib.Core.Bool.{Bool}
 use mathlib.Core.List.{List}
 use mathlib.Core.Logic.{_↔_}
+use mathlib.Core.Option.{some}
 use lib.ListN.{length, take, drop}
 use lib.Seq.{take-append-seam}
 use Rattle.reading.specs.declared.Budget.{Budget}
+use Rattle.reading.specs.declared.Decoding.{Decoding}
 use Rattle.reading.specs.declared.Inspection.{Inspection}
 use Rattle.reading.specs.declared.Limits.{Limits}
 use Rattle.reading.specs.declared.Record.{Record}
 use Rattle.reading.specs.declared.Settling.{Settling}
 use Rattle.reading.specs.declared.Verdict.the-variants.{Accepted}
 use Rattle.reading.specs.Reading.{reading}
-use Rattle.reading.specs.Calls.{inspect, Rewritten, settle}
-use Rattle.reading.proofs.Theorems.{coefficientsOf}
-use Rattle.reading.proofs.SettledCalls.{Enough, SettledBy, settled-by, settledBytes, bytes-are, settled-reads, record-is, settled-inspects, settled-again, one-picture-one-file}
+use Rattle.reading.specs.Calls.{headerPrice, inspect, Decoded, decode, Rewritten, settle}
+use Rattle.reading.specs.Files.{headIn, coefficientsIn, settledIn}
+use Rattle.reading.proofs.Judgement.{Enough, inspect-accepts}
+use Rattle.reading.proofs.SettledCalls.{SettledBy, settled-by, settledBytes, bytes-are, bytes-settled, settled-reads, settled-again, settled-decodes, one-picture-one-file}
 use Rattle.jpeg_rewrite.specs.Refiled.{remade}
+use Rattle.jpeg.specs.Steps as steps
 
 -- a call of settle that answered Accepted, and the buffer as it left it
 pub record Call (s : List ℕ) (l : Limits) (budget : Budget) (out : List ℕ) (answer : Settling) (left : List ℕ) : Type 0 where
@@ -34,18 +38,22 @@ module _ (s : List ℕ) (l : Limits) (budget : Budget) (out : List ℕ) (answer 
   whole : length (take (answer .length) left) ≡ answer .length
   whole = ap length (sym same ∙ bytes-are s l budget out by) ∙ sym (ap (λ (w : Rewritten). w .answer .length) (c .contract ∙ by .is))
 
-  -- the bytes read as the file does: with the same record and the same levels
-  pub code-reads : reading (take (answer .length) left) false ≡ reading s false
-  code-reads = ap (λ b. reading b false) (sym same) ∙ settled-reads s l budget out by
+  -- the bytes are the settled file
+  pub code-settled : settledIn s ≡ some (take (answer .length) left)
+  code-settled = bytes-settled s l budget out by ∙ ap some same
+
+  -- they read as the file does by either colour choice: with the same record and the same levels
+  pub code-reads : (colour : Bool) → reading (take (answer .length) left) colour ≡ reading s colour
+  code-reads colour = ap (λ b. reading b colour) (sym same) ∙ settled-reads s l budget out by colour
 
   module _ (l′ : Limits) (budget′ : Budget) where
-    -- inspect, called on the file and on the bytes, finds the same record
+    -- what inspect, called on the file, accepts, it accepts of the bytes with the same record
     pub code-inspects :
-        {seen again : Inspection} → seen ≡ inspect s false l budget → again ≡ inspect (take (answer .length) left) false l′ budget′ → Enough (take (answer .length) left) (seen .found) l′ budget′ → (again .verdict ≡ Accepted) × (again .found ≡ seen .found)
-    code-inspects {seen} {again} a b e =
-        let found : seen .found ≡ by .found = ap (λ (i : Inspection). i .found) a ∙ record-is s l budget out by in
-        let is = b ∙ ap (λ x. inspect x false l′ budget′) (sym same) ∙ settled-inspects s l budget out by l′ budget′ (subst⁻¹ (λ x. Enough x (by .found) l′ budget′) same (subst (λ (r : Record). Enough (take (answer .length) left) r l′ budget′) found e)) in
-        (ap (λ (i : Inspection). i .verdict) is, ap (λ (i : Inspection). i .found) is ∙ sym found)
+        (colour : Bool) (l″ : Limits) (budget″ : Budget) {seen again : Inspection} → seen ≡ inspect s colour l″ budget″ → seen .verdict ≡ Accepted → again ≡ inspect (take (answer .length) left) colour l′ budget′ → Enough (take (answer .length) left) (seen .found) l′ budget′ → (again .verdict ≡ Accepted) × (again .found ≡ seen .found)
+    code-inspects colour l″ budget″ {seen} {again} a v b e =
+        let read = inspect-accepts s colour l″ budget″ (seen .found) .0 (sym (ap (λ (i : Inspection). i .verdict) a) ∙ v, sym (ap (λ (i : Inspection). i .found) a)) .0 in
+        let w = inspect-accepts (take (answer .length) left) colour l′ budget′ (seen .found) .1 ((read .0, code-reads colour ∙ read .1), e) in
+        (ap (λ (i : Inspection). i .verdict) b ∙ w .0, ap (λ (i : Inspection). i .found) b ∙ w .1)
 
     -- settle, called on the bytes, gives them again
     pub code-settles-again :
@@ -54,9 +62,16 @@ module _ (s : List ℕ) (l : Limits) (budget : Budget) (out : List ℕ) (answer 
         let is = b ∙ ap (λ x. settle x l′ budget′ out′) (sym same) ∙ settled-again s l budget out by l′ budget′ (subst⁻¹ (λ x. Enough x (by .found) l′ budget′) same e) out′ (subst⁻¹ (λ n. n ≤ length out′) (ap length same ∙ whole) room) in
         (ap (λ (w : Rewritten). w .answer .verdict) is, ap (λ (w : Rewritten). w .answer .length) is ∙ ap length same ∙ whole, ap settledBytes is ∙ take-append-seam (settledBytes (settle s l budget out)) (drop (length (settledBytes (settle s l budget out))) out′) ∙ same)
 
--- two calls on files that agree up to their first coded byte leave the same bytes exactly when the coefficients are equal
+  -- decode, called on the file and on the bytes with one record and the same buffers, leaves the same samples and the same picture
+  pub code-decodes :
+      (r : Record) (picture scratch : List ℕ) (first second : Budget) {d d′ : Decoding} {p q p′ q′ : List ℕ} → steps.left d p q ≡ decode s r picture scratch first → d .verdict ≡ Accepted → steps.left d′ p′ q′ ≡ decode (take (answer .length) left) r picture scratch second → headerPrice (take (answer .length) left) + r .work ≤ second .left → (d′ .verdict ≡ Accepted) × (p′ ≡ p) × (q′ ≡ q)
+  code-decodes r picture scratch first second a v b enough =
+      let w = settled-decodes s (take (answer .length) left) code-settled r picture scratch first second (sym (ap (λ (x : Decoded). x .answer .verdict) a) ∙ v) enough in
+      (ap (λ (x : Decoded). x .answer .verdict) b ∙ w .verdict, ap (λ (x : Decoded). x .output) b ∙ w .output ∙ sym (ap (λ (x : Decoded). x .output) a), ap (λ (x : Decoded). x .scratch) b ∙ w .scratch ∙ sym (ap (λ (x : Decoded). x .scratch) a))
+
+-- two calls on files with one head leave the same bytes exactly when the coefficients are equal
 pub code-one-picture :
-    (s s′ : List ℕ) (l l′ : Limits) (budget budget′ : Budget) (out out′ : List ℕ) (answer answer′ : Settling) (left left′ : List ℕ) (c : Call s l budget out answer left) (c′ : Call s′ l′ budget′ out′ answer′ left′) → by s l budget out answer left c .found .start ≡ by s′ l′ budget′ out′ answer′ left′ c′ .found .start → take (by s l budget out answer left c .found .start) s ≡ take (by s′ l′ budget′ out′ answer′ left′ c′ .found .start) s′ → take (answer .length) left ≡ take (answer′ .length) left′ ↔ coefficientsOf s (by s l budget out answer left c .found) (by s l budget out answer left c .blocks) ≡ coefficientsOf s′ (by s′ l′ budget′ out′ answer′ left′ c′ .found) (by s′ l′ budget′ out′ answer′ left′ c′ .blocks)
-code-one-picture s s′ l l′ budget budget′ out out′ answer answer′ left left′ c c′ a b =
-    let w = one-picture-one-file s s′ l l′ budget budget′ out out′ (by s l budget out answer left c) (by s′ l′ budget′ out′ answer′ left′ c′) a b in
-    (λ e. w .0 (same s l budget out answer left c ∙ e ∙ sym (same s′ l′ budget′ out′ answer′ left′ c′)), λ e. sym (same s l budget out answer left c) ∙ w .1 e ∙ same s′ l′ budget′ out′ answer′ left′ c′)
+    (s s′ : List ℕ) (l l′ : Limits) (budget budget′ : Budget) (out out′ : List ℕ) (answer answer′ : Settling) (left left′ : List ℕ) (c : Call s l budget out answer left) (c′ : Call s′ l′ budget′ out′ answer′ left′) → headIn s ≡ headIn s′ → take (answer .length) left ≡ take (answer′ .length) left′ ↔ coefficientsIn s ≡ coefficientsIn s′
+code-one-picture s s′ l l′ budget budget′ out out′ answer answer′ left left′ c c′ e =
+    let w = one-picture-one-file s s′ l l′ budget budget′ out out′ (by s l budget out answer left c) (by s′ l′ budget′ out′ answer′ left′ c′) e in
+    (λ x. w .0 (same s l budget out answer left c ∙ x ∙ sym (same s′ l′ budget′ out′ answer′ left′ c′)), λ x. sym (same s l budget out answer left c) ∙ w .1 x ∙ same s′ l′ budget′ out′ answer′ left′ c′)

@@ -6,12 +6,12 @@ use Rattle.reading.specs.declared.Decoding.{Decoding}
 use Rattle.reading.specs.declared.Record.{Record}
 use Rattle.reading.specs.Scan.{levels}
 use Rattle.reading.specs.Reading.{scanned}
-use Rattle.reading.specs.Calls.{Decoded, decodedFrom}
+use Rattle.reading.specs.Calls.{itsLevels, Decoded, decoded}
 
 -- behind the header, which gave the record q
 unfoldable pub drawnAs : List ℕ → Record → Record → List ℕ → List ℕ → Budget → Decoded
 unfolding levels
-drawnAs s q r out scratch rest = decodedFrom s r out scratch rest (scanned q (levels s q))
+drawnAs s q r out scratch rest = decoded s r out scratch (itsLevels r (scanned q (levels s q)) rest)
 
 -- an answer and the two buffers as they are left
 abbrev pub left : Decoding → List ℕ → List ℕ → Decoded

@@ -4,7 +4,8 @@ ghost use mathlib.Core.Path.{_≡_};
 ghost use Prim.Native.Nat.{_+_, _*_, _^_};
 ghost use lib.Dec.{ltb, leb};
 ghost use Rattle.reading.specs.Tests.{_or_};
-ghost use Rattle.reading.specs.Calls.{tooLarge, gives, inspection};
+ghost use Rattle.reading.specs.Judging.{refuses};
+ghost use Rattle.reading.specs.Calls.{tooLarge, inspection};
 ghost use Rattle.jpeg_admission.specs.Admission.{fittedPrice, weighed, admitted};
 use reading::Budget;
 use reading::Inspection;
@@ -58,7 +59,7 @@ fn too_large(limits: Limits, found: Record) -> bool
 
 // A refusal: the budget that is left, and the record of zeros.
 pub fn refused(x: Refusal, budget: Budget) -> Inspection
-    ensures { λ r. ⌜ r ≡ inspection (gives x) budget ⌝ }
+    ensures { λ r. ⌜ r ≡ inspection (refuses x budget) ⌝ }
 {
     let found = Record::none();
     Inspection {

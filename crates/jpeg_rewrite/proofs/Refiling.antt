@@ -24,11 +24,11 @@ use Rattle.reading.specs.Tests.{_and_, over}
 use Rattle.reading.specs.Reader.{Read, got, fault}
 use Rattle.reading.specs.Scan.{levels, readable, scanOf, planOf}
 use Rattle.reading.specs.Settled.{settledScan, settledRead, settledOf, scanSettled, laidOver}
-use Rattle.reading.specs.Calls.{Rewritten, unsettled, settledInto}
+use Rattle.reading.specs.Calls.{Rewritten, unsettled}
 use Rattle.reading.proofs.Counted.{scan-levels}
 use Rattle.reading.proofs.Plain.{and-left}
 use Rattle.jpeg_writer.proofs.Lengths.{settled-length}
-use Rattle.jpeg_rewrite.specs.Refiled.{remade, scanLaid, joined, refiledBy, refiled}
+use Rattle.jpeg_rewrite.specs.Refiled.{remade, scanLaid, joined, settledInto, refiledBy, refiled}
 
 -- ---- the head copied
 

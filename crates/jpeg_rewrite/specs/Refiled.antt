@@ -8,12 +8,13 @@ use lib.ListN.{length, take, drop}
 use Rattle.reading.specs.declared.Bits.{Bits}
 use Rattle.reading.specs.declared.Budget.{Budget}
 use Rattle.reading.specs.declared.Record.{Record}
-use Rattle.reading.specs.declared.Refusal.the-variants.{TooLong, ShortRoom, Scan}
+use Rattle.reading.specs.declared.Refusal.the-variants.{TooLong, ShortRoom, NoEndCode, Scan}
 use Rattle.reading.specs.declared.Settling.{Settling}
 use Rattle.reading.specs.declared.Verdict.the-variants.{Accepted}
 use Rattle.reading.specs.Reader.{Read, got, fault}
 use Rattle.reading.specs.Settled.{behind, settledOf, laidOver}
-use Rattle.reading.specs.Calls.{Rewritten, unsettled, settledInto}
+use Rattle.reading.specs.Judging.{give-or}
+use Rattle.reading.specs.Calls.{Rewritten, unsettled, rewritten}
 
 -- an answer and the buffer as it is left
 abbrev pub remade : Settling → List ℕ → Rewritten
@@ -29,6 +30,10 @@ unfoldable pub joined : List ℕ → ℕ → ℕ → Budget → List ℕ → Rew
 joined s start n rest out =
     cond (ltb (length out) (start + n)) (unsettled ShortRoom rest (start + n) out)
     (remade (record { verdict = Accepted; budget = rest; length = start + n }) (take start s ++ drop start out))
+
+-- 9 where there is no settled file, then 7
+abbrev pub settledInto : List ℕ → Budget → Option (List ℕ) → Rewritten
+settledInto out rest t = rewritten out (give-or NoEndCode t rest)
 
 -- what a scan that was read and settled makes of the buffer
 abbrev pub refiledBy : List ℕ → Record → Budget → List ℕ → Read Bits (Option (List ℕ)) → Rewritten

@@ -3,31 +3,33 @@
 --     decode-refused    both buffers are as they came
 --     decode-lengths    both buffers keep their lengths
 --     decode-taken      the whole price was taken, or nothing
-use Prim.Native.Nat.{ℕ, _+_, _/_, _%_, _≤_}
+--     decode-accepts, decode-eight   exactly when it is accepted, and exactly when it is refused 8
+use Prim.Native.Nat.{ℕ, _+_, _/_, _%_, _<_, _≤_}
 use mathlib.Core.Path.{_≡_, refl, sym, ap, _∙_, subst, subst⁻¹}
-use mathlib.Core.Logic.{_⊎_, inl, inr}
-use mathlib.Core.Bool.{Bool, true, false, cond}
+use mathlib.Core.Logic.{_⊎_, inl, inr, _↔_}
+use mathlib.Core.Bool.{true, false, not, cond}
 use mathlib.Core.List.{List}
 use native.Mathlib.Omega.{arith}
-use lib.Dec.{T, ltb}
+use lib.Dec.{T, ltb, eqb}
 use lib.IntN.{ℤ}
 use lib.ListN.{length, drop, length-append, length-drop}
-use borrow.Author.Tests.{ltb-false}
+use borrow.Author.Tests.{le-ltb, ltb-false}
 use Rattle.whole.specs.Lists.{length-from}
 use Rattle.reading.specs.declared.Budget.{Budget}
 use Rattle.reading.specs.declared.Record.{Record}
 use Rattle.reading.specs.declared.Refusal.{Refusal}
-use Rattle.reading.specs.declared.Refusal.the-variants.{NotItsRecord}
+use Rattle.reading.specs.declared.Refusal.the-variants.{OverBudget, ShortRoom, NotItsRecord}
 use Rattle.reading.specs.declared.Verdict.{Verdict}
 use Rattle.reading.specs.declared.Verdict.the-variants.{Accepted, Refused}
 use Rattle.reading.specs.Tests.{_or_, over}
 use Rattle.reading.specs.Reading.{Reading, accepted, refused, reading, allSamples, pixel, picture}
-use Rattle.reading.specs.Calls.{headerPrice, remaining, same, Decoded, undecoded, decodedWith, decodedFrom, decode}
-use Rattle.reading.proofs.Stages.{chosen-or}
-use Rattle.reading.proofs.HeaderEnds.{or-left, or-right}
+use Rattle.reading.specs.Judging.{Judged, accepts, refuses, give, remaining}
+use Rattle.reading.specs.Calls.{number, headerPrice, same, shortRoom, itsLevels, decoding, Decoded, decodedWith, decoded, decode}
+use Rattle.reading.proofs.HeaderEnds.{or-left, or-right, is-so}
 use Rattle.reading.proofs.FileBytes.{AllBytes}
-use Rattle.reading.proofs.Equal.{records-equal}
-use Rattle.reading.proofs.Demand3.{taken-apart}
+use Rattle.reading.proofs.Equal.{records-equal, same-self}
+use Rattle.reading.proofs.Demand3.{taken-apart, accepted-record}
+use Rattle.reading.proofs.Judgement.{tested, charged, ReadsAs}
 use Rattle.reading.proofs.Counted.{samples-counted}
 use Rattle.reading.proofs.States.{header-fits}
 
@@ -62,6 +64,51 @@ module _ (s : List ℕ) (r : Record) (out scratch : List ℕ) (budget : Budget) 
     -- nothing was taken, or the whole price of a record that is not this file's
     pub left : (d .answer .budget ≡ budget) ⊎ ((price ≤ budget .left) × (d .answer .budget ≡ remaining budget price))
 
+  -- ---- the ways of decode, in the order of the tests
+
+  -- room for what the record says
+  abbrev pub Roomy : Type 0
+  Roomy = (r .output ≤ length out) × (r .scratch ≤ length scratch)
+
+  -- reading these bytes with the record's colour choice accepts them with this very record
+  abbrev pub ItsRecord : Type 0
+  ItsRecord = ReadsAs s (r .colour) r
+
+  pub data Way : Judged (List (List ℤ)) → Type 0 where
+    short : (Roomy → ⊥) → Way (refuses ShortRoom budget)
+    poor : Roomy → budget .left < price → Way (refuses OverBudget budget)
+    other : Roomy → price ≤ budget .left → (ItsRecord → ⊥) → Way (refuses NotItsRecord (remaining budget price))
+    its : (ls : List (List ℤ)) → Roomy → price ≤ budget .left → reading s (r .colour) ≡ accepted r ls → Way (accepts ls (remaining budget price))
+
+  roomy : shortRoom r out scratch ≡ false → Roomy
+  roomy t = (ltb-false (length out) (r .output) (or-left (ltb (length out) (r .output)) _ t), ltb-false (length scratch) (r .scratch) (or-right (ltb (length out) (r .output)) _ t))
+
+  not-roomy : shortRoom r out scratch ≡ true → Roomy → ⊥
+  not-roomy t (a, b) = subst (λ q. T (cond q false true)) (sym enough ∙ t) tt
+    where
+      enough : shortRoom r out scratch ≡ false
+      enough = rw (le-ltb (length out) (r .output) a, le-ltb (length scratch) (r .scratch) b) refl
+
+  is-accepted : Reading → Type 0
+  is-accepted (accepted q ls) = Unit {0}
+  is-accepted (refused x) = ⊥
+
+  record-way : Roomy → price ≤ budget .left → (x : Reading) → reading s (r .colour) ≡ x → Way (itsLevels r x (remaining budget price))
+  unfolding is-accepted
+  record-way room paid (refused x) e = other room paid (λ z. subst is-accepted (sym (z .1) ∙ e) tt)
+  record-way room paid (accepted q ls) e =
+      tested Way (not (same q r)) NotItsRecord (remaining budget price) (give ls)
+      (λ n. other room paid (λ z. apart n (accepted-record q r ls (z .0) (sym e ∙ z .1))))
+      (λ n. its ls room paid (e ∙ ap (λ k. accepted k ls) (records-equal q r (is-so (same q r) n))))
+    where
+      apart : not (same q r) ≡ true → q ≡ r → ⊥
+      apart n k = subst (λ t. T (cond t false true)) (sym (ap not (subst (λ z. same q z ≡ true) k (same-self q))) ∙ n) tt
+
+  pub way : Way (decoding s r out scratch budget)
+  way =
+      tested Way (shortRoom r out scratch) ShortRoom budget _ (λ t. short (not-roomy t))
+      (λ t. charged Way price budget _ (poor (roomy t)) (λ u. record-way (roomy t) u (reading s (r .colour)) refl))
+
   abbrev pub Says : Verdict → Decoded → Type 0
   Says Accepted d = Drawn d
   Says (Refused x) d = Untouched d
@@ -69,33 +116,58 @@ module _ (s : List ℕ) (r : Record) (out scratch : List ℕ) (budget : Budget) 
   abbrev said : Decoded → Type 0
   said d = Says (d .answer .verdict) d
 
-  module _ (room : (r .output ≤ length out) × (r .scratch ≤ length scratch)) (paid : price ≤ budget .left) where
-    other : (x : Refusal) → said (undecoded x (remaining budget price) out scratch)
-    other x = record { output = refl; scratch-is = refl; left = inr (paid, refl) }
-
-    read-says : (x : Reading) → reading s (r .colour) ≡ x → said (decodedFrom s r out scratch (remaining budget price) x)
-    read-says (refused x) e = other NotItsRecord
-    read-says (accepted q ls) e = go (same q r) refl
-      where
-        go : (t : Bool) → same q r ≡ t → said (cond t (decodedWith r out scratch (remaining budget price) (allSamples s r ls)) (undecoded NotItsRecord (remaining budget price) out scratch))
-        go true p =
-            record {
-              blocks = ls;
-              read = e ∙ ap (λ k. accepted k ls) (records-equal q r (subst⁻¹ T p tt));
-              room = room;
-              paid = paid;
-              left = refl;
-              picture-is = refl;
-              samples-are = refl;
-            }
-        go false p = other NotItsRecord
-
   pub decode-says : said (decode s r out scratch budget)
   unfolding decode
-  decode-says =
-      chosen-or said (ltb (length out) (r .output) or ltb (length scratch) (r .scratch)) _ _ (λ _. record { output = refl; scratch-is = refl; left = inl refl })
-      (λ t. chosen-or said (ltb (budget .left) price) _ _ (λ _. record { output = refl; scratch-is = refl; left = inl refl })
-      (λ u. read-says (ltb-false (length out) (r .output) (or-left (ltb (length out) (r .output)) _ t), ltb-false (length scratch) (r .scratch) (or-right (ltb (length out) (r .output)) _ t)) (ltb-false (budget .left) price u) (reading s (r .colour)) refl))
+  decode-says = go (decoding s r out scratch budget) way
+    where
+      go : (m : Judged (List (List ℤ))) → Way m → said (decoded s r out scratch m)
+      go m (short n) = record { output = refl; scratch-is = refl; left = inl refl }
+      go m (poor a p) = record { output = refl; scratch-is = refl; left = inl refl }
+      go m (other a p n) = record { output = refl; scratch-is = refl; left = inr (p, refl) }
+      go m (its ls a p e) = record { blocks = ls; read = e; room = a; paid = p; left = refl; picture-is = refl; samples-are = refl }
+
+  -- ---- accepted, and 8: both ways
+
+  abbrev isRefused : Verdict → Type 0
+  isRefused Accepted = ⊥
+  isRefused (Refused x) = Unit {0}
+
+  -- Accepted exactly when room and budget suffice and the reading accepts with this very record
+  pub decode-accepts : decode s r out scratch budget .answer .verdict ≡ Accepted ↔ Roomy × (price ≤ budget .left) × ItsRecord
+  unfolding decode
+  decode-accepts = go (decoding s r out scratch budget) way
+    where
+      go : (m : Judged (List (List ℤ))) → Way m → decoded s r out scratch m .answer .verdict ≡ Accepted ↔ Roomy × (price ≤ budget .left) × ItsRecord
+      go m (short n) = (λ v. absurd (subst isRefused v tt), λ k. absurd (n (k .0)))
+      go m (poor a p) = (λ v. absurd (subst isRefused v tt), λ k. let z : ⊥ = omega (arith, p, k .1) in absurd z)
+      go m (other a p n) = (λ v. absurd (subst isRefused v tt), λ k. absurd (n (k .2)))
+      go m (its ls a p e) = (λ v. (a, p, (ls, e)), λ k. refl)
+
+  abbrev is8 : Verdict → Type 0
+  is8 v = T (eqb (number v) 8)
+
+  -- 8 exactly when room and budget suffice and it does not
+  pub decode-eight : decode s r out scratch budget .answer .verdict ≡ Refused NotItsRecord ↔ Roomy × (price ≤ budget .left) × (ItsRecord → ⊥)
+  unfolding decode
+  decode-eight = go (decoding s r out scratch budget) way
+    where
+      go : (m : Judged (List (List ℤ))) → Way m → decoded s r out scratch m .answer .verdict ≡ Refused NotItsRecord ↔ Roomy × (price ≤ budget .left) × (ItsRecord → ⊥)
+      go m (short n) = (λ v. absurd (subst⁻¹ is8 v tt), λ k. absurd (n (k .0)))
+      go m (poor a p) = (λ v. absurd (subst⁻¹ is8 v tt), λ k. let z : ⊥ = omega (arith, p, k .1) in absurd z)
+      go m (other a p n) = (λ v. (a, p, n), λ k. refl)
+      go m (its ls a p e) = (λ v. absurd (subst⁻¹ is8 v tt), λ k. absurd (k .2 (ls, e)))
+
+  -- what is accepted is drawn
+  pub decodes : (ls : List (List ℤ)) → reading s (r .colour) ≡ accepted r ls → Roomy → price ≤ budget .left → decode s r out scratch budget ≡ decodedWith r out scratch (remaining budget price) (allSamples s r ls)
+  unfolding decode
+  decodes ls e a p = rw (le-ltb (length out) (r .output) (a .0), le-ltb (length scratch) (r .scratch) (a .1), le-ltb (budget .left) price p, e, same-self r) refl
+
+  -- the samples and the picture are those of the reading
+  pub decode-draws : (ls : List (List ℤ)) → reading s (r .colour) ≡ accepted r ls → decode s r out scratch budget .answer .verdict ≡ Accepted → (decode s r out scratch budget .scratch ≡ over (allSamples s r ls) scratch) × (decode s r out scratch budget .output ≡ over (picture r (allSamples s r ls)) out)
+  decode-draws ls e v =
+      let k = decode-accepts .0 v in
+      let w = decodes ls e (k .0) (k .1) in
+      (ap (λ (d : Decoded). d .scratch) w, ap (λ (d : Decoded). d .output) w)
 
   -- ---- as a reader meets it
 

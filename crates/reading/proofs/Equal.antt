@@ -1,5 +1,5 @@
 -- Records that `same` takes for equal are equal, and it takes equal ones for equal.
-use mathlib.Core.Path.{_≡_, refl, subst, subst⁻¹}
+use mathlib.Core.Path.{_≡_, refl, sym, subst, subst⁻¹}
 use mathlib.Core.Bool.{Bool, true, false}
 use mathlib.Core.List.{List, [], _∷_}
 use Prim.Native.Nat.{ℕ}
@@ -35,6 +35,22 @@ flags-equal true true t = refl
 flags-equal true false t = absurd t
 flags-equal false true t = absurd t
 flags-equal false false t = refl
+
+self : (n : ℕ) → eqb n n ≡ true
+self n = eq-eqb n n refl
+
+lself : (l : List ℕ) → eqList l l ≡ true
+lself l = sym (itself l)
+
+bself : (b : Bool) → eqBool b b ≡ true
+bself true = refl
+bself false = refl
+
+pub same-self : (r : Record) → same r r ≡ true
+unfolding same
+same-self r =
+    rw (self (r .width), self (r .height), self (r .channels), self (r .hs), self (r .vs), lself (r .ids), lself (r .qids), lself (r .dcids), lself (r .acids), lself (r .quants), lself (r .dcs), lself (r .acs), self (r .interval), self (r .start), self (r .blocks), self (r .scratch), self (r .output), self (r .work), bself (r .colour))
+    refl
 
 -- the two parts of a test
 both : (a b : Bool) → T (a and b) → T a × T b

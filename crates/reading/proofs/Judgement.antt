@@ -1,31 +1,80 @@
--- What the tests of inspect say once they are passed, and what they take.
---     inspect-accepted   an accepted file: its record is the header's and fits, it is within the limits, its scan was read, its price was paid
---     inspect-most       no outcome takes more than 2n + 1 and 50 x the output limit, nor more than there is
-use Prim.Native.Nat.{ℕ, _+_, _*_, _^_, _≤_}
-use mathlib.Core.Path.{_≡_, refl, ap, subst}
-use mathlib.Core.Bool.{Bool, false}
+-- The ways through the tests and payments of a call. One law for each step of the judging language; then the ways of inspect before the
+-- scan and behind it, from which all that is shown of inspect and settle follows.
+--     way               the ways before the scan: at which test a file stops, what was passed before it and what is left
+--     way-back          and no other is open
+--     judged            the ways behind it
+--     inspect-accepts   accepted with a record exactly when the reading is, and limits and budget are enough (inspect-accepted, inspects)
+--     inspect-most      no answer takes more than 2n + 1 and 50 x the output limit, nor more than there is
+use Prim.Native.Nat.{ℕ, _+_, _*_, _-_, _^_, _<_, _≤_}
+use mathlib.Core.Path.{_≡_, refl, ap, _∙_, subst, subst⁻¹}
+use mathlib.Core.Bool.{Bool, true, false, cond}
 use mathlib.Core.List.{List}
+use mathlib.Core.Logic.{_↔_}
 use native.Mathlib.Omega.{arith}
 use lib.Dec.{leb, ltb}
 use lib.IntN.{ℤ}
 use lib.ListN.{length}
-use borrow.Author.Tests.{ltb-false}
+use borrow.Author.Tests.{lt-ltb, le-ltb, lt-leb, ltb-true, ltb-false, leb-false}
 use Rattle.reading.specs.declared.Bits.{Bits}
 use Rattle.reading.specs.declared.Budget.{Budget}
+use Rattle.reading.specs.declared.Fault.{Fault}
 use Rattle.reading.specs.declared.Inspection.{Inspection}
 use Rattle.reading.specs.declared.Limits.{Limits}
 use Rattle.reading.specs.declared.Record.{Record}
+use Rattle.reading.specs.declared.Refusal.{Refusal}
+use Rattle.reading.specs.declared.Refusal.the-variants.{TooLong, OverBudget, CutShort, TooLarge, Scan}
 use Rattle.reading.specs.declared.Verdict.{Verdict}
 use Rattle.reading.specs.declared.Verdict.the-variants.{Accepted, Refused}
 use Rattle.reading.specs.Tests.{_or_}
 use Rattle.reading.specs.Reader.{Read, got, fault}
-use Rattle.reading.specs.Header.{Stage, more, done, stop, header}
+use Rattle.reading.specs.Header.{Stage, more, done, stop, header, headed, ending}
 use Rattle.reading.specs.Scan.{levels}
-use Rattle.reading.specs.Calls.{headerPrice, Outcome, takes, gives, Judged, tooLarge, judgedScan, judgedHeader, judged, remaining, inspection, inspect}
-use Rattle.reading.proofs.Stages.{chosen-or}
+use Rattle.reading.specs.Reading.{accepted, reading}
+use Rattle.reading.specs.Judging.{Judged, accepts, refuses, Judging, onward, _>>_, give, refuse, refuse-if, pay, remaining, whole}
+use Rattle.reading.specs.Calls.{headerPrice, tooLong, tooLarge, admission, Whole, judgement, inspection, inspect}
 use Rattle.reading.proofs.HeaderEnds.{or-left, or-right}
 use Rattle.reading.proofs.FileBytes.{AllBytes}
 use Rattle.reading.proofs.Accepted as accepted
+use Rattle.reading.proofs.Demand3.{taken-apart}
+
+-- ---- one law for each step
+
+module _ {B : Type 0} (P : Judged B → Type 0) where
+  pub tested : (t : Bool) (x : Refusal) (b : Budget) (k : Judging B) → (t ≡ true → P (refuses x b)) → (t ≡ false → P (k b)) → P (onward (refuse-if t x b) (λ _. k))
+  tested true x b k f g = f refl
+  tested false x b k f g = g refl
+
+  pub charged : (n : ℕ) (b : Budget) (k : Judging B) → (b .left < n → P (refuses OverBudget b)) → (n ≤ b .left → P (k (remaining b n))) → P (onward (pay n b) (λ _. k))
+  charged n b k f g = go (ltb (b .left) n) refl
+    where
+      go : (t : Bool) → ltb (b .left) n ≡ t → P (onward (cond t (refuses OverBudget b) (accepts (tt {0}) (remaining b n))) (λ _. k))
+      go true e = f (ltb-true (b .left) n e)
+      go false e = g (ltb-false (b .left) n e)
+
+  pub ended : (st : Stage) (b : Budget) (k : Record → Judging B) → ((x : Refusal) → headed st .verdict ≡ Refused x → P (refuses x b)) → ((r : Record) → st ≡ done r → P (k r b)) → P (onward (ending give refuse st b) k)
+  ended (more h) b k f g = f CutShort refl
+  ended (done r) b k f g = g r refl
+  ended (stop x) b k f g = f x refl
+
+  pub followed : {A : Type 0} (m : Judged A) (k : A → Judging B) → ((x : Refusal) (b : Budget) → m ≡ refuses x b → P (refuses x b)) → ((a : A) (b : Budget) → m ≡ accepts a b → P (k a b)) → P (onward m k)
+  followed (accepts a b) k f g = g a b refl
+  followed (refuses x b) k f g = f x b refl
+
+  pub scanned : {A : Type 0} (o : Read Bits A) (b : Budget) (k : A → Judging B) → ((f : Fault) → o ≡ fault f → P (refuses (Scan f) b)) → ((a : A) (q : Bits) → o ≡ got a q → P (k a b)) → P (onward (whole o b) k)
+  scanned (got a q) b k f g = g a q refl
+  scanned (fault e) b k f g = f e refl
+
+-- a price that is there is taken whole
+pub paid-whole : (b : Budget) (n : ℕ) → n ≤ b .left → remaining b n .left + n ≡ b .left
+paid-whole b n h = omega (arith, h)
+
+pub paid-twice : (b : Budget) (m n : ℕ) → remaining (remaining b m) n ≡ remaining b (m + n)
+paid-twice b m n = ap (λ k. record { left = k }) (less (b .left))
+  where
+    less : (k : ℕ) → k - m - n ≡ k - (m + n)
+    less k = omega arith
+
+-- ---- limits and budget
 
 -- a record that is not too large
 pub record Within (l : Limits) (r : Record) : Type 0 where
@@ -45,92 +94,188 @@ not-large l r e =
       output = ltb-false (l .output) (r .output) (or-right (ltb (l .output) (r .scratch)) _ e2);
     }
 
+small-enough : (l : Limits) (r : Record) → Within l r → tooLarge l r ≡ false
+small-enough l r w =
+    rw (le-ltb (l .side) (r .width) (w .width), le-ltb (l .side) (r .height) (w .height), le-ltb (l .output) (r .scratch) (w .scratch), le-ltb (l .output) (r .output) (w .output)) refl
+
+-- limits and budget by which a file with this record is judged to its end
+pub record Enough (s : List ℕ) (r : Record) (l : Limits) (budget : Budget) : Type 0 where
+  pub input : length s ≤ l .input
+  pub counted : headerPrice s < 2 ^ 64
+  pub sizes : Within l r
+  pub price : headerPrice s + r .work ≤ budget .left
+
+-- the reading of a file by this colour choice is accepted with this record, limits set aside
+abbrev pub ReadsAs : List ℕ → Bool → Record → Type 0
+ReadsAs s colour r = (ls : List (List ℤ)) × (reading s colour ≡ accepted r ls)
+
 -- the work of a record within the limits: 3136 for each 64 bytes of scratch, and the output
 pub work-most : (colour : Bool) (l : Limits) (r : Record) → accepted.Accepted colour r → Within l r → r .work ≤ 50 * l .output
 work-most colour l r a w = omega (arith, a .work, a .scratch, w .scratch, w .output)
 
-module _ (s : List ℕ) (colour : Bool) (l : Limits) where
-  -- ---- an outcome that takes the file
+pub not-long : (s : List ℕ) (l : Limits) → tooLong s l ≡ false → (length s ≤ l .input) × (headerPrice s < 2 ^ 64)
+not-long s l e = (
+  ltb-false (l .input) (length s) (or-left (ltb (l .input) (length s)) (leb (2 ^ 64) (headerPrice s)) e),
+  leb-false (2 ^ 64) (headerPrice s) (or-right (ltb (l .input) (length s)) (leb (2 ^ 64) (headerPrice s)) e),
+)
 
-  pub record Passed (budget : ℕ) (r : Record) (ls : List (List ℤ)) : Type 0 where
-    pub long : length s ≤ l .input
-    pub head : header s colour ≡ done r
-    pub within : Within l r
-    pub paid : headerPrice s + r .work ≤ budget
-    pub behind : Bits
-    pub read : levels s r ≡ got ls behind
+short-enough : (s : List ℕ) (l : Limits) → length s ≤ l .input → headerPrice s < 2 ^ 64 → tooLong s l ≡ false
+short-enough s l a b = rw (le-ltb (l .input) (length s) a, lt-leb (2 ^ 64) (headerPrice s) b) refl
 
-  module _ (budget : ℕ) where
-    abbrev Says : Outcome → ℕ → Type 0
-    Says (takes r ls) n = Passed budget r ls × (n ≡ headerPrice s + r .work)
-    Says (gives x) n = Unit {0}
+-- ---- the ways
 
-    abbrev said : Judged → Type 0
-    said j = Says (j .outcome) (j .taken)
+-- the tests behind the header, the judgement behind the record, and inspect's answer
+abbrev pub weighing : Limits → Record → Judging Record
+weighing l r = refuse-if (tooLarge l r) TooLarge >> (pay (r .work) >> give r)
 
-    scan-says : (r : Record) → length s ≤ l .input → header s colour ≡ done r → Within l r → headerPrice s + r .work ≤ budget → (x : Read Bits (List (List ℤ))) → levels s r ≡ x → said (judgedScan r (headerPrice s + r .work) x)
-    scan-says r i h w p (got ls b) e = (record { long = i; head = h; within = w; paid = p; behind = b; read = e }, refl)
-    scan-says r i h w p (fault f) e = tt
+abbrev pub scanBehind : List ℕ → Record → Judging Whole
+scanBehind s r = λ b. onward (whole (levels s r) b) (λ ls. give (record { found = r; blocks = ls }))
 
-    header-says : length s ≤ l .input → (st : Stage) → header s colour ≡ st → said (judgedHeader s l budget st)
-    header-says i (more h) e = tt
-    header-says i (stop x) e = tt
-    header-says i (done r) e =
-        chosen-or said (tooLarge l r) _ _ (λ _. tt)
-        (λ t. chosen-or said (ltb budget (headerPrice s + r .work)) _ _ (λ _. tt) (λ u. scan-says r i e (not-large l r t) (ltb-false budget (headerPrice s + r .work) u) (levels s r) refl))
+abbrev pub foundIn : Judged Whole → Inspection
+foundIn m = inspection (onward m (λ f. give (f .found)))
 
-    pub judged-says : said (judged s colour l budget)
-    judged-says =
-        chosen-or said (ltb (l .input) (length s) or leb (2 ^ 64) (headerPrice s)) _ _ (λ _. tt)
-        (λ t. chosen-or said (ltb budget (headerPrice s)) _ _ (λ _. tt) (λ u. header-says (ltb-false (l .input) (length s) (or-left (ltb (l .input) (length s)) _ t)) (header s colour) refl))
+module _ (s : List ℕ) (colour : Bool) (l : Limits) (budget : Budget) where
+  -- what is left behind the header's price, and behind work
+  abbrev pub behindHeader : Budget
+  behindHeader = remaining budget (headerPrice s)
 
-  -- ---- what is taken
+  abbrev pub behindWork : Record → Budget
+  behindWork r = remaining budget (headerPrice s + r .work)
 
-  module _ (y : AllBytes s) (budget : ℕ) where
-    abbrev paid : Judged → Type 0
-    paid j = (j .taken ≤ budget) × (j .taken ≤ headerPrice s + 50 * l .output)
+  -- what was passed before the header was read
+  pub record Begun : Type 0 where
+    pub short : tooLong s l ≡ false
+    pub paid : headerPrice s ≤ budget .left
 
-    scan-paid : (r : Record) (n : ℕ) → n ≤ budget → n ≤ headerPrice s + 50 * l .output → (x : Read Bits (List (List ℤ))) → paid (judgedScan r n x)
-    scan-paid r n p q (got ls b) = (p, q)
-    scan-paid r n p q (fault f) = (p, q)
+  -- the ways before the scan, in the order of the tests; each has what was passed before it
+  pub data Way : Judged Record → Type 0 where
+    long : tooLong s l ≡ true → Way (refuses TooLong budget)
+    poor : tooLong s l ≡ false → budget .left < headerPrice s → Way (refuses OverBudget budget)
+    headless : (x : Refusal) → Begun → headed (header s colour) .verdict ≡ Refused x → Way (refuses x behindHeader)
+    large : (r : Record) → Begun → header s colour ≡ done r → tooLarge l r ≡ true → Way (refuses TooLarge behindHeader)
+    poor-for-work : (r : Record) → Begun → header s colour ≡ done r → Within l r → budget .left < headerPrice s + r .work → Way (refuses OverBudget behindHeader)
+    admitted : (r : Record) → header s colour ≡ done r → Enough s r l budget → Way (accepts r (behindWork r))
 
-    header-paid : headerPrice s ≤ budget → (st : Stage) → header s colour ≡ st → paid (judgedHeader s l budget st)
-    header-paid p (more h) e = (p, omega arith)
-    header-paid p (stop x) e = (p, omega arith)
-    header-paid p (done r) e =
-        chosen-or paid (tooLarge l r) _ _ (λ _. (p, omega arith))
-        (λ t. chosen-or paid (ltb budget (headerPrice s + r .work)) _ _ (λ _. (p, omega arith))
-        (λ u. scan-paid r (headerPrice s + r .work) (ltb-false budget (headerPrice s + r .work) u) (omega (arith, work-most colour l r (accepted.header-accepted colour s y r e) (not-large l r t))) (levels s r)))
+  pub way : Way (admission s colour l budget)
+  way =
+      tested Way (tooLong s l) TooLong budget _ long
+      (λ a. charged Way (headerPrice s) budget _ (poor a)
+      (λ p. ended Way (header s colour) behindHeader _ (λ x e. headless x (record { short = a; paid = p }) e)
+      (λ r e. tested Way (tooLarge l r) TooLarge behindHeader _ (large r (record { short = a; paid = p }) e)
+      (λ c. charged Way (r .work) behindHeader (give r) (λ q. poor-for-work r (record { short = a; paid = p }) e (not-large l r c) (omega (arith, q)))
+      (λ q. subst⁻¹ (λ b. Way (accepts r b)) (paid-twice budget (headerPrice s) (r .work))
+      (admitted r e (record { input = not-long s l a .0; counted = not-long s l a .1; sizes = not-large l r c; price = omega (arith, p, q) })))))))
 
-    pub judged-paid : paid (judged s colour l budget)
-    judged-paid =
-        chosen-or paid (ltb (l .input) (length s) or leb (2 ^ 64) (headerPrice s)) _ _ (λ _. (omega arith, omega arith))
-        (λ t. chosen-or paid (ltb budget (headerPrice s)) _ _ (λ _. (omega arith, omega arith)) (λ u. header-paid (ltb-false budget (headerPrice s) u) (header s colour) refl))
+  -- a record for which limits and budget are enough is admitted
+  pub admits : (r : Record) → header s colour ≡ done r → Enough s r l budget → admission s colour l budget ≡ accepts r (behindWork r)
+  admits r e h = go ∙ ap (accepts r) (paid-twice budget (headerPrice s) (r .work))
+    where
+      go : admission s colour l budget ≡ accepts r (remaining behindHeader (r .work))
+      go =
+          rw (short-enough s l (h .input) (h .counted), le-ltb (budget .left) (headerPrice s) (omega (arith, h .price)), e, small-enough l r (h .sizes), le-ltb (budget .left - headerPrice s) (r .work) (omega (arith, h .price)))
+          refl
 
-  -- ---- inspect
+  abbrev isRefused : Verdict → Type 0
+  isRefused Accepted = ⊥
+  isRefused (Refused x) = Unit {0}
 
-  pub record Inspected (budget : Budget) (a : Inspection) : Type 0 where
+  begun : Begun → admission s colour l budget ≡ onward (ending give refuse (header s colour) behindHeader) (weighing l)
+  begun a = rw (a .short, le-ltb (budget .left) (headerPrice s) (a .paid)) refl
+
+  -- and no other way is open: what a way says is what the tests answer
+  pub way-back : (m : Judged Record) → Way m → admission s colour l budget ≡ m
+  way-back m (long a) = rw a refl
+  way-back m (poor a p) = rw (a, lt-ltb (budget .left) (headerPrice s) p) refl
+  way-back m (headless x a e) = begun a ∙ go (header s colour) e
+    where
+      go : (st : Stage) → headed st .verdict ≡ Refused x → onward (ending give refuse st behindHeader) (weighing l) ≡ refuses x behindHeader
+      go (more h) v = let same : CutShort ≡ x = cc in ap (λ y. refuses y behindHeader) same
+      go (done r) v = absurd (subst⁻¹ isRefused v tt)
+      go (stop y) v = let same : y ≡ x = cc in ap (λ y. refuses y behindHeader) same
+  way-back m (large r a e c) = begun a ∙ rw (e, c) refl
+  way-back m (poor-for-work r a e c q) = begun a ∙ rw (e, small-enough l r c, lt-ltb (budget .left - headerPrice s) (r .work) (omega (arith, q, a .paid))) refl
+  way-back m (admitted r e h) = admits r e h
+
+  -- the ways of the whole judgement: one before the scan, or the scan breaks, or it is read to its end
+  pub data Judges : Judged Whole → Type 0 where
+    stopped : (x : Refusal) (b : Budget) → Way (refuses x b) → Judges (refuses x b)
+    broken : (r : Record) (f : Fault) → header s colour ≡ done r → Enough s r l budget → levels s r ≡ fault f → Judges (refuses (Scan f) (behindWork r))
+    through : (r : Record) (ls : List (List ℤ)) (q : Bits) → header s colour ≡ done r → Enough s r l budget → levels s r ≡ got ls q → Judges (accepts (record { found = r; blocks = ls }) (behindWork r))
+
+  pub judged : Judges (judgement s colour l budget)
+  judged = on (admission s colour l budget) way
+    where
+      on : (m : Judged Record) → Way m → Judges (onward m (scanBehind s))
+      on m (long a) = stopped TooLong budget (long a)
+      on m (poor a p) = stopped OverBudget budget (poor a p)
+      on m (headless x a e) = stopped x behindHeader (headless x a e)
+      on m (large r a e c) = stopped TooLarge behindHeader (large r a e c)
+      on m (poor-for-work r a e c q) = stopped OverBudget behindHeader (poor-for-work r a e c q)
+      on m (admitted r e h) = scanned Judges (levels s r) (behindWork r) _ (λ f w. broken r f e h w) (λ ls q w. through r ls q e h w)
+
+  -- ---- what is accepted
+
+  -- a file that is read is judged to its end
+  pub judges : (r : Record) (ls : List (List ℤ)) → reading s colour ≡ accepted r ls → Enough s r l budget → judgement s colour l budget ≡ accepts (record { found = r; blocks = ls }) (behindWork r)
+  judges r ls e h =
+      let t = taken-apart s colour r ls e in
+      ap (λ m. onward m (scanBehind s)) (admits r (t .head) h) ∙ ap (λ o. onward (whole o (behindWork r)) (λ ls. give (record { found = r; blocks = ls }))) (t .body)
+
+  pub inspects : (r : Record) (ls : List (List ℤ)) → reading s colour ≡ accepted r ls → Enough s r l budget → inspect s colour l budget ≡ record { verdict = Accepted; budget = behindWork r; found = r }
+  unfolding inspect
+  inspects r ls e h = ap foundIn (judges r ls e h)
+
+  -- a file that is accepted was read, and limits and budget were enough
+  pub record Inspected (a : Inspection) : Type 0 where
     pub blocks : List (List ℤ)
-    pub passed : Passed (budget .left) (a .found) blocks
-    pub left : a .budget ≡ remaining budget (headerPrice s + a .found .work)
+    pub head : header s colour ≡ done (a .found)
+    pub behind : Bits
+    pub scan : levels s (a .found) ≡ got blocks behind
+    pub read : reading s colour ≡ accepted (a .found) blocks
+    pub enough : Enough s (a .found) l budget
+    pub left : a .budget ≡ behindWork (a .found)
 
-  abbrev refused : Verdict → Type 0
-  refused Accepted = ⊥
-  refused (Refused x) = Unit {0}
-
-  pub inspect-accepted : (budget : Budget) → inspect s colour l budget .verdict ≡ Accepted → Inspected budget (inspect s colour l budget)
+  pub inspect-accepted : inspect s colour l budget .verdict ≡ Accepted → Inspected (inspect s colour l budget)
   unfolding inspect
-  inspect-accepted budget e = go (judged s colour l (budget .left) .outcome) (judged s colour l (budget .left) .taken) (judged-says (budget .left)) e
+  inspect-accepted v = go (judgement s colour l budget) judged v
     where
-      go : (o : Outcome) (n : ℕ) → Says (budget .left) o n → inspection o (remaining budget n) .verdict ≡ Accepted → Inspected budget (inspection o (remaining budget n))
-      go (takes r ls) n p v = record { blocks = ls; passed = p .0; left = ap (remaining budget) (p .1) }
-      go (gives x) n p v = absurd (subst refused v tt)
+      go : (m : Judged Whole) → Judges m → foundIn m .verdict ≡ Accepted → Inspected (foundIn m)
+      go m (stopped x b w) v = absurd (subst isRefused v tt)
+      go m (broken r f e h w) v = absurd (subst isRefused v tt)
+      go m (through r ls q e h w) v = record { blocks = ls; head = e; behind = q; scan = w; read = rw (e, w) refl; enough = h; left = refl }
 
-  -- what is left: the budget less at most 2n + 1 + 50 x the output limit, and never more than there was
-  pub inspect-most : AllBytes s → (budget : Budget) → (inspect s colour l budget .budget .left ≤ budget .left) × (budget .left ≤ inspect s colour l budget .budget .left + (headerPrice s + 50 * l .output))
-  unfolding inspect
-  inspect-most y budget = go (judged s colour l (budget .left) .outcome) (judged s colour l (budget .left) .taken) (judged-paid y (budget .left))
-    where
-      go : (o : Outcome) (n : ℕ) → (n ≤ budget .left) × (n ≤ headerPrice s + 50 * l .output) → (inspection o (remaining budget n) .budget .left ≤ budget .left) × (budget .left ≤ inspection o (remaining budget n) .budget .left + (headerPrice s + 50 * l .output))
-      go (takes r ls) n p = (omega arith, omega (arith, p))
-      go (gives x) n p = (omega arith, omega (arith, p))
+  -- accepted with this record exactly when the reading is, and limits and budget are enough for it
+  pub inspect-accepts : (r : Record) → (inspect s colour l budget .verdict ≡ Accepted) × (inspect s colour l budget .found ≡ r) ↔ ReadsAs s colour r × Enough s r l budget
+  inspect-accepts r =
+      (λ k. let a = inspect-accepted (k .0) in subst (λ (q : Record). ReadsAs s colour q × Enough s q l budget) (k .1) ((a .blocks, a .read), a .enough), λ k. let w = inspects r (k .0 .0) (k .0 .1) (k .1) in (ap (λ (i : Inspection). i .verdict) w, ap (λ (i : Inspection). i .found) w))
+
+  -- ---- what is taken at most
+
+  module _ (y : AllBytes s) where
+    abbrev Most : ℕ → Type 0
+    Most n = (n ≤ budget .left) × (budget .left ≤ n + (headerPrice s + 50 * l .output))
+
+    abbrev leftOf : {A : Type 0} → Judged A → ℕ
+    leftOf (accepts a b) = b .left
+    leftOf (refuses x b) = b .left
+
+    work-most-of : (r : Record) → header s colour ≡ done r → Enough s r l budget → Most (behindWork r .left)
+    work-most-of r e h = (omega arith, omega (arith, h .price, work-most colour l r (accepted.header-accepted colour s y r e) (h .sizes)))
+
+    way-most : (m : Judged Record) → Way m → Most (leftOf m)
+    way-most m (long a) = (omega arith, omega arith)
+    way-most m (poor a p) = (omega arith, omega arith)
+    way-most m (headless x a e) = (omega arith, omega (arith, a .paid))
+    way-most m (large r a e c) = (omega arith, omega (arith, a .paid))
+    way-most m (poor-for-work r a e c q) = (omega arith, omega (arith, a .paid))
+    way-most m (admitted r e h) = work-most-of r e h
+
+    -- what is left: the budget less at most 2n + 1 + 50 x the output limit, and never more than there was
+    pub inspect-most : Most (inspect s colour l budget .budget .left)
+    unfolding inspect
+    inspect-most = go (judgement s colour l budget) judged
+      where
+        go : (m : Judged Whole) → Judges m → Most (foundIn m .budget .left)
+        go m (stopped x b w) = way-most (refuses x b) w
+        go m (broken r f e h w) = work-most-of r e h
+        go m (through r ls q e h w) = work-most-of r e h

@@ -1,178 +1,116 @@
--- Demand 3 in the calls' own words. The theorems on readings set limits, budget and room aside; here they are given: what settle
--- and inspect answer of a file that was settled, where they are enough.
-use Prim.Native.Nat.{ℕ, _+_, _^_, _<_, _≤_}
+-- Demand 3 in the calls' own words. The theorems on files set limits, budget and room aside; here they are given: what settle, inspect and
+-- decode answer of a file that was settled, where they are enough.
+use Prim.Native.Nat.{ℕ, _+_, _<_, _≤_}
 use mathlib.Core.Path.{_≡_, refl, sym, ap, _∙_, subst, subst⁻¹}
 use mathlib.Core.Bool.{Bool, true, false, cond}
 use mathlib.Core.List.{List}
 use mathlib.Core.Logic.{_↔_}
 use mathlib.Core.Option.{Option, none, some}
 use native.Mathlib.Omega.{arith}
-use borrow.Author.Tests.{lt-ltb, le-ltb, lt-leb, ltb-false, leb-false}
-use lib.Dec.{T, ltb, leb}
+use borrow.Author.Tests.{lt-ltb, le-ltb, ltb-true, ltb-false}
+use lib.Dec.{T, ltb, eqb}
 use lib.IntN.{ℤ}
 use lib.ListN.{length, take, drop}
 use lib.Seq.{take-append-seam}
-use Rattle.reading.specs.declared.Bits.{Bits}
 use Rattle.reading.specs.declared.Budget.{Budget}
 use Rattle.reading.specs.declared.Inspection.{Inspection}
 use Rattle.reading.specs.declared.Limits.{Limits}
 use Rattle.reading.specs.declared.Record.{Record}
-use Rattle.reading.specs.declared.Refusal.the-variants.{TooLong, OverBudget, CutShort, Malformed, Unsupported, TooLarge, ShortRoom, NotItsRecord, NoEndCode, Scan}
+use Rattle.reading.specs.declared.Refusal.{Refusal}
+use Rattle.reading.specs.declared.Refusal.the-variants.{ShortRoom, NoEndCode, Scan}
 use Rattle.reading.specs.declared.Verdict.{Verdict}
 use Rattle.reading.specs.declared.Verdict.the-variants.{Accepted, Refused}
 use Rattle.reading.specs.Tests.{_or_, over}
-use Rattle.reading.specs.Reader.{Read, got, fault}
-use Rattle.reading.specs.Header.{Stage, more, done, stop, header}
-use Rattle.reading.specs.Scan.{levels, planOf}
-use Rattle.reading.specs.Reading.{accepted, reading}
-use Rattle.reading.specs.Settled.{settledFile, someLacksEnd}
-use Rattle.reading.specs.Calls.{headerPrice, Outcome, takes, gives, Judged, judge, tooLarge, judgedScan, judgedRecord, judgedHeader, judged, remaining, inspection, inspect, Rewritten, unsettled, settledInto, settledFrom, settle}
-use Rattle.reading.proofs.HeaderEnds.{or-left, or-right}
+use Rattle.reading.specs.Reading.{accepted, reading, picture}
+use Rattle.reading.specs.Settled.{settledFile}
+use Rattle.reading.specs.Judging.{Judged, accepts, refuses, Judging, onward, give-or, remaining}
+use Rattle.reading.specs.Calls.{number, headerPrice, Whole, judgement, inspection, inspect, Decoded, decode, Rewritten, unsettled, rewritten, settle}
+use Rattle.reading.specs.Files.{headIn, coefficientsIn, settledIn, lacksEndIn}
 use Rattle.reading.proofs.FileBytes.{AllBytes}
-use Rattle.reading.proofs.Demand3.{Settles, taken-apart}
-use Rattle.reading.proofs.Theorems as Th
-use Rattle.reading.proofs.Theorems.{coefficientsOf}
-
--- limits and budget by which a file with this record is inspected to its end
-pub record Enough (s : List ℕ) (r : Record) (l : Limits) (budget : Budget) : Type 0 where
-  pub input : length s ≤ l .input
-  pub counted : headerPrice s < 2 ^ 64
-  pub sizes : tooLarge l r ≡ false
-  pub price : headerPrice s + r .work ≤ budget .left
+use Rattle.reading.proofs.Choice.{recolour, reread, reading-choice}
+use Rattle.reading.proofs.HeaderNumbers.{OfHeader, cut-short, malformed, unsupported, header-number}
+use Rattle.reading.proofs.Judgement.{Enough, Way, long, poor, headless, large, poor-for-work, admitted, Judges, stopped, broken, through, foundIn, judged, judges, inspects, inspect-accepted}
+use Rattle.reading.proofs.Decodings.{decode-accepted, decodes}
+use Rattle.reading.proofs.Written.{absurd-some, some-list}
+use Rattle.reading.proofs.WholeFiles.{accepted-so, reads-alike, coefficients-alike, samples-of, settles-again, equal-so, want-so}
 
 -- what is left of a budget behind a file with this record
 abbrev pub leftBehind : List ℕ → Record → Budget → Budget
 leftBehind s r budget = remaining budget (headerPrice s + r .work)
 
--- ---- from a reading to the calls
+-- settle behind the judgement
+abbrev pub fileOf : List ℕ → Whole → Judging (List ℕ)
+fileOf s f = give-or NoEndCode (settledFile s (f .found) (f .blocks))
 
-module _ (s : List ℕ) (colour : Bool) (l : Limits) (budget : Budget) (r : Record) (ls : List (List ℤ)) where
-  judged-takes : reading s colour ≡ accepted r ls → Enough s r l budget → judged s colour l (budget .left) ≡ record { outcome = takes r ls; taken = headerPrice s + r .work }
-  judged-takes e h = first ∙ ap (judgedHeader s l (budget .left)) (taken-apart s colour r ls e .head) ∙ second ∙ ap (judgedScan r (headerPrice s + r .work)) (taken-apart s colour r ls e .body)
+-- a settled file in a buffer that has room for it
+abbrev pub laid : List ℕ → Budget → List ℕ → Rewritten
+laid t left out = record { answer = record { verdict = Accepted; budget = left; length = length t }; output = over t out }
+
+-- ---- from a reading to the call
+
+module _ (s : List ℕ) (l : Limits) (budget : Budget) (out : List ℕ) (r : Record) (ls : List (List ℤ)) (e : reading s false ≡ accepted r ls) (h : Enough s r l budget) where
+  settled-into : settle s l budget out ≡ rewritten out (give-or NoEndCode (settledFile s r ls) (leftBehind s r budget))
+  unfolding settle
+  settled-into = ap (λ m. rewritten out (onward m (fileOf s))) (judges s false l budget r ls e h)
+
+  -- with room the settled file is laid
+  pub settles : (t : List ℕ) → settledFile s r ls ≡ some t → length t ≤ length out → settle s l budget out ≡ laid t (leftBehind s r budget) out
+  settles t f k = settled-into ∙ ap (λ o. rewritten out (give-or NoEndCode o (leftBehind s r budget))) f ∙ fits
     where
-      first : judged s colour l (budget .left) ≡ judgedHeader s l (budget .left) (header s colour)
-      first = rw (le-ltb (l .input) (length s) (h .input), lt-leb (2 ^ 64) (headerPrice s) (h .counted), le-ltb (budget .left) (headerPrice s) (omega (arith, h .price))) refl
+      fits : rewritten out (accepts t (leftBehind s r budget)) ≡ laid t (leftBehind s r budget) out
+      fits = rw (le-ltb (length out) (length t) k) refl
 
-      second : judgedRecord s l (budget .left) r ≡ judgedScan r (headerPrice s + r .work) (levels s r)
-      second = rw (h .sizes, le-ltb (budget .left) (headerPrice s + r .work) (h .price)) refl
-
-  -- a file that is read is inspected
-  pub inspects : reading s colour ≡ accepted r ls → Enough s r l budget → inspect s colour l budget ≡ record { verdict = Accepted; budget = leftBehind s r budget; found = r }
-  unfolding inspect
-  inspects e h = ap (λ (j : Judged). inspection (j .outcome) (remaining budget (j .taken))) (judged-takes e h)
-
--- a file that settles is settled
-pub settles :
-    (s : List ℕ) (l : Limits) (budget : Budget) (r : Record) (ls : List (List ℤ)) (t out : List ℕ) → Settles s r ls t → Enough s r l budget → length t ≤ length out → settle s l budget out ≡ record { answer = record { verdict = Accepted; budget = leftBehind s r budget; length = length t }; output = over t out }
-unfolding settle
-settles s l budget r ls t out z h room =
-    ap (λ (j : Judged). settledFrom s out (remaining budget (j .taken)) (j .outcome)) (judged-takes s false l budget r ls (z .taken) h)
-    ∙ ap (settledInto out (leftBehind s r budget)) (z .written) ∙ fits
-  where
-    fits : settledInto out (leftBehind s r budget) (some t) ≡ record { answer = record { verdict = Accepted; budget = leftBehind s r budget; length = length t }; output = over t out }
-    fits = rw (le-ltb (length out) (length t) room) refl
-
--- ---- from the calls to a reading
-
-abbrev Taking : Outcome → Type 0
-Taking (takes r ls) = Unit {0}
-Taking (gives x) = ⊥
-
--- a file that was taken was read, and limits and budget were enough
-record Took (s : List ℕ) (colour : Bool) (l : Limits) (budget : Budget) (j : Judged) : Type 0 where
-  found : Record
-  blocks : List (List ℤ)
-  read : reading s colour ≡ accepted found blocks
-  enough : Enough s found l budget
-  is : j ≡ record { outcome = takes found blocks; taken = headerPrice s + found .work }
-
-module _ (s : List ℕ) (colour : Bool) (l : Limits) (budget : Budget) where
-  took : Taking (judged s colour l (budget .left) .outcome) → Took s colour l budget (judged s colour l (budget .left))
-  took = length-test (ltb (l .input) (length s) or leb (2 ^ 64) (headerPrice s)) refl
+  -- 7 names the length that is needed, and leaves the buffer as it was
+  pub short-room : (t : List ℕ) → settledFile s r ls ≡ some t → length out < length t → settle s l budget out ≡ unsettled ShortRoom (leftBehind s r budget) (length t) out
+  short-room t f k = settled-into ∙ ap (λ o. rewritten out (give-or NoEndCode o (leftBehind s r budget))) f ∙ short
     where
-      scan-test : (r : Record) → header s colour ≡ done r → (ltb (l .input) (length s) or leb (2 ^ 64) (headerPrice s)) ≡ false → tooLarge l r ≡ false → headerPrice s + r .work ≤ budget .left → (x : Read Bits (List (List ℤ))) → levels s r ≡ x → Taking (judgedScan r (headerPrice s + r .work) x .outcome) → Took s colour l budget (judgedScan r (headerPrice s + r .work) x)
-      scan-test r e a b c (fault f) p k = absurd k
-      scan-test r e a b c (got ls q) p k =
-          record {
-            found = r;
-            blocks = ls;
-            read = rw (e, p) refl;
-            enough =
-                record {
-                  input = ltb-false (l .input) (length s) (or-left (ltb (l .input) (length s)) (leb (2 ^ 64) (headerPrice s)) a);
-                  counted = leb-false (2 ^ 64) (headerPrice s) (or-right (ltb (l .input) (length s)) (leb (2 ^ 64) (headerPrice s)) a);
-                  sizes = b;
-                  price = c;
-                };
-            is = refl;
-          }
+      short : rewritten out (accepts t (leftBehind s r budget)) ≡ unsettled ShortRoom (leftBehind s r budget) (length t) out
+      short = rw (lt-ltb (length out) (length t) k) refl
 
-      price-test : (r : Record) → header s colour ≡ done r → (ltb (l .input) (length s) or leb (2 ^ 64) (headerPrice s)) ≡ false → tooLarge l r ≡ false → (t : Bool) → ltb (budget .left) (headerPrice s + r .work) ≡ t → Taking (cond t (judge OverBudget (headerPrice s)) (judgedScan r (headerPrice s + r .work) (levels s r)) .outcome) → Took s colour l budget (cond t (judge OverBudget (headerPrice s)) (judgedScan r (headerPrice s + r .work) (levels s r)))
-      price-test r e a b true p k = absurd k
-      price-test r e a b false p k = scan-test r e a b (ltb-false (budget .left) (headerPrice s + r .work) p) (levels s r) refl k
-
-      size-test : (r : Record) → header s colour ≡ done r → (ltb (l .input) (length s) or leb (2 ^ 64) (headerPrice s)) ≡ false → (t : Bool) → tooLarge l r ≡ t → Taking (cond t (judge TooLarge (headerPrice s)) (cond (ltb (budget .left) (headerPrice s + r .work)) (judge OverBudget (headerPrice s)) (judgedScan r (headerPrice s + r .work) (levels s r))) .outcome) → Took s colour l budget (cond t (judge TooLarge (headerPrice s)) (cond (ltb (budget .left) (headerPrice s + r .work)) (judge OverBudget (headerPrice s)) (judgedScan r (headerPrice s + r .work) (levels s r))))
-      size-test r e a true p k = absurd k
-      size-test r e a false p k = price-test r e a p (ltb (budget .left) (headerPrice s + r .work)) refl k
-
-      header-test : (ltb (l .input) (length s) or leb (2 ^ 64) (headerPrice s)) ≡ false → (st : Stage) → header s colour ≡ st → Taking (judgedHeader s l (budget .left) st .outcome) → Took s colour l budget (judgedHeader s l (budget .left) st)
-      header-test a (more h) e k = absurd k
-      header-test a (done r) e k = size-test r e a (tooLarge l r) refl k
-      header-test a (stop x) e k = absurd k
-
-      budget-test : (ltb (l .input) (length s) or leb (2 ^ 64) (headerPrice s)) ≡ false → (t : Bool) → ltb (budget .left) (headerPrice s) ≡ t → Taking (cond t (judge OverBudget 0) (judgedHeader s l (budget .left) (header s colour)) .outcome) → Took s colour l budget (cond t (judge OverBudget 0) (judgedHeader s l (budget .left) (header s colour)))
-      budget-test a true p k = absurd k
-      budget-test a false p k = header-test a (header s colour) refl k
-
-      length-test : (t : Bool) → (ltb (l .input) (length s) or leb (2 ^ 64) (headerPrice s)) ≡ t → Taking (cond t (judge TooLong 0) (cond (ltb (budget .left) (headerPrice s)) (judge OverBudget 0) (judgedHeader s l (budget .left) (header s colour))) .outcome) → Took s colour l budget (cond t (judge TooLong 0) (cond (ltb (budget .left) (headerPrice s)) (judge OverBudget 0) (judgedHeader s l (budget .left) (header s colour))))
-      length-test true p k = absurd k
-      length-test false p k = budget-test p (ltb (budget .left) (headerPrice s)) refl k
+-- ---- from the call to a reading
 
 abbrev IsAccepted : Verdict → Type 0
 IsAccepted Accepted = Unit {0}
 IsAccepted (Refused x) = ⊥
 
--- what an accepted settle says: the file was read, it settles to the bytes that now stand first in the buffer, and limits, budget
--- and room were enough
+-- what an accepted settle says: the file settles to the bytes that now stand first in the buffer, and limits, budget and room were enough
 pub record SettledBy (s : List ℕ) (l : Limits) (budget : Budget) (out : List ℕ) : Type 0 where
   pub found : Record
   pub blocks : List (List ℤ)
   pub file : List ℕ
-  pub does : Settles s found blocks file
+  pub read : reading s false ≡ accepted found blocks
+  pub does : settledIn s ≡ some file
   pub enough : Enough s found l budget
   pub room : length file ≤ length out
-  pub is : settle s l budget out ≡ record { answer = record { verdict = Accepted; budget = leftBehind s found budget; length = length file }; output = over file out }
+  pub is : settle s l budget out ≡ laid file (leftBehind s found budget) out
 
-module _ (s : List ℕ) (l : Limits) (budget : Budget) (out : List ℕ) (h : settle s l budget out .answer .verdict ≡ Accepted) where
-  pub settled-by : SettledBy s l budget out
+module _ (s : List ℕ) (l : Limits) (budget : Budget) (out : List ℕ) where
+  pub settled-by : settle s l budget out .answer .verdict ≡ Accepted → SettledBy s l budget out
   unfolding settle
-  settled-by = outcome-test (judged s false l (budget .left)) refl (subst⁻¹ IsAccepted h tt)
+  settled-by v = go (judgement s false l budget) (judged s false l budget) (subst⁻¹ IsAccepted v tt)
     where
-      room-test : (z : Took s false l budget (judged s false l (budget .left))) (t : List ℕ) → settledFile s (z .found) (z .blocks) ≡ some t → (q : Bool) → ltb (length out) (length t) ≡ q → IsAccepted (cond q (unsettled ShortRoom (leftBehind s (z .found) budget) (length t) out) (record { answer = record { verdict = Accepted; budget = leftBehind s (z .found) budget; length = length t }; output = over t out }) .answer .verdict) → SettledBy s l budget out
-      room-test z t e true p k = absurd k
-      room-test z t e false p k =
+      room-test : (r : Record) (ls : List (List ℤ)) → reading s false ≡ accepted r ls → Enough s r l budget → (t : List ℕ) → settledFile s r ls ≡ some t → (q : Bool) → ltb (length out) (length t) ≡ q → IsAccepted (cond q (unsettled ShortRoom (leftBehind s r budget) (length t) out) (laid t (leftBehind s r budget) out) .answer .verdict) → SettledBy s l budget out
+      room-test r ls e h t f true p k = absurd k
+      room-test r ls e h t f false p k =
           record {
-            found = z .found;
-            blocks = z .blocks;
+            found = r;
+            blocks = ls;
             file = t;
-            does = record { taken = z .read; written = e };
-            enough = z .enough;
+            read = e;
+            does = accepted-so (settledFile s) none s false r ls e ∙ f;
+            enough = h;
             room = ltb-false (length out) (length t) p;
-            is = settles s l budget (z .found) (z .blocks) t out (record { taken = z .read; written = e }) (z .enough) (ltb-false (length out) (length t) p);
+            is = settles s l budget out r ls e h t f (ltb-false (length out) (length t) p);
           }
 
-      file-test : (z : Took s false l budget (judged s false l (budget .left))) (o : Option (List ℕ)) → settledFile s (z .found) (z .blocks) ≡ o → IsAccepted (settledInto out (leftBehind s (z .found) budget) o .answer .verdict) → SettledBy s l budget out
-      file-test z none e k = absurd k
-      file-test z (some t) e k = room-test z t e (ltb (length out) (length t)) refl k
+      file-test : (r : Record) (ls : List (List ℤ)) → reading s false ≡ accepted r ls → Enough s r l budget → (o : Option (List ℕ)) → settledFile s r ls ≡ o → IsAccepted (rewritten out (give-or NoEndCode o (leftBehind s r budget)) .answer .verdict) → SettledBy s l budget out
+      file-test r ls e h none f k = absurd k
+      file-test r ls e h (some t) f k = room-test r ls e h t f (ltb (length out) (length t)) refl k
 
-      outcome-test : (j : Judged) → judged s false l (budget .left) ≡ j → IsAccepted (settledFrom s out (remaining budget (j .taken)) (j .outcome) .answer .verdict) → SettledBy s l budget out
-      outcome-test j e k = go (j .outcome) refl k
-        where
-          go : (o : Outcome) → j .outcome ≡ o → IsAccepted (settledFrom s out (remaining budget (j .taken)) o .answer .verdict) → SettledBy s l budget out
-          go (gives x) p q = absurd q
-          go (takes r ls) p q =
-              let z = took s false l budget (subst⁻¹ Taking (ap (λ (j : Judged). j .outcome) e ∙ p) tt) in
-              file-test z (settledFile s (z .found) (z .blocks)) refl (subst IsAccepted (ap (λ (j : Judged). settledFrom s out (remaining budget (j .taken)) (j .outcome) .answer .verdict) (sym e ∙ z .is)) (subst⁻¹ (λ (o : Outcome). IsAccepted (settledFrom s out (remaining budget (j .taken)) o .answer .verdict)) p q))
+      go : (m : Judged Whole) → Judges s false l budget m → IsAccepted (rewritten out (onward m (fileOf s)) .answer .verdict) → SettledBy s l budget out
+      go m (stopped x b w) k = absurd k
+      go m (broken r f e h w) k = absurd k
+      go m (through r ls q e h w) k = file-test r ls (rw (e, w) refl) h (settledFile s r ls) refl k
 
 -- ---- demand 3, of the calls
 
@@ -181,74 +119,182 @@ abbrev pub settledBytes : Rewritten → List ℕ
 settledBytes w = take (w .answer .length) (w .output)
 
 module _ (s : List ℕ) (l : Limits) (budget : Budget) (out : List ℕ) (z : SettledBy s l budget out) where
-  pub bytes-are : settledBytes (settle s l budget out) ≡ z .file
+  abbrev pub bytes : List ℕ
+  bytes = settledBytes (settle s l budget out)
+
+  pub bytes-are : bytes ≡ z .file
   bytes-are = ap settledBytes (z .is) ∙ take-append-seam (z .file) (drop (length (z .file)) out)
 
-  -- it reads as the file does: with the same record and the same levels, so with the same coefficients
-  pub settled-reads : reading (settledBytes (settle s l budget out)) false ≡ reading s false
-  settled-reads = ap (λ b. reading b false) bytes-are ∙ Th.settled-accepted s (z .found) (z .blocks) (z .file) (z .does) ∙ sym (z .does .taken)
+  -- they are the settled file
+  pub bytes-settled : settledIn s ≡ some bytes
+  bytes-settled = z .does ∙ ap some (sym bytes-are)
 
-  pub coefficients-kept : coefficientsOf (settledBytes (settle s l budget out)) (z .found) (z .blocks) ≡ coefficientsOf s (z .found) (z .blocks)
-  coefficients-kept = ap (λ b. coefficientsOf b (z .found) (z .blocks)) bytes-are ∙ Th.settled-coefficients s (z .found) (z .blocks) (z .file) (z .does)
+  -- it reads as the file does by either colour choice: with the same record and the same levels
+  pub settled-reads : (colour : Bool) → reading bytes colour ≡ reading s colour
+  settled-reads = reads-alike s bytes bytes-settled
+
+  pub coefficients-kept : coefficientsIn bytes ≡ coefficientsIn s
+  coefficients-kept = coefficients-alike s bytes bytes-settled
 
   -- inspect accepts the file with this record
   pub record-is : inspect s false l budget .found ≡ z .found
-  record-is = ap (λ (i : Inspection). i .found) (inspects s false l budget (z .found) (z .blocks) (z .does .taken) (z .enough))
+  record-is = ap (λ (i : Inspection). i .found) (inspects s false l budget (z .found) (z .blocks) (z .read) (z .enough))
 
-  module _ (l′ : Limits) (budget′ : Budget) (e : Enough (settledBytes (settle s l budget out)) (z .found) l′ budget′) where
-    -- and the settled file with the same one
-    pub settled-inspects : inspect (settledBytes (settle s l budget out)) false l′ budget′ ≡ record { verdict = Accepted; budget = leftBehind (settledBytes (settle s l budget out)) (z .found) budget′; found = z .found }
-    settled-inspects = inspects (settledBytes (settle s l budget out)) false l′ budget′ (z .found) (z .blocks) (settled-reads ∙ z .does .taken) e
+  module _ (l′ : Limits) (budget′ : Budget) where
+    -- what inspect accepts of the file it accepts of the settled file, with the same record, where limits and budget suffice
+    pub settled-inspects : (colour : Bool) (r : Record) (ls : List (List ℤ)) → reading s colour ≡ accepted r ls → Enough bytes r l′ budget′ → inspect bytes colour l′ budget′ ≡ record { verdict = Accepted; budget = leftBehind bytes r budget′; found = r }
+    settled-inspects colour r ls e h = inspects bytes colour l′ budget′ r ls (settled-reads colour ∙ e) h
 
     -- settling it again gives the same bytes
-    pub settled-again :
-        (out′ : List ℕ) → length (settledBytes (settle s l budget out)) ≤ length out′ → settle (settledBytes (settle s l budget out)) l′ budget′ out′ ≡ record { answer = record { verdict = Accepted; budget = leftBehind (settledBytes (settle s l budget out)) (z .found) budget′; length = length (settledBytes (settle s l budget out)) }; output = over (settledBytes (settle s l budget out)) out′ }
-    settled-again out′ room =
-        settles (settledBytes (settle s l budget out)) l′ budget′ (z .found) (z .blocks) (settledBytes (settle s l budget out)) out′
-        (subst⁻¹ (λ b. Settles b (z .found) (z .blocks) b) bytes-are (Th.settled-settles s (z .found) (z .blocks) (z .file) (z .does))) e room
+    pub settled-again : Enough bytes (z .found) l′ budget′ → (out′ : List ℕ) → length bytes ≤ length out′ → settle bytes l′ budget′ out′ ≡ laid bytes (leftBehind bytes (z .found) budget′) out′
+    settled-again e out′ room =
+        let read : reading bytes false ≡ accepted (z .found) (z .blocks) = settled-reads false ∙ z .read in
+        settles bytes l′ budget′ out′ (z .found) (z .blocks) read e bytes
+        (sym (accepted-so (settledFile bytes) none bytes false (z .found) (z .blocks) read) ∙ settles-again s bytes bytes-settled) room
 
--- two files that agree up to their first coded byte settle to the same bytes exactly when their coefficients are equal
+-- two files with one head settle to the same bytes exactly when their coefficients are equal
 pub one-picture-one-file :
-    (s s′ : List ℕ) (l l′ : Limits) (budget budget′ : Budget) (out out′ : List ℕ) (z : SettledBy s l budget out) (z′ : SettledBy s′ l′ budget′ out′) → z .found .start ≡ z′ .found .start → take (z .found .start) s ≡ take (z′ .found .start) s′ → settledBytes (settle s l budget out) ≡ settledBytes (settle s′ l′ budget′ out′) ↔ coefficientsOf s (z .found) (z .blocks) ≡ coefficientsOf s′ (z′ .found) (z′ .blocks)
-one-picture-one-file s s′ l l′ budget budget′ out out′ z z′ a b =
-    let w = Th.one-picture-one-scan s s′ (z .found) (z′ .found) (z .blocks) (z′ .blocks) (z .file) (z′ .file) (z .does) (z′ .does) a b in
-    (λ e. w .0 (sym (bytes-are s l budget out z) ∙ e ∙ bytes-are s′ l′ budget′ out′ z′), λ e. bytes-are s l budget out z ∙ w .1 e ∙ sym (bytes-are s′ l′ budget′ out′ z′))
+    (s s′ : List ℕ) (l l′ : Limits) (budget budget′ : Budget) (out out′ : List ℕ) (z : SettledBy s l budget out) (z′ : SettledBy s′ l′ budget′ out′) → headIn s ≡ headIn s′ → settledBytes (settle s l budget out) ≡ settledBytes (settle s′ l′ budget′ out′) ↔ coefficientsIn s ≡ coefficientsIn s′
+one-picture-one-file s s′ l l′ budget budget′ out out′ z z′ e =
+    equal-so s s′ (bytes s l budget out z) (bytes s′ l′ budget′ out′ z′) (bytes-settled s l budget out z) (bytes-settled s′ l′ budget′ out′ z′) e
 
--- ---- its refusals, where limits and budget are enough
+-- ---- the settled file, decoded: the same samples and the same picture with the same record
 
-module _ (s : List ℕ) (l : Limits) (budget : Budget) (out : List ℕ) (r : Record) (ls : List (List ℤ)) (e : reading s false ≡ accepted r ls) (h : Enough s r l budget) where
-  settled-into : settle s l budget out ≡ settledInto out (leftBehind s r budget) (settledFile s r ls)
-  unfolding settle
-  settled-into = ap (λ (j : Judged). settledFrom s out (remaining budget (j .taken)) (j .outcome)) (judged-takes s false l budget r ls e h)
+-- both buffers are left alike
+pub record Alike (d d′ : Decoded) : Type 0 where
+  pub verdict : d′ .answer .verdict ≡ Accepted
+  pub output : d′ .output ≡ d .output
+  pub scratch : d′ .scratch ≡ d .scratch
 
-  -- 7 names the length that is needed, and leaves the buffer as it was
-  pub short-room : (t : List ℕ) → settledFile s r ls ≡ some t → length out < length t → settle s l budget out ≡ unsettled ShortRoom (leftBehind s r budget) (length t) out
-  short-room t f k = settled-into ∙ ap (settledInto out (leftBehind s r budget)) f ∙ short
+pub settled-decodes : (s t : List ℕ) → settledIn s ≡ some t → (r : Record) (out scratch : List ℕ) (budget budget′ : Budget) → decode s r out scratch budget .answer .verdict ≡ Accepted → headerPrice t + r .work ≤ budget′ .left → Alike (decode s r out scratch budget) (decode t r out scratch budget′)
+settled-decodes s t h r out scratch budget budget′ v p =
+    let d = decode-accepted s r out scratch budget v in
+    let w = decodes t r out scratch budget′ (d .blocks) (reads-alike s t h (r .colour) ∙ d .read) (d .room) p in
+    let same = samples-of s t h (r .colour) r (d .blocks) (d .read) in
+    record {
+      verdict = ap (λ (d : Decoded). d .answer .verdict) w;
+      output = ap (λ (d : Decoded). d .output) w ∙ ap (λ x. over (picture r x) out) same ∙ sym (d .picture-is);
+      scratch = ap (λ (d : Decoded). d .scratch) w ∙ ap (λ x. over x scratch) same ∙ sym (d .samples-are);
+    }
+
+-- ---- the colour choice
+
+-- inspect accepts a file by either choice or by none
+pub accepts-alike : (s : List ℕ) (l : Limits) (budget : Budget) (c d : Bool) → inspect s c l budget .verdict ≡ Accepted → inspect s d l budget .verdict ≡ Accepted
+accepts-alike s l budget c d v =
+    let a = inspect-accepted s c l budget v in
+    let w = a .enough .sizes in
+    ap (λ (i : Inspection). i .verdict)
+    (inspects s d l budget (recolour d (inspect s c l budget .found)) (a .blocks) (reading-choice d c s ∙ ap (reread d) (a .read))
+    (record { input = a .enough .input; counted = a .enough .counted; sizes = record { width = w .width; height = w .height; scratch = w .scratch; output = w .output }; price = a .enough .price }))
+
+-- ---- the ways of settle
+
+module _ (s : List ℕ) (l : Limits) (budget : Budget) (out : List ℕ) where
+  abbrev Inspects : Type 0
+  Inspects = inspect s false l budget .verdict ≡ Accepted
+
+  -- not one of settle's own numbers
+  abbrev OfInspect : Verdict → Type 0
+  OfInspect v = T (eqb (number v) 7 or eqb (number v) 9) → ⊥
+
+  pub data SettleWay : Rewritten → Type 0 where
+    as-inspect : (x : Refusal) (b : Budget) → inspect s false l budget ≡ inspection (refuses x b) → OfInspect (Refused x) → SettleWay (unsettled x b 0 out)
+    nine : (b : Budget) → Inspects → settledIn s ≡ none → SettleWay (unsettled NoEndCode b 0 out)
+    seven : (t : List ℕ) (b : Budget) → Inspects → settledIn s ≡ some t → length out < length t → SettleWay (unsettled ShortRoom b (length t) out)
+    done : (t : List ℕ) (b : Budget) → Inspects → settledIn s ≡ some t → length t ≤ length out → SettleWay (laid t b out)
+
+  header-not : (x : Refusal) → OfHeader x → OfInspect (Refused x)
+  header-not x cut-short k = k
+  header-not x malformed k = k
+  header-not x unsupported k = k
+
+  way-not : (m : Judged Record) → Way s false l budget m → OfInspect (inspection m .verdict)
+  way-not m (long a) k = k
+  way-not m (poor a p) k = k
+  way-not m (headless x a e) k = header-not x (header-number s false x e) k
+  way-not m (large r a e c) k = k
+  way-not m (poor-for-work r a e c q) k = k
+  way-not m (admitted r e h) k = k
+
+  pub settle-way : SettleWay (settle s l budget out)
+  unfolding settle inspect
+  settle-way = go (judgement s false l budget) refl (judged s false l budget)
     where
-      short : settledInto out (leftBehind s r budget) (some t) ≡ unsettled ShortRoom (leftBehind s r budget) (length t) out
-      short = rw (lt-ltb (length out) (length t) k) refl
+      room-way : (t : List ℕ) (b : Budget) → Inspects → settledIn s ≡ some t → (q : Bool) → ltb (length out) (length t) ≡ q → SettleWay (cond q (unsettled ShortRoom b (length t) out) (laid t b out))
+      room-way t b a f true p = seven t b a f (ltb-true (length out) (length t) p)
+      room-way t b a f false p = done t b a f (ltb-false (length out) (length t) p)
 
-  abbrev IsNine : Verdict → Type 0
-  IsNine Accepted = ⊥
-  IsNine (Refused TooLong) = ⊥
-  IsNine (Refused OverBudget) = ⊥
-  IsNine (Refused CutShort) = ⊥
-  IsNine (Refused Malformed) = ⊥
-  IsNine (Refused Unsupported) = ⊥
-  IsNine (Refused TooLarge) = ⊥
-  IsNine (Refused ShortRoom) = ⊥
-  IsNine (Refused NotItsRecord) = ⊥
-  IsNine (Refused NoEndCode) = Unit {0}
-  IsNine (Refused (Scan f)) = ⊥
+      file-way : (b : Budget) → Inspects → (o : Option (List ℕ)) → settledIn s ≡ o → SettleWay (rewritten out (give-or NoEndCode o b))
+      file-way b a none f = nine b a f
+      file-way b a (some t) f = room-way t b a f (ltb (length out) (length t)) refl
 
-  -- 9 comes exactly when some block ends in a zero and its table has no end-of-block code, whatever the room
-  pub no-end-code : AllBytes s → settle s l budget out .answer .verdict ≡ Refused NoEndCode ↔ T (someLacksEnd (planOf s r) 0 ls)
-  no-end-code y = (λ v. Th.want-of-a-code s r ls y e .0 (go (settledFile s r ls) (sym (ap (λ (w : Rewritten). w .answer .verdict) settled-into) ∙ v)), λ t. ap (λ (w : Rewritten). w .answer .verdict) (settled-into ∙ ap (settledInto out (leftBehind s r budget)) (Th.want-of-a-code s r ls y e .1 t)))
+      go : (m : Judged Whole) → judgement s false l budget ≡ m → Judges s false l budget m → SettleWay (rewritten out (onward m (fileOf s)))
+      go m p (stopped x b w) = as-inspect x b (ap foundIn p) (way-not (refuses x b) w)
+      go m p (broken r f e h w) = as-inspect (Scan f) (leftBehind s r budget) (ap foundIn p) (λ k. k)
+      go m p (through r ls q e h w) = file-way (leftBehind s r budget) (ap (λ m. foundIn m .verdict) p) (settledFile s r ls) (accepted-so (settledFile s) none s false r ls (rw (e, w) refl))
+
+  -- settle refuses as inspect does, with the same number and the same left
+  not-accepted : (x : Refusal) (b : Budget) → inspect s false l budget ≡ inspection (refuses x b) → Inspects → ⊥
+  not-accepted x b e a = subst⁻¹ IsAccepted (sym (ap (λ (i : Inspection). i .verdict) e) ∙ a) tt
+
+  one-file : {t u : List ℕ} → settledIn s ≡ some t → settledIn s ≡ some u → t ≡ u
+  one-file a b = some-list (sym a ∙ b)
+
+  abbrev numbered : ℕ → Verdict → Type 0
+  numbered n v = T (eqb (number v) n)
+
+  pub settle-accepts : settle s l budget out .answer .verdict ≡ Accepted ↔ Inspects × ((t : List ℕ) × (settledIn s ≡ some t) × (length t ≤ length out))
+  settle-accepts = go (settle s l budget out) settle-way
     where
-      room-test : (t : List ℕ) (q : Bool) → IsNine (cond q (unsettled ShortRoom (leftBehind s r budget) (length t) out) (record { answer = record { verdict = Accepted; budget = leftBehind s r budget; length = length t }; output = over t out }) .answer .verdict) → ⊥
-      room-test t true k = k
-      room-test t false k = k
+      go : (w : Rewritten) → SettleWay w → w .answer .verdict ≡ Accepted ↔ Inspects × ((t : List ℕ) × (settledIn s ≡ some t) × (length t ≤ length out))
+      go w (as-inspect x b e n) = (λ v. absurd (subst⁻¹ IsAccepted v tt), λ k. absurd (not-accepted x b e (k .0)))
+      go w (nine b a f) = (λ v. absurd (subst⁻¹ IsAccepted v tt), λ k. absurd (absurd-some (k .1 .0) (sym f ∙ k .1 .1)))
+      go w (seven t b a f p) = (λ v. absurd (subst⁻¹ IsAccepted v tt), λ k. let z : ⊥ = omega (arith, p, k .1 .2, ap length (one-file f (k .1 .1))) in absurd z)
+      go w (done t b a f p) = (λ v. (a, (t, f, p)), λ k. refl)
 
-      go : (o : Option (List ℕ)) → settledInto out (leftBehind s r budget) o .answer .verdict ≡ Refused NoEndCode → o ≡ none
-      go none v = refl
-      go (some t) v = absurd (room-test t (ltb (length out) (length t)) (subst⁻¹ IsNine v tt))
+  -- it then writes the settled file over the buffer, and returns its length
+  pub settle-writes : (t : List ℕ) → settledIn s ≡ some t → settle s l budget out .answer .verdict ≡ Accepted → (settle s l budget out .answer .length ≡ length t) × (settle s l budget out .output ≡ over t out)
+  settle-writes t e = go (settle s l budget out) settle-way
+    where
+      go : (w : Rewritten) → SettleWay w → w .answer .verdict ≡ Accepted → (w .answer .length ≡ length t) × (w .output ≡ over t out)
+      go w (as-inspect x b f n) v = absurd (subst⁻¹ IsAccepted v tt)
+      go w (nine b a f) v = absurd (subst⁻¹ IsAccepted v tt)
+      go w (seven u b a f p) v = absurd (subst⁻¹ IsAccepted v tt)
+      go w (done u b a f p) v = (ap length (one-file f e), ap (λ x. over x out) (one-file f e))
+
+  -- 7 exactly when inspect would accept and there is a settled file that is too long; its length is named
+  pub settle-seven : (n : ℕ) → (settle s l budget out .answer .verdict ≡ Refused ShortRoom) × (settle s l budget out .answer .length ≡ n) ↔ Inspects × ((t : List ℕ) × (settledIn s ≡ some t) × (length t ≡ n) × (length out < n))
+  settle-seven n = go (settle s l budget out) settle-way
+    where
+      go : (w : Rewritten) → SettleWay w → (w .answer .verdict ≡ Refused ShortRoom) × (w .answer .length ≡ n) ↔ Inspects × ((t : List ℕ) × (settledIn s ≡ some t) × (length t ≡ n) × (length out < n))
+      go w (as-inspect x b e o) = (λ v. absurd (o (subst⁻¹ (λ v. T (eqb (number v) 7 or eqb (number v) 9)) (v .0) tt)), λ k. absurd (not-accepted x b e (k .0)))
+      go w (nine b a f) = (λ v. absurd (subst⁻¹ (numbered 7) (v .0) tt), λ k. absurd (absurd-some (k .1 .0) (sym f ∙ k .1 .1)))
+      go w (seven t b a f p) = (λ v. (a, (t, f, v .1, subst (λ m. length out < m) (v .1) p)), λ k. (refl, ap length (one-file f (k .1 .1)) ∙ k .1 .2))
+      go w (done t b a f p) = (λ v. absurd (subst⁻¹ (numbered 7) (v .0) tt), λ k. let z : ⊥ = omega (arith, p, k .1 .2, k .1 .3, ap length (one-file f (k .1 .1))) in absurd z)
+
+  -- 9 exactly when inspect would accept and some block lacks its end code, whatever the room
+  pub settle-nine : AllBytes s → settle s l budget out .answer .verdict ≡ Refused NoEndCode ↔ Inspects × T (lacksEndIn s)
+  settle-nine y = go (settle s l budget out) settle-way
+    where
+      want : Inspects → settledIn s ≡ none ↔ T (lacksEndIn s)
+      want a = let i = inspect-accepted s false l budget a in want-so s y (inspect s false l budget .found) (i .blocks) (i .read)
+
+      go : (w : Rewritten) → SettleWay w → w .answer .verdict ≡ Refused NoEndCode ↔ Inspects × T (lacksEndIn s)
+      go w (as-inspect x b e o) = (λ v. absurd (o (subst⁻¹ (λ v. T (eqb (number v) 7 or eqb (number v) 9)) v tt)), λ k. absurd (not-accepted x b e (k .0)))
+      go w (nine b a f) = (λ v. (a, want a .0 f), λ k. refl)
+      go w (seven t b a f p) = (λ v. absurd (subst⁻¹ (numbered 9) v tt), λ k. absurd (absurd-some t (sym (want a .1 (k .1)) ∙ f)))
+      go w (done t b a f p) = (λ v. absurd (subst⁻¹ (numbered 9) v tt), λ k. absurd (absurd-some t (sym (want a .1 (k .1)) ∙ f)))
+
+  -- every other refusal of settle is inspect's, with the same left
+  pub settle-as-inspect : (x : Refusal) (b : Budget) → inspect s false l budget ≡ inspection (refuses x b) → settle s l budget out ≡ unsettled x b 0 out
+  settle-as-inspect x b e = go (settle s l budget out) settle-way
+    where
+      go : (w : Rewritten) → SettleWay w → w ≡ unsettled x b 0 out
+      go w (as-inspect y c f n) = ap (λ (i : Inspection). unsettled-as i) (sym f ∙ e)
+        where
+          unsettled-as : Inspection → Rewritten
+          unsettled-as i = record { answer = record { verdict = i .verdict; budget = i .budget; length = 0 }; output = out }
+      go w (nine c a f) = absurd (not-accepted x b e a)
+      go w (seven t c a f p) = absurd (not-accepted x b e a)
+      go w (done t c a f p) = absurd (not-accepted x b e a)

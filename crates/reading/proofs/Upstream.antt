@@ -135,15 +135,15 @@ module _ (s : List ℕ) (y : AllBytes s) (colour : Bool) (l : Limits) (budget : 
   pub inspect-formed : inspect s colour l budget .verdict ≡ Accepted → WellFormed s colour (inspect s colour l budget .found)
   inspect-formed e =
       let a = inspect-accepted s colour l budget e in
-      record { fit = header-fits s colour y _ (a .passed .head); levels-read = a .blocks; behind = a .passed .behind; read = a .passed .read }
+      record { fit = header-fits s colour y _ (a .head); levels-read = a .blocks; behind = a .behind; read = a .scan }
 
   -- and 2n + 1 and its work were there to be taken
   pub inspect-paid : inspect s colour l budget .verdict ≡ Accepted → headerPrice s + inspect s colour l budget .found .work ≤ budget .left
-  inspect-paid e = inspect-accepted s colour l budget e .passed .paid
+  inspect-paid e = inspect-accepted s colour l budget e .enough .price
 
   -- the budget does not grow
   pub inspect-budget : inspect s colour l budget .budget .left ≤ budget .left
-  inspect-budget = inspect-most s colour l y budget .0
+  inspect-budget = inspect-most s colour l budget y .0
 
 -- ---- decode_with_scratch
 

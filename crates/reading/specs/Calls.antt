@@ -1,15 +1,13 @@
 -- What the three calls answer.
-use Prim.Native.Nat.{ℕ, _+_, _*_, _-_, _^_}
-use mathlib.Core.Bool.{Bool, true, false, cond}
+use Prim.Native.Nat.{ℕ, _+_, _*_, _^_}
+use mathlib.Core.Bool.{Bool, true, false, not, cond}
 use mathlib.Core.List.{List, [], _∷_}
-use mathlib.Core.Option.{Option, none, some}
 use lib.Dec.{leb, ltb, eqb}
 use lib.ListN.{length}
 use lib.IntN.{ℤ}
 use Rattle.reading.specs.declared.Refusal.{Refusal}
 use Rattle.reading.specs.declared.Refusal.the-variants.{TooLong, OverBudget, CutShort, Malformed, Unsupported, TooLarge, ShortRoom, NotItsRecord, NoEndCode, Scan}
 use Rattle.reading.specs.declared.Record.{Record}
-use Rattle.reading.specs.declared.Bits.{Bits}
 use Rattle.reading.specs.declared.Limits.{Limits}
 use Rattle.reading.specs.declared.Budget.{Budget}
 use Rattle.reading.specs.declared.Verdict.{Verdict}
@@ -18,8 +16,8 @@ use Rattle.reading.specs.declared.Inspection.{Inspection}
 use Rattle.reading.specs.declared.Decoding.{Decoding}
 use Rattle.reading.specs.declared.Settling.{Settling}
 use Rattle.reading.specs.Tests.{_and_, _or_, over}
-use Rattle.reading.specs.Reader.{Read, got, fault}
-use Rattle.reading.specs.Header.{Stage, more, done, stop, header, noRecord}
+use Rattle.reading.specs.Judging.{Judged, accepts, refuses, Judging, _>>=_, _>>_, give, refuse, refuse-if, pay, give-or, whole}
+use Rattle.reading.specs.Header.{ending, header, noRecord}
 use Rattle.whole.specs.Lists.{from}
 use Rattle.reading.specs.Layout.{channelOf, sampleAt}
 use Rattle.reading.specs.Transform.{coefficients, samples}
@@ -49,55 +47,54 @@ number (Refused x) = numberOf x
 abbrev pub headerPrice : List ℕ → ℕ
 headerPrice s = 2 * length s + 1
 
--- what is known once a file has been inspected
-pub data Outcome : Type 0 where
-  takes : Record → List (List ℤ) → Outcome
-  gives : Refusal → Outcome
+-- ---- inspect
 
--- an outcome, and what was taken from the budget
-pub record Judged : Type 0 where
-  pub outcome : Outcome
-  pub taken : ℕ
+-- number 1: n > input limit, or 2n+1 does not fit 64 bits
+abbrev pub tooLong : List ℕ → Limits → Bool
+tooLong s l = ltb (l .input) (length s) or leb (2 ^ 64) (headerPrice s)
 
-abbrev pub judge : Refusal → ℕ → Judged
-judge x n = record { outcome = gives x; taken = n }
-
+-- number 6: width or height above the side limit, or 64 x blocks or output bytes above the output limit
 abbrev pub tooLarge : Limits → Record → Bool
 tooLarge l r =
     ltb (l .side) (r .width) or ltb (l .side) (r .height) or ltb (l .output) (r .scratch) or ltb (l .output) (r .output)
 
-abbrev pub judgedScan : Record → ℕ → Read Bits (List (List ℤ)) → Judged
-judgedScan r price (got ls b) = record { outcome = takes r ls; taken = price }
-judgedScan r price (fault f) = judge (Scan f) price
+-- Inspect, in order: 1; 2 for 2n+1 (takes 0); the header 3/4/5; 6; 2 for work (2n+1 taken) ..
+abbrev pub admission : List ℕ → Bool → Limits → Judging Record
+admission s colour l = do
+  refuse-if (tooLong s l) TooLong
+  pay (headerPrice s)
+  r ← ending give refuse (header s colour)
+  refuse-if (tooLarge l r) TooLarge
+  pay (r .work)
+  give r
 
-abbrev pub judgedRecord : List ℕ → Limits → ℕ → Record → Judged
-judgedRecord s l budget r =
-    cond (tooLarge l r) (judge TooLarge (headerPrice s))
-    (cond (ltb budget (headerPrice s + r .work)) (judge OverBudget (headerPrice s))
-    (judgedScan r (headerPrice s + r .work) (levels s r)))
+-- what a file has that is judged to its end: its record and the levels of its blocks
+pub record Whole : Type 0 where
+  pub found : Record
+  pub blocks : List (List ℤ)
 
-abbrev pub judgedHeader : List ℕ → Limits → ℕ → Stage → Judged
-judgedHeader s l budget (more h) = judge CutShort (headerPrice s)
-judgedHeader s l budget (done r) = judgedRecord s l budget r
-judgedHeader s l budget (stop x) = judge x (headerPrice s)
+-- .. the scan, 4. Success takes 2n+1+work
+abbrev pub judgement : List ℕ → Bool → Limits → Judging Whole
+judgement s colour l = do
+  r ← admission s colour l
+  ls ← whole (levels s r)
+  give (record { found = r; blocks = ls })
 
--- inspect's tests in order
-abbrev pub judged : List ℕ → Bool → Limits → ℕ → Judged
-judged s colour l budget =
-    cond (ltb (l .input) (length s) or leb (2 ^ 64) (headerPrice s)) (judge TooLong 0)
-    (cond (ltb budget (headerPrice s)) (judge OverBudget 0) (judgedHeader s l budget (header s colour)))
+-- A refusal returns its number and an all-zero record
+abbrev pub inspection : Judged Record → Inspection
+inspection (accepts r left) = record { verdict = Accepted; budget = left; found = r }
+inspection (refuses x left) = record { verdict = Refused x; budget = left; found = noRecord }
 
--- what is left of a budget behind a price
-abbrev pub remaining : Budget → ℕ → Budget
-remaining budget price = record { left = budget .left - price }
-
-abbrev pub inspection : Outcome → Budget → Inspection
-inspection (takes r ls) left = record { verdict = Accepted; budget = left; found = r }
-inspection (gives x) left = record { verdict = Refused x; budget = left; found = noRecord }
+abbrev pub inspecting : List ℕ → Bool → Limits → Judging Record
+inspecting s colour l = do
+  f ← judgement s colour l
+  give (f .found)
 
 unfoldable pub inspect : List ℕ → Bool → Limits → Budget → Inspection
 unfolding header levels
-inspect s colour l budget = let j = judged s colour l (budget .left) in inspection (j .outcome) (remaining budget (j .taken))
+inspect s colour l budget = inspection (inspecting s colour l budget)
+
+-- ---- decode
 
 -- decode's answer with the two buffers
 pub record Decoded : Type 0 where
@@ -137,11 +134,31 @@ sameSizes a b =
 unfoldable pub same : Record → Record → Bool
 same a b = sameFrame a b and sameIds a b and sameTables a b and sameSizes a b
 
+-- number 7 of decode: output or scratch too short, by the record's length fields
+abbrev pub shortRoom : Record → List ℕ → List ℕ → Bool
+shortRoom r out scratch = ltb (length out) (r .output) or ltb (length scratch) (r .scratch)
+
+-- number 8: reading these bytes does not accept them with a record equal in every field
+abbrev pub itsLevels : Record → Reading → Judging (List (List ℤ))
+itsLevels r (accepted q ls) = do
+  refuse-if (not (same q r)) NotItsRecord
+  give ls
+itsLevels r (refused x) = refuse NotItsRecord
+
+-- Decode, in order: 7 by the record's length fields; 2 for 2n+1 + its work field, summed as whole numbers (takes 0); 8, limits set aside
+-- and with the record's colour choice. Success takes that same price
+abbrev pub decoding : List ℕ → Record → List ℕ → List ℕ → Judging (List (List ℤ))
+decoding s r out scratch = do
+  refuse-if (shortRoom r out scratch) ShortRoom
+  pay (headerPrice s + r .work)
+  itsLevels r (reading s (r .colour))
+
+-- Every refusal returns with output and scratch unchanged
 abbrev pub undecoded : Refusal → Budget → List ℕ → List ℕ → Decoded
 undecoded x left out scratch =
     record { answer = record { verdict = Refused x; budget = left }; output = out; scratch = scratch }
 
--- the picture and its block samples, over the old buffers
+-- On success scratch holds the block samples, then its old tail; output holds the picture, then its old tail
 abbrev pub decodedWith : Record → List ℕ → List ℕ → Budget → List ℕ → Decoded
 decodedWith r out scratch left t =
     record {
@@ -150,40 +167,42 @@ decodedWith r out scratch left t =
       scratch = over t scratch;
     }
 
-abbrev pub decodedFrom : List ℕ → Record → List ℕ → List ℕ → Budget → Reading → Decoded
-decodedFrom s r out scratch left (refused x) = undecoded NotItsRecord left out scratch
-decodedFrom s r out scratch left (accepted q ls) =
-    cond (same q r) (decodedWith r out scratch left (allSamples s r ls)) (undecoded NotItsRecord left out scratch)
+abbrev pub decoded : List ℕ → Record → List ℕ → List ℕ → Judged (List (List ℤ)) → Decoded
+decoded s r out scratch (accepts ls left) = decodedWith r out scratch left (allSamples s r ls)
+decoded s r out scratch (refuses x left) = undecoded x left out scratch
 
 unfoldable pub decode : List ℕ → Record → List ℕ → List ℕ → Budget → Decoded
 unfolding header levels same channelOf coefficients samples from sampleAt red green blue
-decode s r out scratch budget =
-    cond (ltb (length out) (r .output) or ltb (length scratch) (r .scratch)) (undecoded ShortRoom budget out scratch)
-    (cond (ltb (budget .left) (headerPrice s + r .work)) (undecoded OverBudget budget out scratch)
-    (decodedFrom s r out scratch (remaining budget (headerPrice s + r .work)) (reading s (r .colour))))
+decode s r out scratch budget = decoded s r out scratch (decoding s r out scratch budget)
+
+-- ---- settle
 
 -- settle's answer with the buffer
 pub record Rewritten : Type 0 where
   pub answer : Settling
   pub output : List ℕ
 
+-- Settle: as inspect, then 9 ..
+abbrev pub settling : List ℕ → Limits → Judging (List ℕ)
+settling s l = do
+  f ← judgement s false l
+  give-or NoEndCode (settledFile s (f .found) (f .blocks))
+
 abbrev pub unsettled : Refusal → Budget → ℕ → List ℕ → Rewritten
 unsettled x left n out =
     record { answer = record { verdict = Refused x; budget = left; length = n }; output = out }
 
-abbrev pub settledInto : List ℕ → Budget → Option (List ℕ) → Rewritten
-settledInto out left none = unsettled NoEndCode left 0 out
-settledInto out left (some t) =
+-- .. then 7, which also returns the length needed; every other refusal returns length 0. Success returns the length and takes inspect's
+-- price; output holds the settled file, then its old tail
+abbrev pub rewritten : List ℕ → Judged (List ℕ) → Rewritten
+rewritten out (accepts t left) =
     cond (ltb (length out) (length t)) (unsettled ShortRoom left (length t) out)
     (record {
       answer = record { verdict = Accepted; budget = left; length = length t };
       output = over t out;
     })
-
-abbrev pub settledFrom : List ℕ → List ℕ → Budget → Outcome → Rewritten
-settledFrom s out left (gives x) = unsettled x left 0 out
-settledFrom s out left (takes r ls) = settledInto out left (settledFile s r ls)
+rewritten out (refuses x left) = unsettled x left 0 out
 
 unfoldable pub settle : List ℕ → Limits → Budget → List ℕ → Rewritten
 unfolding header levels settledScan
-settle s l budget out = let j = judged s false l (budget .left) in settledFrom s out (remaining budget (j .taken)) (j .outcome)
+settle s l budget out = rewritten out (settling s l budget)

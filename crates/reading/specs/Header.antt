@@ -322,8 +322,12 @@ noRecord =
       colour = false;
     }
 
--- the header as the code answers it (the first line is never met: `header-finishes`)
+-- a header ends with its record or with a refusal. (The first line is never met: `header-finishes`)
+abbrev pub ending : {A : Type 0} → (Record → A) → (Refusal → A) → Stage → A
+ending f g (more h) = g CutShort
+ending f g (done r) = f r
+ending f g (stop x) = g x
+
+-- the header as the code answers it
 abbrev pub headed : Stage → Head
-headed (more h) = record { verdict = Refused CutShort; found = noRecord }
-headed (done r) = record { verdict = Accepted; found = r }
-headed (stop x) = record { verdict = Refused x; found = noRecord }
+headed st = ending (λ r. record { verdict = Accepted; found = r }) (λ x. record { verdict = Refused x; found = noRecord }) st

@@ -13,6 +13,9 @@ pub mod Header
 pub mod Scan
 pub mod Reading
 pub mod Settled
+pub mod Judging
 pub mod Calls
+pub mod Prices
+pub mod Files
 pub mod Comments
 pub mod Bench

@@ -6,13 +6,13 @@ use lib.Dec.{ltb, eqb}
 use lib.ListN.{getD, length}
 use lib.IntN.{ℤ}
 use Rattle.reading.specs.declared.Refusal.{Refusal}
-use Rattle.reading.specs.declared.Refusal.the-variants.{CutShort, Scan}
+use Rattle.reading.specs.declared.Refusal.the-variants.{Scan}
 use Rattle.reading.specs.declared.Record.{Record}
 use Rattle.reading.specs.declared.Bits.{Bits}
 use Rattle.reading.specs.Reader.{Read, got, fault}
 use Rattle.whole.specs.Lists.{listOf}
 use Rattle.reading.specs.Tests.{_and_, over}
-use Rattle.reading.specs.Header.{Stage, more, done, stop, header}
+use Rattle.reading.specs.Header.{Stage, ending, header}
 use Rattle.reading.specs.Layout.{channelOf, sampleAt}
 use Rattle.reading.specs.Transform.{coefficients, samples}
 use Rattle.reading.specs.Colour.{colourOf}
@@ -28,11 +28,8 @@ abbrev pub scanned : Record → Read Bits (List (List ℤ)) → Reading
 scanned r (got ls b) = accepted r ls
 scanned r (fault f) = refused (Scan f)
 
--- (the header is never left unfinished: `header-finishes`)
 abbrev pub readFrom : List ℕ → Stage → Reading
-readFrom s (more h) = refused CutShort
-readFrom s (done r) = scanned r (levels s r)
-readFrom s (stop x) = refused x
+readFrom s st = ending (λ r. scanned r (levels s r)) refused st
 
 -- the reading of a file, limits set aside
 abbrev pub reading : List ℕ → Bool → Reading

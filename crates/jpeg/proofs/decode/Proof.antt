@@ -6,9 +6,11 @@ use mathlib.Core.Bool.{Bool, true}
 use lib.Dec.{leb}
 use Rattle.reading.specs.declared.Budget.{Budget}
 use Rattle.reading.specs.Header.{header}
-use Rattle.reading.specs.Calls.{headerPrice, remaining}
+use Rattle.reading.specs.Judging.{remaining}
+use Rattle.reading.specs.Calls.{headerPrice}
+use Rattle.reading.proofs.Judgement.{paid-twice}
 use Rattle.jpeg.specs.Steps.{left, drawnAs}
-use Rattle.jpeg_admission.proofs.Admitted.{price-fits, poor, rich, done-found, stop-verdict, taken-twice}
+use Rattle.jpeg_admission.proofs.Admitted.{price-fits, poor, rich, done-found, stop-verdict}
 use Rattle.jpeg.proofs.Decodes.{roomy-out, roomy-scratch, decode-room, decode-poor, decode-head, decode-drawn}
 use borrow.Author.Needs.{needs}
 use Rattle.jpeg.proofs.decode.Statement.{statement}
@@ -99,7 +101,7 @@ draw-requires c κs =
 
 returns-5 : tie.Need-returns-5
 returns-5 c =
-    ap (λ a. left a (c .before .before .before .before .before .before .before .before .before .before .before .before .before .before .before .before .before .before .before .args .out .now) (c .before .before .before .before .before .before .before .before .before .before .before .before .before .before .before .before .before .before .before .args .scratch .now)) (c .undecoded5 .ensures) ∙ ap (λ b. left (record { verdict = _; budget = b }) (c .before .before .before .before .before .before .before .before .before .before .before .before .before .before .before .before .before .before .before .args .out .now) (c .before .before .before .before .before .before .before .before .before .before .before .before .before .before .before .before .before .before .before .args .scratch .now)) (c .before .before .before .before .before .less2 .ensures ∙ ap (λ b. remaining b (c .before .before .before .before .before .before .before .before .before .before .before .before .before .before .before .before .before .before .before .args .found .work)) (c .before .before .before .before .before .before .before .before .less .ensures ∙ ap (remaining (c .before .before .before .before .before .before .before .before .before .before .before .before .before .before .before .before .before .before .before .args .budget)) (price (c .before .before .before .before .before .before .before .before .before .before .before))) ∙ taken-twice (c .before .before .before .before .before .before .before .before .before .before .before .before .before .before .before .before .before .before .before .args .budget) _ _)
+    ap (λ a. left a (c .before .before .before .before .before .before .before .before .before .before .before .before .before .before .before .before .before .before .before .args .out .now) (c .before .before .before .before .before .before .before .before .before .before .before .before .before .before .before .before .before .before .before .args .scratch .now)) (c .undecoded5 .ensures) ∙ ap (λ b. left (record { verdict = _; budget = b }) (c .before .before .before .before .before .before .before .before .before .before .before .before .before .before .before .before .before .before .before .args .out .now) (c .before .before .before .before .before .before .before .before .before .before .before .before .before .before .before .before .before .before .before .args .scratch .now)) (c .before .before .before .before .before .less2 .ensures ∙ ap (λ b. remaining b (c .before .before .before .before .before .before .before .before .before .before .before .before .before .before .before .before .before .before .before .args .found .work)) (c .before .before .before .before .before .before .before .before .less .ensures ∙ ap (remaining (c .before .before .before .before .before .before .before .before .before .before .before .before .before .before .before .before .before .before .before .args .budget)) (price (c .before .before .before .before .before .before .before .before .before .before .before))) ∙ paid-twice (c .before .before .before .before .before .before .before .before .before .before .before .before .before .before .before .before .before .before .before .args .budget) _ _)
     ∙ decode-head (c .before .before .before .before .before .before .before .before .before .before .before .before .before .before .before .before .before .before .before .args .s .now) (c .before .before .before .before .before .before .before .before .before .before .before .before .before .before .before .before .before .before .before .args .found) (c .before .before .before .before .before .before .before .before .before .before .before .before .before .before .before .before .before .before .before .args .out .now) (c .before .before .before .before .before .before .before .before .before .before .before .before .before .before .before .before .before .before .before .args .scratch .now) (c .before .before .before .before .before .before .before .before .before .before .before .before .before .before .before .before .before .before .before .args .budget) (sym (c .before .before .before .before .before .before .before .before .before .before .before .before .before .before .before .short-room .ensures) ∙ c .before .before .before .before .before .before .before .before .before .before .before .before .before .before .if1 .left) (enough _ _ _ (rich _ _ _ _ (price (c .before .before .before .before .before .before .before .before .before .before .before)) (c .before .before .before .before .before .before .before .before .before .before .covers .ensures) (c .before .before .before .before .before .before .before .before .before .if3 .left)) (c .before .before .before .before .before .before .before .before .less .ensures) (price (c .before .before .before .before .before .before .before .before .before .before .before)) (rich _ _ _ _ refl (c .before .before .before .before .before .before .before .covers2 .ensures) (c .before .before .before .before .before .before .if4 .left))) _ (stop-verdict (header (c .before .before .before .before .before .before .before .before .before .before .before .before .before .before .before .before .before .before .before .args .s .now) (c .before .before .before .before .before .before .before .before .before .before .before .before .before .before .before .before .before .before .before .args .found .colour)) _ _ (c .before .before .before .before .header .ensures) (c .before .enum-told .given .1))
 
 same-length : tie.Need-same-length
@@ -110,7 +112,7 @@ same-length-2 c = search needs
 
 returns-6 : tie.Need-returns-6
 returns-6 c =
-    c .before .before .before .before .draw .ensures ∙ ap (λ b. drawnAs (c .before .before .before .before .before .before .before .before .before .before .before .before .before .before .before .before .before .before .before .before .before .before .before .before .before .args .s .now) (c .before .before .before .before .before .before .before .before .before .before .header .result .found) (c .before .before .before .before .before .before .before .before .before .before .before .before .before .before .before .before .before .before .before .before .before .before .before .before .before .args .found) (c .before .before .before .before .before .before .before .before .before .before .before .before .before .before .before .before .before .before .before .before .before .before .before .before .before .args .out .now) (c .before .before .before .before .before .before .before .before .before .before .before .before .before .before .before .before .before .before .before .before .before .before .before .before .before .args .scratch .now) b) (c .before .before .before .before .before .before .before .before .before .before .before .less2 .ensures ∙ ap (λ b. remaining b (c .before .before .before .before .before .before .before .before .before .before .before .before .before .before .before .before .before .before .before .before .before .before .before .before .before .args .found .work)) (c .before .before .before .before .before .before .before .before .before .before .before .before .before .before .less .ensures ∙ ap (remaining (c .before .before .before .before .before .before .before .before .before .before .before .before .before .before .before .before .before .before .before .before .before .before .before .before .before .args .budget)) (price (c .before .before .before .before .before .before .before .before .before .before .before .before .before .before .before .before .before))) ∙ taken-twice (c .before .before .before .before .before .before .before .before .before .before .before .before .before .before .before .before .before .before .before .before .before .before .before .before .before .args .budget) _ _)
+    c .before .before .before .before .draw .ensures ∙ ap (λ b. drawnAs (c .before .before .before .before .before .before .before .before .before .before .before .before .before .before .before .before .before .before .before .before .before .before .before .before .before .args .s .now) (c .before .before .before .before .before .before .before .before .before .before .header .result .found) (c .before .before .before .before .before .before .before .before .before .before .before .before .before .before .before .before .before .before .before .before .before .before .before .before .before .args .found) (c .before .before .before .before .before .before .before .before .before .before .before .before .before .before .before .before .before .before .before .before .before .before .before .before .before .args .out .now) (c .before .before .before .before .before .before .before .before .before .before .before .before .before .before .before .before .before .before .before .before .before .before .before .before .before .args .scratch .now) b) (c .before .before .before .before .before .before .before .before .before .before .before .less2 .ensures ∙ ap (λ b. remaining b (c .before .before .before .before .before .before .before .before .before .before .before .before .before .before .before .before .before .before .before .before .before .before .before .before .before .args .found .work)) (c .before .before .before .before .before .before .before .before .before .before .before .before .before .before .less .ensures ∙ ap (remaining (c .before .before .before .before .before .before .before .before .before .before .before .before .before .before .before .before .before .before .before .before .before .before .before .before .before .args .budget)) (price (c .before .before .before .before .before .before .before .before .before .before .before .before .before .before .before .before .before))) ∙ paid-twice (c .before .before .before .before .before .before .before .before .before .before .before .before .before .before .before .before .before .before .before .before .before .before .before .before .before .args .budget) _ _)
     ∙ decode-drawn (c .before .before .before .before .before .before .before .before .before .before .before .before .before .before .before .before .before .before .before .before .before .before .before .before .before .args .s .now) (c .before .before .before .before .before .before .before .before .before .before .before .before .before .before .before .before .before .before .before .before .before .before .before .before .before .args .found) (c .before .before .before .before .before .before .before .before .before .before .before .before .before .before .before .before .before .before .before .before .before .before .before .before .before .args .out .now) (c .before .before .before .before .before .before .before .before .before .before .before .before .before .before .before .before .before .before .before .before .before .before .before .before .before .args .scratch .now) (c .before .before .before .before .before .before .before .before .before .before .before .before .before .before .before .before .before .before .before .before .before .before .before .before .before .args .budget) (sym (c .before .before .before .before .before .before .before .before .before .before .before .before .before .before .before .before .before .before .before .before .before .short-room .ensures) ∙ c .before .before .before .before .before .before .before .before .before .before .before .before .before .before .before .before .before .before .before .before .if1 .left) (enough _ _ _ (rich _ _ _ _ (price (c .before .before .before .before .before .before .before .before .before .before .before .before .before .before .before .before .before)) (c .before .before .before .before .before .before .before .before .before .before .before .before .before .before .before .before .covers .ensures) (c .before .before .before .before .before .before .before .before .before .before .before .before .before .before .before .if3 .left)) (c .before .before .before .before .before .before .before .before .before .before .before .before .before .before .less .ensures) (price (c .before .before .before .before .before .before .before .before .before .before .before .before .before .before .before .before .before)) (rich _ _ _ _ refl (c .before .before .before .before .before .before .before .before .before .before .before .before .before .covers2 .ensures) (c .before .before .before .before .before .before .before .before .before .before .before .before .if4 .left))) _ (done-found (header (c .before .before .before .before .before .before .before .before .before .before .before .before .before .before .before .before .before .before .before .before .before .before .before .before .before .args .s .now) (c .before .before .before .before .before .before .before .before .before .before .before .before .before .before .before .before .before .before .before .before .before .before .before .before .before .args .found .colour)) _ (c .before .before .before .before .before .before .before .before .before .before .header .ensures) (c .before .before .before .before .before .before .before .enum-told2 .given .1))
 
 pub decode-spec : {M : Type 1} → statement M

@@ -1,5 +1,4 @@
 use mathlib.Core.Path.{_∙_}
-use mathlib.Core.List.{[]}
 use native.Mathlib.Omega.{arith}
 use Rattle.reading.proofs.FileBytes.{all-bytes}
 use Rattle.jpeg_admission.proofs.Admitted.{stops, goes}
@@ -39,7 +38,7 @@ returns-2 : tie.Need-returns-2
 returns-2 c = c .refused2 .ensures ∙ inspect-fault (c .before .before .before .before .before .before .before .before .before .before .before .args .s .now) (c .before .before .before .before .before .before .before .before .before .before .before .args .colour) (c .before .before .before .before .before .before .before .before .before .before .before .args .limits) (c .before .before .before .before .before .before .before .before .before .before .before .args .budget) (goes (c .before .before .before .before .before .before .before .before .before .before .before .args .s .now) (c .before .before .before .before .before .before .before .before .before .before .before .args .colour) (c .before .before .before .before .before .before .before .before .before .before .before .args .limits) (c .before .before .before .before .before .before .before .before .before .before .before .args .budget) (c .before .before .before .before .before .before .before .before .before .admit .ensures) (c .before .before .before .before .before .enum-told .given .1)) (all-bytes (c .before .before .before .before .before .before .before .before .before .before .before .args .s .now) (λ i. omega (arith, c .before .before .before .before .before .before .before .before .before .before .shared-slice-known .given i))) _ (c .before .before .before .before .validate .ensures) (c .before .before .f .given .1)
 
 returns-3 : tie.Need-returns-3
-returns-3 c = inspect-done (c .before .before .before .before .before .before .before .before .before .args .s .now) (c .before .before .before .before .before .before .before .before .before .args .colour) (c .before .before .before .before .before .before .before .before .before .args .limits) (c .before .before .before .before .before .before .before .before .before .args .budget) (goes (c .before .before .before .before .before .before .before .before .before .args .s .now) (c .before .before .before .before .before .before .before .before .before .args .colour) (c .before .before .before .before .before .before .before .before .before .args .limits) (c .before .before .before .before .before .before .before .before .before .args .budget) (c .before .before .before .before .before .before .before .admit .ensures) (c .before .before .before .enum-told .given .1)) (all-bytes (c .before .before .before .before .before .before .before .before .before .args .s .now) (λ i. omega (arith, c .before .before .before .before .before .before .before .before .shared-slice-known .given i))) _ (c .before .before .validate .ensures) (c .enum-told2 .given .1) []
+returns-3 c = inspect-done (c .before .before .before .before .before .before .before .before .before .args .s .now) (c .before .before .before .before .before .before .before .before .before .args .colour) (c .before .before .before .before .before .before .before .before .before .args .limits) (c .before .before .before .before .before .before .before .before .before .args .budget) (goes (c .before .before .before .before .before .before .before .before .before .args .s .now) (c .before .before .before .before .before .before .before .before .before .args .colour) (c .before .before .before .before .before .before .before .before .before .args .limits) (c .before .before .before .before .before .before .before .before .before .args .budget) (c .before .before .before .before .before .before .before .admit .ensures) (c .before .before .before .enum-told .given .1)) (all-bytes (c .before .before .before .before .before .before .before .before .before .args .s .now) (λ i. omega (arith, c .before .before .before .before .before .before .before .before .shared-slice-known .given i))) _ (c .before .before .validate .ensures) (c .enum-told2 .given .1)
 
 pub inspect-spec : {M : Type 1} → statement M
 inspect-spec =

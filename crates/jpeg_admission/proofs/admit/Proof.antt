@@ -1,6 +1,7 @@
 use mathlib.Core.Path.{_≡_, sym, ap, _∙_}
 use Rattle.reading.specs.Header.{header}
-use Rattle.reading.specs.Calls.{headerPrice, gives, inspection, remaining}
+use Rattle.reading.specs.Judging.{refuses, remaining}
+use Rattle.reading.specs.Calls.{headerPrice, inspection}
 use Rattle.jpeg_admission.specs.Admission.{weighed}
 use Rattle.jpeg_admission.proofs.Admitted.{poor, rich, done-found, stop-verdict, admitted-long, admitted-price, admitted-poor, admitted-head, admitted-record}
 use borrow.Author.Needs.{needs}
@@ -52,7 +53,7 @@ weigh-requires c κs = search needs
 
 returns-3 : tie.Need-returns-3
 returns-3 c =
-    c .refused3 .ensures ∙ ap (inspection (gives _)) (c .before .before .before .before .before .before .less .ensures ∙ ap (remaining (c .before .before .before .before .before .before .before .before .before .before .before .before .before .args .budget)) (price (c .before .before .before .before .before .before .before .before .before)))
+    c .refused3 .ensures ∙ ap (λ b. inspection (refuses (c .before .before .verdict .given .0 .0) b)) (c .before .before .before .before .before .before .less .ensures ∙ ap (remaining (c .before .before .before .before .before .before .before .before .before .before .before .before .before .args .budget)) (price (c .before .before .before .before .before .before .before .before .before)))
     ∙ admitted-head (c .before .before .before .before .before .before .before .before .before .before .before .before .before .args .s .now) (c .before .before .before .before .before .before .before .before .before .before .before .before .before .args .colour) (c .before .before .before .before .before .before .before .before .before .before .before .before .before .args .limits) (c .before .before .before .before .before .before .before .before .before .before .before .before .before .args .budget) (sym (c .before .before .before .before .before .before .before .before .before .before .before .too-long .ensures) ∙ c .before .before .before .before .before .before .before .before .before .before .if1 .left) (rich _ _ _ _ (price (c .before .before .before .before .before .before .before .before .before)) (c .before .before .before .before .before .before .before .before .covers .ensures) (c .before .before .before .before .before .before .before .if2 .left)) _
     (stop-verdict (header (c .before .before .before .before .before .before .before .before .before .before .before .before .before .args .s .now) (c .before .before .before .before .before .before .before .before .before .before .before .before .before .args .colour)) _ _ (c .before .before .before .before .before .header .ensures) (c .before .before .verdict .given .1))
 

@@ -1,5 +1,6 @@
 use mathlib.Core.Path.{ap, _∙_}
-use Rattle.jpeg_admission.specs.Admission.{admission}
+use Rattle.reading.specs.Judging.{accepts}
+use Rattle.reading.specs.Calls.{inspection}
 use Rattle.jpeg_admission.proofs.Admitted.{weighed-large, weighed-poor, weighed-well}
 use borrow.Author.Needs.{needs}
 use Rattle.jpeg_admission.proofs.weigh.Statement.{statement}
@@ -27,7 +28,7 @@ less-requires : tie.Need-less-requires
 less-requires c κs = search needs
 
 returns-3 : tie.Need-returns-3
-returns-3 c = ap (admission (c .before .before .before .before .before .args .found)) (c .less .ensures) ∙ weighed-well (c .before .before .before .before .before .args .limits) (c .before .before .before .before .before .args .left) (c .before .before .before .before .before .args .found) _ (c .before .before .before .before .too-large .ensures) (c .before .before .before .if1 .left) _ (c .before .before .covers .ensures) (c .before .if2 .left)
+returns-3 c = ap (λ b. inspection (accepts (c .before .before .before .before .before .args .found) b)) (c .less .ensures) ∙ weighed-well (c .before .before .before .before .before .args .limits) (c .before .before .before .before .before .args .left) (c .before .before .before .before .before .args .found) _ (c .before .before .before .before .too-large .ensures) (c .before .before .before .if1 .left) _ (c .before .before .covers .ensures) (c .before .if2 .left)
 
 pub weigh-spec : {M : Type 1} → statement M
 weigh-spec =
