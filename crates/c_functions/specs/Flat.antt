@@ -9,7 +9,7 @@ use Rattle.reading.specs.declared.Budget.{Budget}
 use Rattle.reading.specs.declared.Inspection.{Inspection}
 use Rattle.reading.specs.declared.Part.{Part}
 use Rattle.reading.specs.declared.Presence.{Presence}
-use Rattle.reading.specs.declared.Refusal.the-variants.{ShortRoom, NotItsRecord}
+use Rattle.reading.specs.declared.Refusal.the-variants.{OverBudget, ShortRoom, NotItsRecord}
 use Rattle.reading.specs.Tests.{_or_}
 use Rattle.reading.specs.Header.{noRecord}
 use Rattle.reading.specs.Judging.{Judging, _>>_, refuse, refuse-if, pay}
@@ -32,7 +32,7 @@ inspected q = record { number = calls.number (q .verdict); left = q .budget .lef
 abbrev pub refusing : List ℕ → FlatRecord → List ℕ → List ℕ → Judging (List (List ℤ))
 refusing s f out scratch = do
   refuse-if (ltb (length out) (f .output) or ltb (length scratch) (f .scratch)) ShortRoom
-  pay (calls.headerPrice s + f .work)
+  pay (calls.headerPrice s + f .work) OverBudget
   refuse NotItsRecord
 
 abbrev pub notItsRecord : List ℕ → FlatRecord → List ℕ → List ℕ → Budget → calls.Decoded

@@ -17,7 +17,7 @@ use Rattle.reading.specs.declared.ScanRead.the-variants.{Done, Stop}
 use Rattle.reading.specs.Answers.{scanRead}
 use Rattle.reading.specs.Reader.{Read}
 use Rattle.reading.specs.Scan.{levels, readable, scanOf}
-use Rattle.reading.specs.Judging.{Judged, accepts, refuses, onward, give, whole}
+use Rattle.reading.specs.Judging.{Judged, accepts, refuses, onward, give, unbroken}
 use Rattle.reading.specs.Calls.{admission, inspection, inspect}
 use Rattle.reading.proofs.FileBytes.{AllBytes}
 use Rattle.reading.proofs.ScanAnswers as E
@@ -31,7 +31,7 @@ abbrev answer : List ℕ → Judged Record → Inspection
 answer s m = foundIn (onward m (scanBehind s))
 
 abbrev read : Record → Budget → Read Bits (List (List ℤ)) → Inspection
-read r rest o = foundIn (onward (whole o rest) (λ ls. give (record { found = r; blocks = ls })))
+read r rest o = foundIn (onward (unbroken o rest) (λ ls. give (record { found = r; blocks = ls })))
 
 module _ (s : List ℕ) (colour : Bool) (l : Limits) (budget : Budget) {rest : Budget} where
   pub inspect-stops : {x : Refusal} → admission s colour l budget ≡ refuses x rest → inspection (refuses x rest) ≡ inspect s colour l budget

@@ -17,7 +17,7 @@ use Rattle.reading.specs.Reader.{Read, got, fault}
 use Rattle.reading.specs.Header.{done, header}
 use Rattle.reading.specs.Scan.{levels, planOf}
 use Rattle.reading.specs.Settled.{settledRead, settledOf}
-use Rattle.reading.specs.Judging.{Judged, refuses, onward, give, whole}
+use Rattle.reading.specs.Judging.{Judged, refuses, onward, give, unbroken}
 use Rattle.reading.specs.Calls.{admission, Rewritten, rewritten, settle}
 use Rattle.reading.proofs.FileBytes.{AllBytes}
 use Rattle.reading.proofs.Accepted as H
@@ -57,6 +57,6 @@ module _ (s : List ℕ) (l : Limits) (budget : Budget) (out : List ℕ) {rest : 
         refiled-is s r rest out (omega (arith, z .counted)) ∙ ap (refiledBy s r rest out) (settled-is s y r (z .head)) ∙ go (levels s r)
         ∙ sym (ap (answer s out) (z .is))
       where
-        go : (x : Read Bits (List (List ℤ))) → refiledBy s r rest out (settledRead (planOf s r) x) ≡ rewritten out (onward (onward (whole x rest) (λ ls. give (record { found = r; blocks = ls }))) (fileOf s))
+        go : (x : Read Bits (List (List ℤ))) → refiledBy s r rest out (settledRead (planOf s r) x) ≡ rewritten out (onward (onward (unbroken x rest) (λ ls. give (record { found = r; blocks = ls }))) (fileOf s))
         go (got ls b) = refl
         go (fault f) = refl

@@ -18,7 +18,8 @@ use Rattle.reading.specs.declared.Verdict.the-variants.{Accepted}
 use Rattle.reading.specs.Reading.{reading}
 use Rattle.reading.specs.Calls.{headerPrice, inspect, Decoded, decode, Rewritten, settle}
 use Rattle.reading.specs.Files.{headIn, coefficientsIn, settledIn}
-use Rattle.reading.proofs.Judgement.{Enough, inspect-accepts}
+use Rattle.reading.specs.Words.{Enough}
+use Rattle.reading.proofs.Judgement.{inspect-accepts}
 use Rattle.reading.proofs.SettledCalls.{SettledBy, settled-by, settledBytes, bytes-are, bytes-settled, settled-reads, settled-again, settled-decodes, one-picture-one-file}
 use Rattle.jpeg_rewrite.specs.Refiled.{remade}
 use Rattle.jpeg.specs.Steps as steps

@@ -13,16 +13,16 @@ use Rattle.reading.specs.declared.Inspection.{Inspection}
 use Rattle.reading.specs.declared.Limits.{Limits}
 use Rattle.reading.specs.declared.Record.{Record}
 use Rattle.reading.specs.declared.Refusal.{Refusal}
-use Rattle.reading.specs.declared.Refusal.the-variants.{TooLong, OverBudget, CutShort, TooLarge}
+use Rattle.reading.specs.declared.Refusal.the-variants.{TooLong, OverBudget, CutShort, TooLarge, WorkOverBudget}
 use Rattle.reading.specs.declared.Verdict.{Verdict}
 use Rattle.reading.specs.declared.Verdict.the-variants.{Accepted, Refused}
 use Rattle.reading.specs.Header.{Stage, more, done, stop, header, headed, ending}
 use Rattle.reading.specs.Judging.{Judged, accepts, refuses, onward, give, refuse, remaining}
-use Rattle.reading.specs.Calls.{headerPrice, tooLong, tooLarge, admission, inspection}
+use Rattle.reading.specs.Calls.{headerPrice, tooLong, tooLarge, weighing, admission, inspection}
 use Rattle.reading.proofs.Judgement.{not-long, Way, long, poor-for-work, headless, large, admitted, way}
 use Rattle.reading.proofs.Judgement as judgement
 use Rattle.jpeg_admission.specs.Admission as spec
-use Rattle.jpeg_admission.specs.Admission.{fittedPrice, weighing, weighed}
+use Rattle.jpeg_admission.specs.Admission.{fittedPrice, weighed}
 
 -- ---- what the header's answer says of its stage
 
@@ -73,7 +73,7 @@ module _ (l : Limits) (left : Budget) (r : Record) (t1 : Bool) (e1 : t1 ≡ tooL
   weighed-large p = rw (sym e1 ∙ p) refl
 
   module _ (f1 : t1 ≡ false) (t2 : Bool) (e2 : t2 ≡ leb (r .work) (left .left)) where
-    pub weighed-poor : not t2 ≡ true → inspection (refuses OverBudget left) ≡ weighed l left r
+    pub weighed-poor : not t2 ≡ true → inspection (refuses WorkOverBudget left) ≡ weighed l left r
     unfolding weighed
     weighed-poor p = rw (sym e1 ∙ f1, lt-ltb (left .left) (r .work) (poor (r .work) (r .work) (left .left) t2 refl e2 p)) refl
 

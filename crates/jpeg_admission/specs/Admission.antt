@@ -7,22 +7,14 @@ use Rattle.reading.specs.declared.Budget.{Budget}
 use Rattle.reading.specs.declared.Inspection.{Inspection}
 use Rattle.reading.specs.declared.Limits.{Limits}
 use Rattle.reading.specs.declared.Record.{Record}
-use Rattle.reading.specs.declared.Refusal.the-variants.{TooLarge}
 use Rattle.reading.specs.Header.{header}
-use Rattle.reading.specs.Judging.{Judging, _>>_, give, refuse-if, pay}
-use Rattle.reading.specs.Calls.{tooLarge, admission, inspection}
+use Rattle.reading.specs.Calls.{weighing, admission, inspection}
 
 -- the header's price of n bytes: 2n + 1, or where that does not fit 64 bits the largest number that does
 unfoldable pub fittedPrice : ℕ → ℕ
 fittedPrice n = cond (leb (2 ^ 64) (2 * n + 1)) (2 ^ 64 - 1) (2 * n + 1)
 
 -- behind the header: 6, then 2 for work
-abbrev pub weighing : Limits → Record → Judging Record
-weighing l r = do
-  refuse-if (tooLarge l r) TooLarge
-  pay (r .work)
-  give r
-
 unfoldable pub weighed : Limits → Budget → Record → Inspection
 weighed l left r = inspection (weighing l r left)
 

@@ -78,7 +78,7 @@ fn weigh(limits: Limits, left: Budget, found: Record) -> Inspection
     }
     let work = found.work;
     if !left.covers(work) {
-        return refused(Refusal::OverBudget, left);
+        return refused(Refusal::WorkOverBudget, left);
     }
     let rest = left.less(work);
     Inspection {

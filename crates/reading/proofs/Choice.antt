@@ -20,20 +20,12 @@ use Rattle.reading.specs.Reader.{Read, got, fault}
 use Rattle.reading.specs.Header.{Stage, more, done, stop, refuse-if, byte, word, window, moved, frame, scan, kindOf, segment, segmentEnd, marker, stepIn, step, steps, opens, opening, started, header}
 use Rattle.reading.specs.Scan.{levels}
 use Rattle.reading.specs.Reading.{Reading, accepted, refused, reading, readFrom, scanned}
-
--- a record with another choice
-abbrev pub recolour : Bool → Record → Record
-recolour c r =
-    record { width = r .width; height = r .height; channels = r .channels; hs = r .hs; vs = r .vs; ids = r .ids; qids = r .qids; dcids = r .dcids; acids = r .acids; quants = r .quants; dcs = r .dcs; acs = r .acs; interval = r .interval; start = r .start; blocks = r .blocks; scratch = r .scratch; output = r .output; work = r .work; colour = c }
+pub use Rattle.reading.specs.Words.{recolour, reread}
 
 abbrev pub restage : Bool → Stage → Stage
 restage c (more h) = more h
 restage c (done r) = done (recolour c r)
 restage c (stop x) = stop x
-
-abbrev pub reread : Bool → Reading → Reading
-reread c (accepted r ls) = accepted (recolour c r) ls
-reread c (refused x) = refused x
 
 module _ (c d : Bool) where
   through : (t : Bool) (x : Refusal) (u v : Stage) → u ≡ restage c v → refuse-if t x u ≡ restage c (refuse-if t x v)

@@ -25,11 +25,12 @@ use Rattle.reading.specs.Tests.{_or_, over}
 use Rattle.reading.specs.Reading.{Reading, accepted, refused, reading, allSamples, pixel, picture}
 use Rattle.reading.specs.Judging.{Judged, accepts, refuses, give, remaining}
 use Rattle.reading.specs.Calls.{number, headerPrice, same, shortRoom, itsLevels, decoding, Decoded, decodedWith, decoded, decode}
+use Rattle.reading.specs.Words.{Not, ReadsAs, Roomy}
 use Rattle.reading.proofs.HeaderEnds.{or-left, or-right, is-so}
 use Rattle.reading.proofs.FileBytes.{AllBytes}
 use Rattle.reading.proofs.Equal.{records-equal, same-self}
 use Rattle.reading.proofs.Demand3.{taken-apart, accepted-record}
-use Rattle.reading.proofs.Judgement.{tested, charged, ReadsAs}
+use Rattle.reading.proofs.Judgement.{tested, charged}
 use Rattle.reading.proofs.Counted.{samples-counted}
 use Rattle.reading.proofs.States.{header-fits}
 
@@ -50,7 +51,7 @@ module _ (s : List ℕ) (r : Record) (out scratch : List ℕ) (budget : Budget) 
   pub record Drawn (d : Decoded) : Type 0 where
     pub blocks : List (List ℤ)
     pub read : reading s (r .colour) ≡ accepted r blocks
-    pub room : (r .output ≤ length out) × (r .scratch ≤ length scratch)
+    pub room : Roomy r out scratch
     pub paid : price ≤ budget .left
     pub left : d .answer .budget ≡ remaining budget price
     pub picture-is : d .output ≡ over (picture r (allSamples s r blocks)) out
@@ -66,24 +67,20 @@ module _ (s : List ℕ) (r : Record) (out scratch : List ℕ) (budget : Budget) 
 
   -- ---- the ways of decode, in the order of the tests
 
-  -- room for what the record says
-  abbrev pub Roomy : Type 0
-  Roomy = (r .output ≤ length out) × (r .scratch ≤ length scratch)
-
   -- reading these bytes with the record's colour choice accepts them with this very record
   abbrev pub ItsRecord : Type 0
   ItsRecord = ReadsAs s (r .colour) r
 
   pub data Way : Judged (List (List ℤ)) → Type 0 where
-    short : (Roomy → ⊥) → Way (refuses ShortRoom budget)
-    poor : Roomy → budget .left < price → Way (refuses OverBudget budget)
-    other : Roomy → price ≤ budget .left → (ItsRecord → ⊥) → Way (refuses NotItsRecord (remaining budget price))
-    its : (ls : List (List ℤ)) → Roomy → price ≤ budget .left → reading s (r .colour) ≡ accepted r ls → Way (accepts ls (remaining budget price))
+    short : Not (Roomy r out scratch) → Way (refuses ShortRoom budget)
+    poor : Roomy r out scratch → budget .left < price → Way (refuses OverBudget budget)
+    other : Roomy r out scratch → price ≤ budget .left → Not ItsRecord → Way (refuses NotItsRecord (remaining budget price))
+    its : (ls : List (List ℤ)) → Roomy r out scratch → price ≤ budget .left → reading s (r .colour) ≡ accepted r ls → Way (accepts ls (remaining budget price))
 
-  roomy : shortRoom r out scratch ≡ false → Roomy
+  roomy : shortRoom r out scratch ≡ false → Roomy r out scratch
   roomy t = (ltb-false (length out) (r .output) (or-left (ltb (length out) (r .output)) _ t), ltb-false (length scratch) (r .scratch) (or-right (ltb (length out) (r .output)) _ t))
 
-  not-roomy : shortRoom r out scratch ≡ true → Roomy → ⊥
+  not-roomy : shortRoom r out scratch ≡ true → Not (Roomy r out scratch)
   not-roomy t (a, b) = subst (λ q. T (cond q false true)) (sym enough ∙ t) tt
     where
       enough : shortRoom r out scratch ≡ false
@@ -93,7 +90,7 @@ module _ (s : List ℕ) (r : Record) (out scratch : List ℕ) (budget : Budget) 
   is-accepted (accepted q ls) = Unit {0}
   is-accepted (refused x) = ⊥
 
-  record-way : Roomy → price ≤ budget .left → (x : Reading) → reading s (r .colour) ≡ x → Way (itsLevels r x (remaining budget price))
+  record-way : Roomy r out scratch → price ≤ budget .left → (x : Reading) → reading s (r .colour) ≡ x → Way (itsLevels r x (remaining budget price))
   unfolding is-accepted
   record-way room paid (refused x) e = other room paid (λ z. subst is-accepted (sym (z .1) ∙ e) tt)
   record-way room paid (accepted q ls) e =
@@ -107,7 +104,7 @@ module _ (s : List ℕ) (r : Record) (out scratch : List ℕ) (budget : Budget) 
   pub way : Way (decoding s r out scratch budget)
   way =
       tested Way (shortRoom r out scratch) ShortRoom budget _ (λ t. short (not-roomy t))
-      (λ t. charged Way price budget _ (poor (roomy t)) (λ u. record-way (roomy t) u (reading s (r .colour)) refl))
+      (λ t. charged Way price OverBudget budget _ (poor (roomy t)) (λ u. record-way (roomy t) u (reading s (r .colour)) refl))
 
   abbrev pub Says : Verdict → Decoded → Type 0
   Says Accepted d = Drawn d
@@ -133,32 +130,54 @@ module _ (s : List ℕ) (r : Record) (out scratch : List ℕ) (budget : Budget) 
   isRefused (Refused x) = Unit {0}
 
   -- Accepted exactly when room and budget suffice and the reading accepts with this very record
-  pub decode-accepts : decode s r out scratch budget .answer .verdict ≡ Accepted ↔ Roomy × (price ≤ budget .left) × ItsRecord
+  pub decode-accepts : decode s r out scratch budget .answer .verdict ≡ Accepted ↔ Roomy r out scratch × (price ≤ budget .left) × ItsRecord
   unfolding decode
   decode-accepts = go (decoding s r out scratch budget) way
     where
-      go : (m : Judged (List (List ℤ))) → Way m → decoded s r out scratch m .answer .verdict ≡ Accepted ↔ Roomy × (price ≤ budget .left) × ItsRecord
+      go : (m : Judged (List (List ℤ))) → Way m → decoded s r out scratch m .answer .verdict ≡ Accepted ↔ Roomy r out scratch × (price ≤ budget .left) × ItsRecord
       go m (short n) = (λ v. absurd (subst isRefused v tt), λ k. absurd (n (k .0)))
       go m (poor a p) = (λ v. absurd (subst isRefused v tt), λ k. let z : ⊥ = omega (arith, p, k .1) in absurd z)
       go m (other a p n) = (λ v. absurd (subst isRefused v tt), λ k. absurd (n (k .2)))
       go m (its ls a p e) = (λ v. (a, p, (ls, e)), λ k. refl)
 
-  abbrev is8 : Verdict → Type 0
-  is8 v = T (eqb (number v) 8)
+  abbrev numbered : ℕ → Verdict → Type 0
+  numbered n v = T (eqb (number v) n)
+
+  -- 7 exactly when a buffer is too short
+  pub decode-seven : decode s r out scratch budget .answer .verdict ≡ Refused ShortRoom ↔ Not (Roomy r out scratch)
+  unfolding decode
+  decode-seven = go (decoding s r out scratch budget) way
+    where
+      go : (m : Judged (List (List ℤ))) → Way m → decoded s r out scratch m .answer .verdict ≡ Refused ShortRoom ↔ Not (Roomy r out scratch)
+      go m (short n) = (λ v. n, λ k. refl)
+      go m (poor a p) = (λ v. absurd (subst⁻¹ (numbered 7) v tt), λ k. absurd (k a))
+      go m (other a p n) = (λ v. absurd (subst⁻¹ (numbered 7) v tt), λ k. absurd (k a))
+      go m (its ls a p e) = (λ v. absurd (subst⁻¹ (numbered 7) v tt), λ k. absurd (k a))
+
+  -- 2 exactly when there is room and the budget is below the price
+  pub decode-two : decode s r out scratch budget .answer .verdict ≡ Refused OverBudget ↔ Roomy r out scratch × (budget .left < price)
+  unfolding decode
+  decode-two = go (decoding s r out scratch budget) way
+    where
+      go : (m : Judged (List (List ℤ))) → Way m → decoded s r out scratch m .answer .verdict ≡ Refused OverBudget ↔ Roomy r out scratch × (budget .left < price)
+      go m (short n) = (λ v. absurd (subst⁻¹ (numbered 2) v tt), λ k. absurd (n (k .0)))
+      go m (poor a p) = (λ v. (a, p), λ k. refl)
+      go m (other a p n) = (λ v. absurd (subst⁻¹ (numbered 2) v tt), λ k. let z : ⊥ = omega (arith, p, k .1) in absurd z)
+      go m (its ls a p e) = (λ v. absurd (subst⁻¹ (numbered 2) v tt), λ k. let z : ⊥ = omega (arith, p, k .1) in absurd z)
 
   -- 8 exactly when room and budget suffice and it does not
-  pub decode-eight : decode s r out scratch budget .answer .verdict ≡ Refused NotItsRecord ↔ Roomy × (price ≤ budget .left) × (ItsRecord → ⊥)
+  pub decode-eight : decode s r out scratch budget .answer .verdict ≡ Refused NotItsRecord ↔ Roomy r out scratch × (price ≤ budget .left) × Not ItsRecord
   unfolding decode
   decode-eight = go (decoding s r out scratch budget) way
     where
-      go : (m : Judged (List (List ℤ))) → Way m → decoded s r out scratch m .answer .verdict ≡ Refused NotItsRecord ↔ Roomy × (price ≤ budget .left) × (ItsRecord → ⊥)
-      go m (short n) = (λ v. absurd (subst⁻¹ is8 v tt), λ k. absurd (n (k .0)))
-      go m (poor a p) = (λ v. absurd (subst⁻¹ is8 v tt), λ k. let z : ⊥ = omega (arith, p, k .1) in absurd z)
+      go : (m : Judged (List (List ℤ))) → Way m → decoded s r out scratch m .answer .verdict ≡ Refused NotItsRecord ↔ Roomy r out scratch × (price ≤ budget .left) × Not ItsRecord
+      go m (short n) = (λ v. absurd (subst⁻¹ (numbered 8) v tt), λ k. absurd (n (k .0)))
+      go m (poor a p) = (λ v. absurd (subst⁻¹ (numbered 8) v tt), λ k. let z : ⊥ = omega (arith, p, k .1) in absurd z)
       go m (other a p n) = (λ v. (a, p, n), λ k. refl)
-      go m (its ls a p e) = (λ v. absurd (subst⁻¹ is8 v tt), λ k. absurd (k .2 (ls, e)))
+      go m (its ls a p e) = (λ v. absurd (subst⁻¹ (numbered 8) v tt), λ k. absurd (k .2 (ls, e)))
 
   -- what is accepted is drawn
-  pub decodes : (ls : List (List ℤ)) → reading s (r .colour) ≡ accepted r ls → Roomy → price ≤ budget .left → decode s r out scratch budget ≡ decodedWith r out scratch (remaining budget price) (allSamples s r ls)
+  pub decodes : (ls : List (List ℤ)) → reading s (r .colour) ≡ accepted r ls → Roomy r out scratch → price ≤ budget .left → decode s r out scratch budget ≡ decodedWith r out scratch (remaining budget price) (allSamples s r ls)
   unfolding decode
   decodes ls e a p = rw (le-ltb (length out) (r .output) (a .0), le-ltb (length scratch) (r .scratch) (a .1), le-ltb (budget .left) price p, e, same-self r) refl
 

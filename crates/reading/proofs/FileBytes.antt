@@ -8,10 +8,7 @@ use native.Mathlib.Nat.{not-suc-le-zero, le-of-suc-le-suc}
 use lib.Dec.{lit<}
 use lib.ListN.{length, take, drop, getElem?}
 use Rattle.reading.specs.Header.{byte, word, window}
-
-abbrev pub AllBytes : List ℕ → Type 0
-AllBytes [] = Unit {0}
-AllBytes (x ∷ l) = (x < 256) × AllBytes l
+pub use Rattle.reading.specs.Words.{AllBytes}
 
 pub byte-below : (l : List ℕ) → AllBytes l → (i : ℕ) → byte l i < 256
 byte-below [] h i = lit< tt
@@ -24,6 +21,7 @@ word-small l i p q = omega (arith, p, q)
 pub word-below : (l : List ℕ) → AllBytes l → (i : ℕ) → word l i < 65536
 word-below l h i = word-small l i (byte-below l h i) (byte-below l h (i + 1))
 
+-- what the language knows of each entry of a slice of bytes
 pub all-bytes : (l : List ℕ) → ((i : ℕ) → byte l i < 256) → AllBytes l
 all-bytes [] h = tt
 all-bytes (x ∷ l) h = (h 0, all-bytes l (λ i. h (suc i)))

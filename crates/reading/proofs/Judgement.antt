@@ -22,7 +22,7 @@ use Rattle.reading.specs.declared.Inspection.{Inspection}
 use Rattle.reading.specs.declared.Limits.{Limits}
 use Rattle.reading.specs.declared.Record.{Record}
 use Rattle.reading.specs.declared.Refusal.{Refusal}
-use Rattle.reading.specs.declared.Refusal.the-variants.{TooLong, OverBudget, CutShort, TooLarge, Scan}
+use Rattle.reading.specs.declared.Refusal.the-variants.{TooLong, OverBudget, CutShort, TooLarge, WorkOverBudget, Scan}
 use Rattle.reading.specs.declared.Verdict.{Verdict}
 use Rattle.reading.specs.declared.Verdict.the-variants.{Accepted, Refused}
 use Rattle.reading.specs.Tests.{_or_}
@@ -30,8 +30,9 @@ use Rattle.reading.specs.Reader.{Read, got, fault}
 use Rattle.reading.specs.Header.{Stage, more, done, stop, header, headed, ending}
 use Rattle.reading.specs.Scan.{levels}
 use Rattle.reading.specs.Reading.{accepted, reading}
-use Rattle.reading.specs.Judging.{Judged, accepts, refuses, Judging, onward, _>>_, give, refuse, refuse-if, pay, remaining, whole}
-use Rattle.reading.specs.Calls.{headerPrice, tooLong, tooLarge, admission, Whole, judgement, inspection, inspect}
+use Rattle.reading.specs.Judging.{Judged, accepts, refuses, Judging, onward, _>>_, give, refuse, refuse-if, pay, remaining, unbroken}
+use Rattle.reading.specs.Calls.{headerPrice, tooLong, tooLarge, weighing, admission, ReadFile, judgement, inspection, inspect}
+use Rattle.reading.specs.Words.{Begun, Within, Enough, ReadsAs}
 use Rattle.reading.proofs.HeaderEnds.{or-left, or-right}
 use Rattle.reading.proofs.FileBytes.{AllBytes}
 use Rattle.reading.proofs.Accepted as accepted
@@ -44,10 +45,10 @@ module _ {B : Type 0} (P : Judged B → Type 0) where
   tested true x b k f g = f refl
   tested false x b k f g = g refl
 
-  pub charged : (n : ℕ) (b : Budget) (k : Judging B) → (b .left < n → P (refuses OverBudget b)) → (n ≤ b .left → P (k (remaining b n))) → P (onward (pay n b) (λ _. k))
-  charged n b k f g = go (ltb (b .left) n) refl
+  pub charged : (n : ℕ) (x : Refusal) (b : Budget) (k : Judging B) → (b .left < n → P (refuses x b)) → (n ≤ b .left → P (k (remaining b n))) → P (onward (pay n x b) (λ _. k))
+  charged n x b k f g = go (ltb (b .left) n) refl
     where
-      go : (t : Bool) → ltb (b .left) n ≡ t → P (onward (cond t (refuses OverBudget b) (accepts (tt {0}) (remaining b n))) (λ _. k))
+      go : (t : Bool) → ltb (b .left) n ≡ t → P (onward (cond t (refuses x b) (accepts (tt {0}) (remaining b n))) (λ _. k))
       go true e = f (ltb-true (b .left) n e)
       go false e = g (ltb-false (b .left) n e)
 
@@ -60,7 +61,7 @@ module _ {B : Type 0} (P : Judged B → Type 0) where
   followed (accepts a b) k f g = g a b refl
   followed (refuses x b) k f g = f x b refl
 
-  pub scanned : {A : Type 0} (o : Read Bits A) (b : Budget) (k : A → Judging B) → ((f : Fault) → o ≡ fault f → P (refuses (Scan f) b)) → ((a : A) (q : Bits) → o ≡ got a q → P (k a b)) → P (onward (whole o b) k)
+  pub scanned : {A : Type 0} (o : Read Bits A) (b : Budget) (k : A → Judging B) → ((f : Fault) → o ≡ fault f → P (refuses (Scan f) b)) → ((a : A) (q : Bits) → o ≡ got a q → P (k a b)) → P (onward (unbroken o b) k)
   scanned (got a q) b k f g = g a q refl
   scanned (fault e) b k f g = f e refl
 
@@ -76,13 +77,6 @@ paid-twice b m n = ap (λ k. record { left = k }) (less (b .left))
 
 -- ---- limits and budget
 
--- a record that is not too large
-pub record Within (l : Limits) (r : Record) : Type 0 where
-  pub width : r .width ≤ l .side
-  pub height : r .height ≤ l .side
-  pub scratch : r .scratch ≤ l .output
-  pub output : r .output ≤ l .output
-
 pub not-large : (l : Limits) (r : Record) → tooLarge l r ≡ false → Within l r
 not-large l r e =
     let e1 = or-right (ltb (l .side) (r .width)) _ e in
@@ -94,20 +88,9 @@ not-large l r e =
       output = ltb-false (l .output) (r .output) (or-right (ltb (l .output) (r .scratch)) _ e2);
     }
 
-small-enough : (l : Limits) (r : Record) → Within l r → tooLarge l r ≡ false
+pub small-enough : (l : Limits) (r : Record) → Within l r → tooLarge l r ≡ false
 small-enough l r w =
     rw (le-ltb (l .side) (r .width) (w .width), le-ltb (l .side) (r .height) (w .height), le-ltb (l .output) (r .scratch) (w .scratch), le-ltb (l .output) (r .output) (w .output)) refl
-
--- limits and budget by which a file with this record is judged to its end
-pub record Enough (s : List ℕ) (r : Record) (l : Limits) (budget : Budget) : Type 0 where
-  pub input : length s ≤ l .input
-  pub counted : headerPrice s < 2 ^ 64
-  pub sizes : Within l r
-  pub price : headerPrice s + r .work ≤ budget .left
-
--- the reading of a file by this colour choice is accepted with this record, limits set aside
-abbrev pub ReadsAs : List ℕ → Bool → Record → Type 0
-ReadsAs s colour r = (ls : List (List ℤ)) × (reading s colour ≡ accepted r ls)
 
 -- the work of a record within the limits: 3136 for each 64 bytes of scratch, and the output
 pub work-most : (colour : Bool) (l : Limits) (r : Record) → accepted.Accepted colour r → Within l r → r .work ≤ 50 * l .output
@@ -119,19 +102,16 @@ not-long s l e = (
   leb-false (2 ^ 64) (headerPrice s) (or-right (ltb (l .input) (length s)) (leb (2 ^ 64) (headerPrice s)) e),
 )
 
-short-enough : (s : List ℕ) (l : Limits) → length s ≤ l .input → headerPrice s < 2 ^ 64 → tooLong s l ≡ false
+pub short-enough : (s : List ℕ) (l : Limits) → length s ≤ l .input → headerPrice s < 2 ^ 64 → tooLong s l ≡ false
 short-enough s l a b = rw (le-ltb (l .input) (length s) a, lt-leb (2 ^ 64) (headerPrice s) b) refl
 
 -- ---- the ways
 
--- the tests behind the header, the judgement behind the record, and inspect's answer
-abbrev pub weighing : Limits → Record → Judging Record
-weighing l r = refuse-if (tooLarge l r) TooLarge >> (pay (r .work) >> give r)
+-- the judgement behind the record, and inspect's answer
+abbrev pub scanBehind : List ℕ → Record → Judging ReadFile
+scanBehind s r = λ b. onward (unbroken (levels s r) b) (λ ls. give (record { found = r; blocks = ls }))
 
-abbrev pub scanBehind : List ℕ → Record → Judging Whole
-scanBehind s r = λ b. onward (whole (levels s r) b) (λ ls. give (record { found = r; blocks = ls }))
-
-abbrev pub foundIn : Judged Whole → Inspection
+abbrev pub foundIn : Judged ReadFile → Inspection
 foundIn m = inspection (onward m (λ f. give (f .found)))
 
 module _ (s : List ℕ) (colour : Bool) (l : Limits) (budget : Budget) where
@@ -142,27 +122,25 @@ module _ (s : List ℕ) (colour : Bool) (l : Limits) (budget : Budget) where
   abbrev pub behindWork : Record → Budget
   behindWork r = remaining budget (headerPrice s + r .work)
 
-  -- what was passed before the header was read
-  pub record Begun : Type 0 where
-    pub short : tooLong s l ≡ false
-    pub paid : headerPrice s ≤ budget .left
-
   -- the ways before the scan, in the order of the tests; each has what was passed before it
   pub data Way : Judged Record → Type 0 where
     long : tooLong s l ≡ true → Way (refuses TooLong budget)
     poor : tooLong s l ≡ false → budget .left < headerPrice s → Way (refuses OverBudget budget)
-    headless : (x : Refusal) → Begun → headed (header s colour) .verdict ≡ Refused x → Way (refuses x behindHeader)
-    large : (r : Record) → Begun → header s colour ≡ done r → tooLarge l r ≡ true → Way (refuses TooLarge behindHeader)
-    poor-for-work : (r : Record) → Begun → header s colour ≡ done r → Within l r → budget .left < headerPrice s + r .work → Way (refuses OverBudget behindHeader)
+    headless : (x : Refusal) → Begun s l budget → headed (header s colour) .verdict ≡ Refused x → Way (refuses x behindHeader)
+    large : (r : Record) → Begun s l budget → header s colour ≡ done r → tooLarge l r ≡ true → Way (refuses TooLarge behindHeader)
+    poor-for-work : (r : Record) → Begun s l budget → header s colour ≡ done r → Within l r → budget .left < headerPrice s + r .work → Way (refuses WorkOverBudget behindHeader)
     admitted : (r : Record) → header s colour ≡ done r → Enough s r l budget → Way (accepts r (behindWork r))
+
+  begins : tooLong s l ≡ false → headerPrice s ≤ budget .left → Begun s l budget
+  begins a p = record { input = not-long s l a .0; counted = not-long s l a .1; paid = p }
 
   pub way : Way (admission s colour l budget)
   way =
       tested Way (tooLong s l) TooLong budget _ long
-      (λ a. charged Way (headerPrice s) budget _ (poor a)
-      (λ p. ended Way (header s colour) behindHeader _ (λ x e. headless x (record { short = a; paid = p }) e)
-      (λ r e. tested Way (tooLarge l r) TooLarge behindHeader _ (large r (record { short = a; paid = p }) e)
-      (λ c. charged Way (r .work) behindHeader (give r) (λ q. poor-for-work r (record { short = a; paid = p }) e (not-large l r c) (omega (arith, q)))
+      (λ a. charged Way (headerPrice s) OverBudget budget _ (poor a)
+      (λ p. ended Way (header s colour) behindHeader _ (λ x e. headless x (begins a p) e)
+      (λ r e. tested Way (tooLarge l r) TooLarge behindHeader _ (large r (begins a p) e)
+      (λ c. charged Way (r .work) WorkOverBudget behindHeader (give r) (λ q. poor-for-work r (begins a p) e (not-large l r c) (omega (arith, q)))
       (λ q. subst⁻¹ (λ b. Way (accepts r b)) (paid-twice budget (headerPrice s) (r .work))
       (admitted r e (record { input = not-long s l a .0; counted = not-long s l a .1; sizes = not-large l r c; price = omega (arith, p, q) })))))))
 
@@ -179,8 +157,8 @@ module _ (s : List ℕ) (colour : Bool) (l : Limits) (budget : Budget) where
   isRefused Accepted = ⊥
   isRefused (Refused x) = Unit {0}
 
-  begun : Begun → admission s colour l budget ≡ onward (ending give refuse (header s colour) behindHeader) (weighing l)
-  begun a = rw (a .short, le-ltb (budget .left) (headerPrice s) (a .paid)) refl
+  begun : Begun s l budget → admission s colour l budget ≡ onward (ending give refuse (header s colour) behindHeader) (weighing l)
+  begun a = rw (short-enough s l (a .input) (a .counted), le-ltb (budget .left) (headerPrice s) (a .paid)) refl
 
   -- and no other way is open: what a way says is what the tests answer
   pub way-back : (m : Judged Record) → Way m → admission s colour l budget ≡ m
@@ -197,7 +175,7 @@ module _ (s : List ℕ) (colour : Bool) (l : Limits) (budget : Budget) where
   way-back m (admitted r e h) = admits r e h
 
   -- the ways of the whole judgement: one before the scan, or the scan breaks, or it is read to its end
-  pub data Judges : Judged Whole → Type 0 where
+  pub data Judges : Judged ReadFile → Type 0 where
     stopped : (x : Refusal) (b : Budget) → Way (refuses x b) → Judges (refuses x b)
     broken : (r : Record) (f : Fault) → header s colour ≡ done r → Enough s r l budget → levels s r ≡ fault f → Judges (refuses (Scan f) (behindWork r))
     through : (r : Record) (ls : List (List ℤ)) (q : Bits) → header s colour ≡ done r → Enough s r l budget → levels s r ≡ got ls q → Judges (accepts (record { found = r; blocks = ls }) (behindWork r))
@@ -210,7 +188,7 @@ module _ (s : List ℕ) (colour : Bool) (l : Limits) (budget : Budget) where
       on m (poor a p) = stopped OverBudget budget (poor a p)
       on m (headless x a e) = stopped x behindHeader (headless x a e)
       on m (large r a e c) = stopped TooLarge behindHeader (large r a e c)
-      on m (poor-for-work r a e c q) = stopped OverBudget behindHeader (poor-for-work r a e c q)
+      on m (poor-for-work r a e c q) = stopped WorkOverBudget behindHeader (poor-for-work r a e c q)
       on m (admitted r e h) = scanned Judges (levels s r) (behindWork r) _ (λ f w. broken r f e h w) (λ ls q w. through r ls q e h w)
 
   -- ---- what is accepted
@@ -219,7 +197,7 @@ module _ (s : List ℕ) (colour : Bool) (l : Limits) (budget : Budget) where
   pub judges : (r : Record) (ls : List (List ℤ)) → reading s colour ≡ accepted r ls → Enough s r l budget → judgement s colour l budget ≡ accepts (record { found = r; blocks = ls }) (behindWork r)
   judges r ls e h =
       let t = taken-apart s colour r ls e in
-      ap (λ m. onward m (scanBehind s)) (admits r (t .head) h) ∙ ap (λ o. onward (whole o (behindWork r)) (λ ls. give (record { found = r; blocks = ls }))) (t .body)
+      ap (λ m. onward m (scanBehind s)) (admits r (t .head) h) ∙ ap (λ o. onward (unbroken o (behindWork r)) (λ ls. give (record { found = r; blocks = ls }))) (t .body)
 
   pub inspects : (r : Record) (ls : List (List ℤ)) → reading s colour ≡ accepted r ls → Enough s r l budget → inspect s colour l budget ≡ record { verdict = Accepted; budget = behindWork r; found = r }
   unfolding inspect
@@ -239,7 +217,7 @@ module _ (s : List ℕ) (colour : Bool) (l : Limits) (budget : Budget) where
   unfolding inspect
   inspect-accepted v = go (judgement s colour l budget) judged v
     where
-      go : (m : Judged Whole) → Judges m → foundIn m .verdict ≡ Accepted → Inspected (foundIn m)
+      go : (m : Judged ReadFile) → Judges m → foundIn m .verdict ≡ Accepted → Inspected (foundIn m)
       go m (stopped x b w) v = absurd (subst isRefused v tt)
       go m (broken r f e h w) v = absurd (subst isRefused v tt)
       go m (through r ls q e h w) v = record { blocks = ls; head = e; behind = q; scan = w; read = rw (e, w) refl; enough = h; left = refl }
@@ -275,7 +253,7 @@ module _ (s : List ℕ) (colour : Bool) (l : Limits) (budget : Budget) where
     unfolding inspect
     inspect-most = go (judgement s colour l budget) judged
       where
-        go : (m : Judged Whole) → Judges m → Most (foundIn m .budget .left)
+        go : (m : Judged ReadFile) → Judges m → Most (foundIn m .budget .left)
         go m (stopped x b w) = way-most (refuses x b) w
         go m (broken r f e h w) = work-most-of r e h
         go m (through r ls q e h w) = work-most-of r e h

@@ -30,6 +30,7 @@ pub mod Accepted
 pub mod States
 pub mod Demand3
 pub mod Judgement
+pub mod Refusals
 pub mod Zigzag
 pub mod Levels
 pub mod OnePicture

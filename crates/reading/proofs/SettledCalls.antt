@@ -24,12 +24,11 @@ use Rattle.reading.specs.Tests.{_or_, over}
 use Rattle.reading.specs.Reading.{accepted, reading, picture}
 use Rattle.reading.specs.Settled.{settledFile}
 use Rattle.reading.specs.Judging.{Judged, accepts, refuses, Judging, onward, give-or, remaining}
-use Rattle.reading.specs.Calls.{number, headerPrice, Whole, judgement, inspection, inspect, Decoded, decode, Rewritten, unsettled, rewritten, settle}
+use Rattle.reading.specs.Calls.{number, headerPrice, ReadFile, judgement, inspection, inspect, Decoded, decode, Rewritten, unsettled, rewritten, settle}
 use Rattle.reading.specs.Files.{headIn, coefficientsIn, settledIn, lacksEndIn}
-use Rattle.reading.proofs.FileBytes.{AllBytes}
-use Rattle.reading.proofs.Choice.{recolour, reread, reading-choice}
+use Rattle.reading.specs.Words.{Not, AllBytes, Enough, Alike}
 use Rattle.reading.proofs.HeaderNumbers.{OfHeader, cut-short, malformed, unsupported, header-number}
-use Rattle.reading.proofs.Judgement.{Enough, Way, long, poor, headless, large, poor-for-work, admitted, Judges, stopped, broken, through, foundIn, judged, judges, inspects, inspect-accepted}
+use Rattle.reading.proofs.Judgement.{Way, long, poor, headless, large, poor-for-work, admitted, Judges, stopped, broken, through, foundIn, judged, judges, inspects, inspect-accepted}
 use Rattle.reading.proofs.Decodings.{decode-accepted, decodes}
 use Rattle.reading.proofs.Written.{absurd-some, some-list}
 use Rattle.reading.proofs.WholeFiles.{accepted-so, reads-alike, coefficients-alike, samples-of, settles-again, equal-so, want-so}
@@ -39,7 +38,7 @@ abbrev pub leftBehind : List ℕ → Record → Budget → Budget
 leftBehind s r budget = remaining budget (headerPrice s + r .work)
 
 -- settle behind the judgement
-abbrev pub fileOf : List ℕ → Whole → Judging (List ℕ)
+abbrev pub fileOf : List ℕ → ReadFile → Judging (List ℕ)
 fileOf s f = give-or NoEndCode (settledFile s (f .found) (f .blocks))
 
 -- a settled file in a buffer that has room for it
@@ -107,7 +106,7 @@ module _ (s : List ℕ) (l : Limits) (budget : Budget) (out : List ℕ) where
       file-test r ls e h none f k = absurd k
       file-test r ls e h (some t) f k = room-test r ls e h t f (ltb (length out) (length t)) refl k
 
-      go : (m : Judged Whole) → Judges s false l budget m → IsAccepted (rewritten out (onward m (fileOf s)) .answer .verdict) → SettledBy s l budget out
+      go : (m : Judged ReadFile) → Judges s false l budget m → IsAccepted (rewritten out (onward m (fileOf s)) .answer .verdict) → SettledBy s l budget out
       go m (stopped x b w) k = absurd k
       go m (broken r f e h w) k = absurd k
       go m (through r ls q e h w) k = file-test r ls (rw (e, w) refl) h (settledFile s r ls) refl k
@@ -160,12 +159,6 @@ one-picture-one-file s s′ l l′ budget budget′ out out′ z z′ e =
 
 -- ---- the settled file, decoded: the same samples and the same picture with the same record
 
--- both buffers are left alike
-pub record Alike (d d′ : Decoded) : Type 0 where
-  pub verdict : d′ .answer .verdict ≡ Accepted
-  pub output : d′ .output ≡ d .output
-  pub scratch : d′ .scratch ≡ d .scratch
-
 pub settled-decodes : (s t : List ℕ) → settledIn s ≡ some t → (r : Record) (out scratch : List ℕ) (budget budget′ : Budget) → decode s r out scratch budget .answer .verdict ≡ Accepted → headerPrice t + r .work ≤ budget′ .left → Alike (decode s r out scratch budget) (decode t r out scratch budget′)
 settled-decodes s t h r out scratch budget budget′ v p =
     let d = decode-accepted s r out scratch budget v in
@@ -177,22 +170,14 @@ settled-decodes s t h r out scratch budget budget′ v p =
       scratch = ap (λ (d : Decoded). d .scratch) w ∙ ap (λ x. over x scratch) same ∙ sym (d .samples-are);
     }
 
--- ---- the colour choice
-
--- inspect accepts a file by either choice or by none
-pub accepts-alike : (s : List ℕ) (l : Limits) (budget : Budget) (c d : Bool) → inspect s c l budget .verdict ≡ Accepted → inspect s d l budget .verdict ≡ Accepted
-accepts-alike s l budget c d v =
-    let a = inspect-accepted s c l budget v in
-    let w = a .enough .sizes in
-    ap (λ (i : Inspection). i .verdict)
-    (inspects s d l budget (recolour d (inspect s c l budget .found)) (a .blocks) (reading-choice d c s ∙ ap (reread d) (a .read))
-    (record { input = a .enough .input; counted = a .enough .counted; sizes = record { width = w .width; height = w .height; scratch = w .scratch; output = w .output }; price = a .enough .price }))
-
 -- ---- the ways of settle
 
 module _ (s : List ℕ) (l : Limits) (budget : Budget) (out : List ℕ) where
   abbrev Inspects : Type 0
   Inspects = inspect s false l budget .verdict ≡ Accepted
+
+  refusal-of : {x y : Refusal} → Refused x ≡ Refused y → x ≡ y
+  refusal-of e = cc
 
   -- not one of settle's own numbers
   abbrev OfInspect : Verdict → Type 0
@@ -229,7 +214,7 @@ module _ (s : List ℕ) (l : Limits) (budget : Budget) (out : List ℕ) where
       file-way b a none f = nine b a f
       file-way b a (some t) f = room-way t b a f (ltb (length out) (length t)) refl
 
-      go : (m : Judged Whole) → judgement s false l budget ≡ m → Judges s false l budget m → SettleWay (rewritten out (onward m (fileOf s)))
+      go : (m : Judged ReadFile) → judgement s false l budget ≡ m → Judges s false l budget m → SettleWay (rewritten out (onward m (fileOf s)))
       go m p (stopped x b w) = as-inspect x b (ap foundIn p) (way-not (refuses x b) w)
       go m p (broken r f e h w) = as-inspect (Scan f) (leftBehind s r budget) (ap foundIn p) (λ k. k)
       go m p (through r ls q e h w) = file-way (leftBehind s r budget) (ap (λ m. foundIn m .verdict) p) (settledFile s r ls) (accepted-so (settledFile s) none s false r ls (rw (e, w) refl))
@@ -286,15 +271,27 @@ module _ (s : List ℕ) (l : Limits) (budget : Budget) (out : List ℕ) where
       go w (seven t b a f p) = (λ v. absurd (subst⁻¹ (numbered 9) v tt), λ k. absurd (absurd-some t (sym (want a .1 (k .1)) ∙ f)))
       go w (done t b a f p) = (λ v. absurd (subst⁻¹ (numbered 9) v tt), λ k. absurd (absurd-some t (sym (want a .1 (k .1)) ∙ f)))
 
+  refusal-is : (x : Refusal) (i : Inspection) → i .verdict ≡ Refused x → (y : Refusal) (c : Budget) → i ≡ inspection (refuses y c) → unsettled y c 0 out ≡ unsettled x (i .budget) 0 out
+  refusal-is x i e y c f =
+      let same : y ≡ x = refusal-of (sym (ap (λ (i : Inspection). i .verdict) f) ∙ e) in
+      ap (λ z. unsettled z c 0 out) same ∙ ap (λ b. unsettled x b 0 out) (sym (ap (λ (i : Inspection). i .budget) f))
+
   -- every other refusal of settle is inspect's, with the same left
-  pub settle-as-inspect : (x : Refusal) (b : Budget) → inspect s false l budget ≡ inspection (refuses x b) → settle s l budget out ≡ unsettled x b 0 out
-  settle-as-inspect x b e = go (settle s l budget out) settle-way
+  pub settle-as-inspect : (x : Refusal) → inspect s false l budget .verdict ≡ Refused x → settle s l budget out ≡ unsettled x (inspect s false l budget .budget) 0 out
+  settle-as-inspect x e = go (settle s l budget out) settle-way
     where
-      go : (w : Rewritten) → SettleWay w → w ≡ unsettled x b 0 out
-      go w (as-inspect y c f n) = ap (λ (i : Inspection). unsettled-as i) (sym f ∙ e)
-        where
-          unsettled-as : Inspection → Rewritten
-          unsettled-as i = record { answer = record { verdict = i .verdict; budget = i .budget; length = 0 }; output = out }
-      go w (nine c a f) = absurd (not-accepted x b e a)
-      go w (seven t c a f p) = absurd (not-accepted x b e a)
-      go w (done t c a f p) = absurd (not-accepted x b e a)
+      go : (w : Rewritten) → SettleWay w → w ≡ unsettled x (inspect s false l budget .budget) 0 out
+      go w (as-inspect y c f n) = refusal-is x (inspect s false l budget) e y c f
+      go w (nine c a f) = absurd (subst⁻¹ IsAccepted (sym e ∙ a) tt)
+      go w (seven t c a f p) = absurd (subst⁻¹ IsAccepted (sym e ∙ a) tt)
+      go w (done t c a f p) = absurd (subst⁻¹ IsAccepted (sym e ∙ a) tt)
+
+  -- a refusal leaves the buffer as it came; only 7 names a length
+  pub settle-leaves : (x : Refusal) → settle s l budget out .answer .verdict ≡ Refused x → (settle s l budget out .output ≡ out) × (Not (x ≡ ShortRoom) → settle s l budget out .answer .length ≡ 0)
+  settle-leaves x = go (settle s l budget out) settle-way
+    where
+      go : (w : Rewritten) → SettleWay w → w .answer .verdict ≡ Refused x → (w .output ≡ out) × (Not (x ≡ ShortRoom) → w .answer .length ≡ 0)
+      go w (as-inspect y b e n) v = (refl, λ k. refl)
+      go w (nine b a f) v = (refl, λ k. refl)
+      go w (seven t b a f p) v = (refl, λ k. let same : ShortRoom ≡ x = cc in absurd (k (sym same)))
+      go w (done t b a f p) v = absurd (subst IsAccepted v tt)

@@ -6,7 +6,7 @@ use lib.Dec.{leb, ltb, eqb}
 use lib.ListN.{length}
 use lib.IntN.{ℤ}
 use Rattle.reading.specs.declared.Refusal.{Refusal}
-use Rattle.reading.specs.declared.Refusal.the-variants.{TooLong, OverBudget, CutShort, Malformed, Unsupported, TooLarge, ShortRoom, NotItsRecord, NoEndCode, Scan}
+use Rattle.reading.specs.declared.Refusal.the-variants.{TooLong, OverBudget, CutShort, Malformed, Unsupported, TooLarge, WorkOverBudget, ShortRoom, NotItsRecord, NoEndCode, Scan}
 use Rattle.reading.specs.declared.Record.{Record}
 use Rattle.reading.specs.declared.Limits.{Limits}
 use Rattle.reading.specs.declared.Budget.{Budget}
@@ -16,7 +16,7 @@ use Rattle.reading.specs.declared.Inspection.{Inspection}
 use Rattle.reading.specs.declared.Decoding.{Decoding}
 use Rattle.reading.specs.declared.Settling.{Settling}
 use Rattle.reading.specs.Tests.{_and_, _or_, over}
-use Rattle.reading.specs.Judging.{Judged, accepts, refuses, Judging, _>>=_, _>>_, give, refuse, refuse-if, pay, give-or, whole}
+use Rattle.reading.specs.Judging.{Judged, accepts, refuses, Judging, _>>=_, _>>_, give, refuse, refuse-if, pay, give-or, unbroken}
 use Rattle.reading.specs.Header.{ending, header, noRecord}
 use Rattle.whole.specs.Lists.{from}
 use Rattle.reading.specs.Layout.{channelOf, sampleAt}
@@ -34,6 +34,7 @@ numberOf CutShort = 3
 numberOf Malformed = 4
 numberOf Unsupported = 5
 numberOf TooLarge = 6
+numberOf WorkOverBudget = 2
 numberOf ShortRoom = 7
 numberOf NotItsRecord = 8
 numberOf NoEndCode = 9
@@ -58,26 +59,35 @@ abbrev pub tooLarge : Limits → Record → Bool
 tooLarge l r =
     ltb (l .side) (r .width) or ltb (l .side) (r .height) or ltb (l .output) (r .scratch) or ltb (l .output) (r .output)
 
--- Inspect, in order: 1; 2 for 2n+1 (takes 0); the header 3/4/5; 6; 2 for work (2n+1 taken) ..
+-- the header's record, or its refusal
+abbrev pub heading : List ℕ → Bool → Judging Record
+heading s colour = ending give refuse (header s colour)
+
+-- behind the header: 6; 2 for work (2n+1 taken)
+abbrev pub weighing : Limits → Record → Judging Record
+weighing l r = do
+  refuse-if (tooLarge l r) TooLarge
+  pay (r .work) WorkOverBudget
+  give r
+
+-- Inspect, in order: 1; 2 for 2n+1 (takes 0); the header 3/4/5; 6; 2 for work ..
 abbrev pub admission : List ℕ → Bool → Limits → Judging Record
 admission s colour l = do
   refuse-if (tooLong s l) TooLong
-  pay (headerPrice s)
-  r ← ending give refuse (header s colour)
-  refuse-if (tooLarge l r) TooLarge
-  pay (r .work)
-  give r
+  pay (headerPrice s) OverBudget
+  r ← heading s colour
+  weighing l r
 
--- what a file has that is judged to its end: its record and the levels of its blocks
-pub record Whole : Type 0 where
+-- a file that was read to its end: its record and the levels of its blocks
+pub record ReadFile : Type 0 where
   pub found : Record
   pub blocks : List (List ℤ)
 
 -- .. the scan, 4. Success takes 2n+1+work
-abbrev pub judgement : List ℕ → Bool → Limits → Judging Whole
+abbrev pub judgement : List ℕ → Bool → Limits → Judging ReadFile
 judgement s colour l = do
   r ← admission s colour l
-  ls ← whole (levels s r)
+  ls ← unbroken (levels s r)
   give (record { found = r; blocks = ls })
 
 -- A refusal returns its number and an all-zero record
@@ -150,7 +160,7 @@ itsLevels r (refused x) = refuse NotItsRecord
 abbrev pub decoding : List ℕ → Record → List ℕ → List ℕ → Judging (List (List ℤ))
 decoding s r out scratch = do
   refuse-if (shortRoom r out scratch) ShortRoom
-  pay (headerPrice s + r .work)
+  pay (headerPrice s + r .work) OverBudget
   itsLevels r (reading s (r .colour))
 
 -- Every refusal returns with output and scratch unchanged

@@ -7,7 +7,7 @@ use lib.Dec.{ltb}
 use Rattle.reading.specs.declared.Bits.{Bits}
 use Rattle.reading.specs.declared.Budget.{Budget}
 use Rattle.reading.specs.declared.Refusal.{Refusal}
-use Rattle.reading.specs.declared.Refusal.the-variants.{OverBudget, Scan}
+use Rattle.reading.specs.declared.Refusal.the-variants.{Scan}
 use Rattle.reading.specs.Reader.{Read, got, fault}
 
 -- a value or a refusal, and the budget that is left
@@ -46,16 +46,16 @@ refuse-if false x = give tt
 abbrev pub remaining : Budget → ℕ → Budget
 remaining budget price = record { left = budget .left - price }
 
--- a price: where the budget is below it, number 2, and nothing of it is taken
-abbrev pub pay : ℕ → Judging (Unit {0})
-pay price = λ budget. cond (ltb (budget .left) price) (refuses OverBudget budget) (accepts tt (remaining budget price))
+-- a price: where the budget is below it, a refusal, and nothing of it is taken
+abbrev pub pay : ℕ → Refusal → Judging (Unit {0})
+pay price x = λ budget. cond (ltb (budget .left) price) (refuses x budget) (accepts tt (remaining budget price))
 
 -- what there is, or a refusal
 abbrev pub give-or : {A : Type 0} → Refusal → Option A → Judging A
 give-or x none = refuse x
 give-or x (some a) = give a
 
--- what a scan gave; a fault in it is number 4
-abbrev pub whole : {A : Type 0} → Read Bits A → Judging A
-whole (got a b) = give a
-whole (fault f) = refuse (Scan f)
+-- what a scan gave; a fault in it refuses the file
+abbrev pub unbroken : {A : Type 0} → Read Bits A → Judging A
+unbroken (got a b) = give a
+unbroken (fault f) = refuse (Scan f)

@@ -17,5 +17,6 @@ pub mod Judging
 pub mod Calls
 pub mod Prices
 pub mod Files
+pub mod Words
 pub mod Comments
 pub mod Bench

@@ -60,7 +60,8 @@ pub enum Fault {
     Broken,
 }
 
-// A refusal, by the rule that gave it.
+// A refusal, by the rule that gave it. One number can have several rules, each with its price and its place in the order: 2 is
+// OverBudget, which takes nothing, and behind the header WorkOverBudget; 4 is Malformed in the header, and Scan.
 pub enum Refusal {
     TooLong,
     OverBudget,
@@ -68,6 +69,7 @@ pub enum Refusal {
     Malformed,
     Unsupported,
     TooLarge,
+    WorkOverBudget,
     ShortRoom,
     NotItsRecord,
     NoEndCode,
@@ -326,6 +328,7 @@ impl Refusal {
             Self::Malformed => 4,
             Self::Unsupported => 5,
             Self::TooLarge => 6,
+            Self::WorkOverBudget => 2,
             Self::ShortRoom => 7,
             Self::NotItsRecord => 8,
             Self::NoEndCode => 9,

@@ -1,0 +1,120 @@
+-- The words in which the theorems are said (proofs/Theorems): what a file reads as, which limits, budget and room suffice for it, by which
+-- rule a call refuses, and what it means that an answer took its listed price. No call is defined by them.
+use Prim.Native.Nat.{ℕ, _+_, _^_, _<_, _≤_}
+use mathlib.Core.Path.{_≡_}
+use mathlib.Core.Bool.{Bool}
+use mathlib.Core.List.{List, [], _∷_}
+use mathlib.Core.Logic.{_⊎_}
+use mathlib.Core.Option.{Option, some}
+use lib.IntN.{ℤ}
+use lib.ListN.{length}
+use Rattle.reading.specs.declared.Budget.{Budget}
+use Rattle.reading.specs.declared.Limits.{Limits}
+use Rattle.reading.specs.declared.Record.{Record}
+use Rattle.reading.specs.declared.Refusal.{Refusal}
+use Rattle.reading.specs.declared.Refusal.the-variants.{TooLong, OverBudget, CutShort, Malformed, Unsupported, TooLarge, WorkOverBudget, ShortRoom, NotItsRecord, NoEndCode, Scan}
+use Rattle.reading.specs.declared.Verdict.{Verdict}
+use Rattle.reading.specs.declared.Verdict.the-variants.{Accepted}
+use Rattle.reading.specs.Reader.{fault}
+use Rattle.reading.specs.Header.{done, stop, header}
+use Rattle.reading.specs.Scan.{levels}
+use Rattle.reading.specs.Reading.{Reading, accepted, refused, reading}
+use Rattle.reading.specs.Calls.{headerPrice, inspect, Decoded}
+use Rattle.reading.specs.Files.{settledIn}
+
+-- a statement does not hold
+abbrev pub Not : Type 0 → Type 0
+Not A = A → ⊥
+
+-- Each number is below 256. The lists of this crate are of any numbers; what a call is lent is a slice of bytes, and of such a slice the
+-- language knows this of every entry (`FileBytes.all-bytes` takes it from there)
+abbrev pub AllBytes : List ℕ → Type 0
+AllBytes [] = Unit {0}
+AllBytes (x ∷ l) = (x < 256) × AllBytes l
+
+-- ---- a file, limits, budget and room aside
+
+-- the file's reading by a colour choice is accepted with this record
+abbrev pub ReadsAs : List ℕ → Bool → Record → Type 0
+ReadsAs s colour r = (ls : List (List ℤ)) × (reading s colour ≡ accepted r ls)
+
+-- a record with another choice
+abbrev pub recolour : Bool → Record → Record
+recolour c r =
+    record { width = r .width; height = r .height; channels = r .channels; hs = r .hs; vs = r .vs; ids = r .ids; qids = r .qids; dcids = r .dcids; acids = r .acids; quants = r .quants; dcs = r .dcs; acs = r .acs; interval = r .interval; start = r .start; blocks = r .blocks; scratch = r .scratch; output = r .output; work = r .work; colour = c }
+
+-- a reading by another choice: of what is accepted the record alone changes, in that one field
+abbrev pub reread : Bool → Reading → Reading
+reread c (accepted r ls) = accepted (recolour c r) ls
+reread c (refused x) = refused x
+
+-- the file is accepted, and this is its settled file
+abbrev pub SettlesTo : List ℕ → List ℕ → Type 0
+SettlesTo s t = settledIn s ≡ some t
+
+-- ---- limits, budget and room
+
+-- number 1: the file is too long for the input limit, or for its price to be counted
+abbrev pub Long : List ℕ → Limits → Type 0
+Long s l = (l .input < length s) ⊎ (2 ^ 64 ≤ headerPrice s)
+
+-- not number 1, and the header's price is there
+pub record Begun (s : List ℕ) (l : Limits) (budget : Budget) : Type 0 where
+  pub input : length s ≤ l .input
+  pub counted : headerPrice s < 2 ^ 64
+  pub paid : headerPrice s ≤ budget .left
+
+-- not number 6: a record within the limits
+pub record Within (l : Limits) (r : Record) : Type 0 where
+  pub width : r .width ≤ l .side
+  pub height : r .height ≤ l .side
+  pub scratch : r .scratch ≤ l .output
+  pub output : r .output ≤ l .output
+
+-- limits and budget by which a file with this record is judged to its end
+pub record Enough (s : List ℕ) (r : Record) (l : Limits) (budget : Budget) : Type 0 where
+  pub input : length s ≤ l .input
+  pub counted : headerPrice s < 2 ^ 64
+  pub sizes : Within l r
+  pub price : headerPrice s + r .work ≤ budget .left
+
+-- not number 7 of decode: both buffers are long enough by the record's length fields
+abbrev pub Roomy : Record → List ℕ → List ℕ → Type 0
+Roomy r out scratch = (r .output ≤ length out) × (r .scratch ≤ length scratch)
+
+-- ---- by which rule a call refuses
+
+-- inspect, rule by rule in the order of the tests: each has what was passed before it
+abbrev pub InspectRefuses : List ℕ → Bool → Limits → Budget → Refusal → Type 0
+InspectRefuses s colour l budget TooLong = Long s l
+InspectRefuses s colour l budget OverBudget = Not (Long s l) × (budget .left < headerPrice s)
+InspectRefuses s colour l budget CutShort = Begun s l budget × (header s colour ≡ stop CutShort)
+InspectRefuses s colour l budget Malformed = Begun s l budget × (header s colour ≡ stop Malformed)
+InspectRefuses s colour l budget Unsupported = Begun s l budget × (header s colour ≡ stop Unsupported)
+InspectRefuses s colour l budget TooLarge =
+    Begun s l budget × ((r : Record) × (header s colour ≡ done r) × Not (Within l r))
+InspectRefuses s colour l budget WorkOverBudget =
+    Begun s l budget × ((r : Record) × (header s colour ≡ done r) × Within l r × (budget .left < headerPrice s + r .work))
+InspectRefuses s colour l budget (Scan f) =
+    (r : Record) × (header s colour ≡ done r) × Enough s r l budget × (levels s r ≡ fault f)
+InspectRefuses s colour l budget ShortRoom = ⊥
+InspectRefuses s colour l budget NotItsRecord = ⊥
+InspectRefuses s colour l budget NoEndCode = ⊥
+
+-- inspect would accept the file
+abbrev pub Inspects : List ℕ → Bool → Limits → Budget → Type 0
+Inspects s colour l budget = inspect s colour l budget .verdict ≡ Accepted
+
+-- ---- what an answer takes, and what it leaves
+
+-- a table lists a price for the answer, and what is left and that price are the budget
+pub record Priced (listed : Verdict → Option ℕ) (budget : Budget) (verdict : Verdict) (left : Budget) : Type 0 where
+  pub taken : ℕ
+  pub price : listed verdict ≡ some taken
+  pub all : left .left + taken ≡ budget .left
+
+-- a second decode accepts as the first did, and leaves the same in both buffers
+pub record Alike (d d′ : Decoded) : Type 0 where
+  pub verdict : d′ .answer .verdict ≡ Accepted
+  pub output : d′ .output ≡ d .output
+  pub scratch : d′ .scratch ≡ d .scratch
