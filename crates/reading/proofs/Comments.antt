@@ -3,6 +3,7 @@ use Prim.Native.Nat.{ℕ, zero, suc, _+_, _*_, _-_, _≤_, _<_, zero-le}
 use mathlib.Core.Path.{_≡_, refl, sym, ap, _∙_, subst, subst⁻¹}
 use mathlib.Core.Bool.{Bool, true, false, not, cond}
 use mathlib.Core.List.{List, [], _∷_, _++_}
+use mathlib.Core.Logic.{_↔_}
 use native.Mathlib.Omega.{arith}
 use lib.Dec.{T, leb, ltb, eqb, eqb→eq}
 use lib.ListN.{length}
@@ -11,15 +12,20 @@ use Rattle.reading.specs.declared.Refusal.{Refusal}
 use Rattle.reading.specs.declared.Refusal.the-variants.{Malformed, CutShort}
 use Rattle.reading.specs.declared.Case.{Case}
 use Rattle.reading.specs.declared.Case.the-variants.{Marker, Quantizers, Huffman}
+use Rattle.reading.specs.declared.Budget.{Budget}
 use Rattle.reading.specs.declared.Header.{Header}
+use Rattle.reading.specs.declared.Limits.{Limits}
 use Rattle.reading.specs.declared.Part.{Part}
 use Rattle.reading.specs.declared.Record.{Record}
 use Rattle.reading.specs.declared.Sought.{Sought}
 use Rattle.reading.specs.declared.Sought.the-variants.{Absent, There}
+use Rattle.reading.specs.declared.Verdict.{Verdict}
+use Rattle.reading.specs.declared.Verdict.the-variants.{Accepted, Refused}
 use Rattle.reading.specs.Tests.{_and_, _or_}
 use Rattle.reading.specs.Header.{Stage, more, done, stop, byte, word, window, kindOf, segment, segmentEnd, stepIn, step, started}
 use Rattle.reading.specs.Reading.{Reading, accepted, refused, reading}
-use Rattle.reading.specs.Comments.{textAt, atComment, passed, commentsFrom, comments, sought, partOf, partIn, commentPart}
+use Rattle.reading.specs.Comments.{textAt, atComment, passed, commentsFrom, comments, sought, partOf, partIn, commentPart, isAccepted, hasComment}
+use Rattle.reading.specs.Calls.{inspect}
 use Rattle.reading.proofs.Stages.{refused-or, chosen-or}
 use Rattle.reading.proofs.HeaderEnds.{Room, segment-room}
 
@@ -135,3 +141,18 @@ sought-there (p ∷ ps) (suc i) = sought-there ps i ∙ one-more i (length ps)
         by : (t : Bool) → ltb i n ≡ t → t ≡ ltb (suc i) (suc n)
         by true e = sym (lt-ltb (suc i) (suc n) (omega (arith, ltb-true i n e)))
         by false e = sym (le-ltb (suc i) (suc n) (omega (arith, ltb-false i n e)))
+
+-- ---- what has_comment answers
+
+there-so : (v : Verdict) (i n : ℕ) → (isAccepted v and ltb i n) ≡ true ↔ (v ≡ Accepted) × (i < n)
+there-so Accepted i n = (λ e. (refl, ltb-true i n e), λ k. lt-ltb i n (k .1))
+there-so (Refused x) i n = (λ e. absurd (subst⁻¹ T e tt), λ k. absurd (subst (λ v. T (cond (isAccepted v) false true)) (k .0) tt))
+
+module _ (s : List ℕ) (i : ℕ) (l : Limits) (budget : Budget) where
+  pub has-comment-inspects : (hasComment s i l budget .verdict ≡ inspect s false l budget .verdict) × (hasComment s i l budget .budget ≡ inspect s false l budget .budget)
+  unfolding hasComment
+  has-comment-inspects = (refl, refl)
+
+  pub has-comment-there : hasComment s i l budget .there ≡ true ↔ (inspect s false l budget .verdict ≡ Accepted) × (i < length (comments s))
+  unfolding hasComment
+  has-comment-there = there-so (inspect s false l budget .verdict) i (length (comments s))

@@ -21,13 +21,9 @@ use Rattle.reading.specs.Tests.{all}
 use Rattle.reading.specs.Transform.{basis, weights, line, row, plane, clamped, sampleOf, samples}
 use Rattle.reading.proofs.Plain.{and-left, and-right}
 pub use Rattle.basis.specs.Basis.{basisAt}
+unfoldable pub use Rattle.reading.specs.Words.{sumOf, doubleSum}
 
 -- ---- sums
-
--- f 0 + .. + f (n - 1)
-unfoldable pub sumOf : ℕ → (ℕ → ℤ) → ℤ
-sumOf zero f = pos 0
-sumOf (suc n) f = f 0 +ℤ sumOf n (λ j. f (suc j))
 
 pub sum-cong : (n : ℕ) (f g : ℕ → ℤ) → ((j : ℕ) → f j ≡ g j) → sumOf n f ≡ sumOf n g
 unfolding sumOf
@@ -64,11 +60,6 @@ dot-sum (k ∷ ks) f i (suc n) h =
     later i j = omega arith
 
 -- ---- the double sum
-
--- the sum over v and u of coefficient (v, u) x basis (x, u) x basis (y, v)
-unfoldable pub doubleSum : List ℤ → ℕ → ℕ → ℤ
-unfolding basis sumOf
-doubleSum c y x = sumOf 8 (λ v. sumOf 8 (λ u. at c (8 * v + u) *ℤ basisAt x u *ℤ basisAt y v))
 
 -- what is computed of each row of the basis holds of the weights of every output
 every : (p : List ℤ → Bool) (rs : List (List ℤ)) → T (all p rs) → T (p []) → (x : ℕ) → T (p (getD rs x []))

@@ -43,5 +43,5 @@ pub mod WholeFiles
 pub mod Upstream
 pub mod SettledCalls
 pub mod Prices
-pub mod Theorems
 pub mod Comments
+pub mod Theorems

@@ -1,15 +1,16 @@
 -- What is shown of the calls: the page to open first. Each statement has its names on a line, then a premise a line, and its conclusion last;
 -- the words in it that are not of a call (`ReadsAs`, `Enough`, `Priced` ..) are explained in specs/Words, and those of a file as a
 -- whole (`settledIn`, `coefficientsIn` ..) in specs/Files. The proofs stand in the modules that are named behind each.
-use Prim.Native.Nat.{ℕ, _+_, _<_, _≤_}
+use Prim.Native.Nat.{ℕ, _+_, _*_, _<_, _≤_}
 use mathlib.Core.Path.{_≡_, sym, ap, _∙_}
-use mathlib.Core.Bool.{Bool, false}
+use mathlib.Core.Bool.{Bool, true, false}
 use mathlib.Core.List.{List}
 use mathlib.Core.Logic.{_↔_}
-use mathlib.Core.Option.{none}
+use mathlib.Core.Option.{none, some}
 use lib.Dec.{T}
 use lib.IntN.{ℤ}
-use lib.ListN.{length}
+use lib.ListN.{getD, length}
+use Rattle.reading.specs.declared.Bits.{Bits}
 use Rattle.reading.specs.declared.Budget.{Budget}
 use Rattle.reading.specs.declared.Decoding.{Decoding}
 use Rattle.reading.specs.declared.Inspection.{Inspection}
@@ -22,13 +23,17 @@ use Rattle.reading.specs.declared.Refusal.the-variants.{OverBudget, Shor
 use Rattle.reading.specs.declared.Settling.{Settling}
 use Rattle.reading.specs.declared.Verdict.the-variants.{Accepted, Refused}
 use Rattle.reading.specs.Tests.{over}
+use Rattle.reading.specs.Reader.{got}
+use Rattle.reading.specs.Transform.{sampleOf, samples}
+use Rattle.reading.specs.Scan.{planOf, levels}
+use Rattle.reading.specs.Settled.{settledScan}
 use Rattle.reading.specs.Header.{header}
 use Rattle.reading.specs.Reading.{accepted, reading, allSamples, picture}
 use Rattle.reading.specs.Calls.{headerPrice, inspect, Decoded, decode, Rewritten, settle}
-use Rattle.reading.specs.Comments.{commentPart, comment, hasComment}
+use Rattle.reading.specs.Comments.{comments, commentPart, comment, hasComment}
 use Rattle.reading.specs.Prices.{filePrice, decodePrice}
 use Rattle.reading.specs.Files.{headIn, coefficientsIn, samplesIn, pictureIn, settledIn, lacksEndIn}
-use Rattle.reading.specs.Words.{Not, AllBytes, ReadsAs, reread, SettlesTo, Enough, Roomy, InspectRefuses, Inspects, Priced, Alike}
+use Rattle.reading.specs.Words.{Not, AllBytes, doubleSum, ReadsAs, reread, SettlesTo, Enough, Roomy, InspectRefuses, Inspects, Priced, Alike}
 use Rattle.reading.proofs.HeaderEnds.{finished, header-ends}
 use Rattle.reading.proofs.Choice.{reading-choice}
 use Rattle.reading.proofs.Judgement as J
@@ -37,6 +42,9 @@ use Rattle.reading.proofs.Decodings as D
 use Rattle.reading.proofs.WholeFiles as F
 use Rattle.reading.proofs.SettledCalls as C
 use Rattle.reading.proofs.Prices as P
+use Rattle.reading.proofs.DoubleSum as S
+use Rattle.reading.proofs.SettledLength as L
+use Rattle.reading.proofs.Comments as N
 
 -- ---- Every call: one answer, at its price
 
@@ -198,6 +206,16 @@ module _ (s : List ℕ) (r : Record) (out scratch : List ℕ) (budget : Budget) 
       → (decode s r out scratch budget .output ≡ out) × (decode s r out scratch budget .scratch ≡ scratch)
   decode-leaves x e = let d = D.decode-refused s r out scratch budget x e in (d .output, d .scratch-is)
 
+-- ---- Samples (`DoubleSum`)
+
+-- the sample at row y and column x of a block is that of the double sum over its 64 coefficients
+pub sample-at :
+    (c : List ℤ) (y x : ℕ)
+    → y < 8
+    → x < 8
+    → getD (samples c) (8 * y + x) 0 ≡ sampleOf (doubleSum c y x)
+sample-at c y x hy hx = S.sample-at c y x hy hx
+
 -- ---- One picture, one scan: of every file, limits, budget and room aside (`WholeFiles`)
 
 pub record DemandThree (s : List ℕ) : Type 0 where
@@ -312,3 +330,32 @@ pub settled-decodes :
     → headerPrice t + r .work ≤ budget′ .left
     → Alike (decode s r out scratch budget) (decode t r out scratch budget′)
 settled-decodes s t r out scratch budget budget′ h v p = C.settled-decodes s t h r out scratch budget budget′ v p
+
+-- a settled scan has at most twice the bytes of the scan that was read, and 4 bytes a block (`SettledLength`)
+pub settled-short :
+    (s : List ℕ) (r : Record) (ls : List (List ℤ)) (b : Bits) (t : List ℕ)
+    → AllBytes s
+    → levels s r ≡ got ls b
+    → settledScan (planOf s r) ls ≡ some t
+    → length t + 2 * r .start ≤ 2 * length s + 4 * r .blocks
+settled-short s r ls b t h e f = L.settled-short s r ls b t h e f
+
+-- ---- Comments (`Comments`)
+
+-- the text of a comment lies within the file
+pub comment-within :
+    (s : List ℕ) (i : ℕ)
+    → commentPart s i .at + commentPart s i .length ≤ length s
+comment-within s i = N.comment-within s i
+
+-- has_comment answers inspect's verdict and leaves what inspect leaves; the comment is there exactly when inspect accepts and i is below their count
+pub has-comment-inspects :
+    (s : List ℕ) (i : ℕ) (l : Limits) (budget : Budget)
+    → (hasComment s i l budget .verdict ≡ inspect s false l budget .verdict) × (hasComment s i l budget .budget ≡ inspect s false l budget .budget)
+has-comment-inspects s i l budget = N.has-comment-inspects s i l budget
+
+pub has-comment-there :
+    (s : List ℕ) (i : ℕ) (l : Limits) (budget : Budget)
+    → hasComment s i l budget .there ≡ true
+      ↔ Inspects s false l budget × (i < length (comments s))
+has-comment-there s i l budget = N.has-comment-there s i l budget

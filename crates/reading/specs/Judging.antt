@@ -15,6 +15,11 @@ pub data Judged (A : Type 0) : Type 0 where
   accepts : A → Budget → Judged A
   refuses : Refusal → Budget → Judged A
 
+-- what is left of a budget behind a price
+abbrev pub remaining : Budget → ℕ → Budget
+remaining budget price = record { left = budget .left - price }
+
+-- a test, a payment, or a list of them: from the budget to what it comes to
 abbrev pub Judging : Type 0 → Type 0
 Judging A = Budget → Judged A
 
@@ -41,10 +46,6 @@ refuse x = λ budget. refuses x budget
 abbrev pub refuse-if : Bool → Refusal → Judging (Unit {0})
 refuse-if true x = refuse x
 refuse-if false x = give tt
-
--- what is left of a budget behind a price
-abbrev pub remaining : Budget → ℕ → Budget
-remaining budget price = record { left = budget .left - price }
 
 -- a price: where the budget is below it, a refusal, and nothing of it is taken
 abbrev pub pay : ℕ → Refusal → Judging (Unit {0})

@@ -1,12 +1,12 @@
 -- The words in which the theorems are said (proofs/Theorems): what a file reads as, which limits, budget and room suffice for it, by which
 -- rule a call refuses, and what it means that an answer took its listed price. No call is defined by them.
-use Prim.Native.Nat.{ℕ, _+_, _^_, _<_, _≤_}
+use Prim.Native.Nat.{ℕ, zero, suc, _+_, _*_, _^_, _<_, _≤_}
 use mathlib.Core.Path.{_≡_}
 use mathlib.Core.Bool.{Bool}
 use mathlib.Core.List.{List, [], _∷_}
 use mathlib.Core.Logic.{_⊎_}
 use mathlib.Core.Option.{Option, some}
-use lib.IntN.{ℤ}
+use lib.IntN.{ℤ, pos, _+ℤ_, _*ℤ_}
 use lib.ListN.{length}
 use Rattle.reading.specs.declared.Budget.{Budget}
 use Rattle.reading.specs.declared.Limits.{Limits}
@@ -15,6 +15,8 @@ use Rattle.reading.specs.declared.Refusal.{Refusal}
 use Rattle.reading.specs.declared.Refusal.the-variants.{TooLong, OverBudget, CutShort, Malformed, Unsupported, TooLarge, WorkOverBudget, ShortRoom, NotItsRecord, NoEndCode, Scan}
 use Rattle.reading.specs.declared.Verdict.{Verdict}
 use Rattle.reading.specs.declared.Verdict.the-variants.{Accepted}
+use Rattle.whole.specs.Expressions.{at}
+use Rattle.basis.specs.Basis.{basis, basisAt}
 use Rattle.reading.specs.Reader.{fault}
 use Rattle.reading.specs.Header.{done, stop, header}
 use Rattle.reading.specs.Scan.{levels}
@@ -31,6 +33,18 @@ Not A = A → ⊥
 abbrev pub AllBytes : List ℕ → Type 0
 AllBytes [] = Unit {0}
 AllBytes (x ∷ l) = (x < 256) × AllBytes l
+
+-- ---- the double sum of a block, as one sum of 64 products
+
+-- f 0 + .. + f (n - 1)
+unfoldable pub sumOf : ℕ → (ℕ → ℤ) → ℤ
+sumOf zero f = pos 0
+sumOf (suc n) f = f 0 +ℤ sumOf n (λ j. f (suc j))
+
+-- the sum over v and u of coefficient (v, u) x basis (x, u) x basis (y, v)
+unfoldable pub doubleSum : List ℤ → ℕ → ℕ → ℤ
+unfolding basis sumOf
+doubleSum c y x = sumOf 8 (λ v. sumOf 8 (λ u. at c (8 * v + u) *ℤ basisAt x u *ℤ basisAt y v))
 
 -- ---- a file, limits, budget and room aside
 
