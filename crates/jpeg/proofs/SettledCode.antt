@@ -1,5 +1,5 @@
--- Demand 3 of the code. What a call of settle, inspect or decode returned is given by its contract; what follows of the bytes that settle
--- left in its buffer, where limits, budget and room are enough.
+-- Demand 3 of the code, as a caller in Rattle cites it: the premises are the contracts of the calls it made (`c .. .settle .ensures` and so on) and
+-- what they answered; what follows is about the bytes that settle left in its buffer, where limits, budget and room are enough.
 use Prim.Native.Nat.{ℕ, _+_, _≤_}
 use mathlib.Core.Path.{_≡_, sym, ap, _∙_, subst⁻¹}
 use mathlib.Core.Bool.{Bool}
@@ -50,7 +50,12 @@ module _ (s : List ℕ) (l : Limits) (budget : Budget) (out : List ℕ) (answer 
   module _ (l′ : Limits) (budget′ : Budget) where
     -- what inspect, called on the file, accepts, it accepts of the bytes with the same record
     pub code-inspects :
-        (colour : Bool) (l″ : Limits) (budget″ : Budget) {seen again : Inspection} → seen ≡ inspect s colour l″ budget″ → seen .verdict ≡ Accepted → again ≡ inspect (take (answer .length) left) colour l′ budget′ → Enough (take (answer .length) left) (seen .found) l′ budget′ → (again .verdict ≡ Accepted) × (again .found ≡ seen .found)
+        (colour : Bool) (l″ : Limits) (budget″ : Budget) {seen again : Inspection}
+        → seen ≡ inspect s colour l″ budget″
+        → seen .verdict ≡ Accepted
+        → again ≡ inspect (take (answer .length) left) colour l′ budget′
+        → Enough (take (answer .length) left) (seen .found) l′ budget′
+        → (again .verdict ≡ Accepted) × (again .found ≡ seen .found)
     code-inspects colour l″ budget″ {seen} {again} a v b e =
         let read = inspect-accepts s colour l″ budget″ (seen .found) .0 (sym (ap (λ (i : Inspection). i .verdict) a) ∙ v, sym (ap (λ (i : Inspection). i .found) a)) .0 in
         let w = inspect-accepts (take (answer .length) left) colour l′ budget′ (seen .found) .1 ((read .0, code-reads colour ∙ read .1), e) in
@@ -58,21 +63,45 @@ module _ (s : List ℕ) (l : Limits) (budget : Budget) (out : List ℕ) (answer 
 
     -- settle, called on the bytes, gives them again
     pub code-settles-again :
-        (out′ : List ℕ) {again : Settling} {left′ : List ℕ} → remade again left′ ≡ settle (take (answer .length) left) l′ budget′ out′ → Enough (take (answer .length) left) (by .found) l′ budget′ → answer .length ≤ length out′ → (again .verdict ≡ Accepted) × (again .length ≡ answer .length) × (take (again .length) left′ ≡ take (answer .length) left)
+        (out′ : List ℕ) {again : Settling} {left′ : List ℕ}
+        → remade again left′ ≡ settle (take (answer .length) left) l′ budget′ out′
+        → Enough (take (answer .length) left) (by .found) l′ budget′
+        → answer .length ≤ length out′
+        → (again .verdict ≡ Accepted) × (again .length ≡ answer .length) × (take (again .length) left′ ≡ take (answer .length) left)
     code-settles-again out′ {again} {left′} b e room =
-        let is = b ∙ ap (λ x. settle x l′ budget′ out′) (sym same) ∙ settled-again s l budget out by l′ budget′ (subst⁻¹ (λ x. Enough x (by .found) l′ budget′) same e) out′ (subst⁻¹ (λ n. n ≤ length out′) (ap length same ∙ whole) room) in
-        (ap (λ (w : Rewritten). w .answer .verdict) is, ap (λ (w : Rewritten). w .answer .length) is ∙ ap length same ∙ whole, ap settledBytes is ∙ take-append-seam (settledBytes (settle s l budget out)) (drop (length (settledBytes (settle s l budget out))) out′) ∙ same)
+        let enough = subst⁻¹ (λ x. Enough x (by .found) l′ budget′) same e in
+        let fits = subst⁻¹ (λ n. n ≤ length out′) (ap length same ∙ whole) room in
+        let is = b ∙ ap (λ x. settle x l′ budget′ out′) (sym same) ∙ settled-again s l budget out by l′ budget′ enough out′ fits in
+        let old = settledBytes (settle s l budget out) in (
+          ap (λ (w : Rewritten). w .answer .verdict) is,
+          ap (λ (w : Rewritten). w .answer .length) is ∙ ap length same ∙ whole,
+          ap settledBytes is ∙ take-append-seam old (drop (length old) out′) ∙ same,
+        )
 
   -- decode, called on the file and on the bytes with one record and the same buffers, leaves the same samples and the same picture
   pub code-decodes :
-      (r : Record) (picture scratch : List ℕ) (first second : Budget) {d d′ : Decoding} {p q p′ q′ : List ℕ} → steps.left d p q ≡ decode s r picture scratch first → d .verdict ≡ Accepted → steps.left d′ p′ q′ ≡ decode (take (answer .length) left) r picture scratch second → headerPrice (take (answer .length) left) + r .work ≤ second .left → (d′ .verdict ≡ Accepted) × (p′ ≡ p) × (q′ ≡ q)
+      (r : Record) (picture scratch : List ℕ) (first second : Budget) {d d′ : Decoding} {p q p′ q′ : List ℕ}
+      → steps.left d p q ≡ decode s r picture scratch first
+      → d .verdict ≡ Accepted
+      → steps.left d′ p′ q′ ≡ decode (take (answer .length) left) r picture scratch second
+      → headerPrice (take (answer .length) left) + r .work ≤ second .left
+      → (d′ .verdict ≡ Accepted) × (p′ ≡ p) × (q′ ≡ q)
   code-decodes r picture scratch first second a v b enough =
-      let w = settled-decodes s (take (answer .length) left) code-settled r picture scratch first second (sym (ap (λ (x : Decoded). x .answer .verdict) a) ∙ v) enough in
-      (ap (λ (x : Decoded). x .answer .verdict) b ∙ w .verdict, ap (λ (x : Decoded). x .output) b ∙ w .output ∙ sym (ap (λ (x : Decoded). x .output) a), ap (λ (x : Decoded). x .scratch) b ∙ w .scratch ∙ sym (ap (λ (x : Decoded). x .scratch) a))
+      let w = settled-decodes s (take (answer .length) left) code-settled r picture scratch first second (sym (ap (λ (x : Decoded). x .answer .verdict) a) ∙ v) enough in (
+        ap (λ (x : Decoded). x .answer .verdict) b ∙ w .verdict,
+        ap (λ (x : Decoded). x .output) b ∙ w .output ∙ sym (ap (λ (x : Decoded). x .output) a),
+        ap (λ (x : Decoded). x .scratch) b ∙ w .scratch ∙ sym (ap (λ (x : Decoded). x .scratch) a),
+      )
 
 -- two calls on files with one head leave the same bytes exactly when the coefficients are equal
 pub code-one-picture :
-    (s s′ : List ℕ) (l l′ : Limits) (budget budget′ : Budget) (out out′ : List ℕ) (answer answer′ : Settling) (left left′ : List ℕ) (c : Call s l budget out answer left) (c′ : Call s′ l′ budget′ out′ answer′ left′) → headIn s ≡ headIn s′ → take (answer .length) left ≡ take (answer′ .length) left′ ↔ coefficientsIn s ≡ coefficientsIn s′
+    (s s′ : List ℕ) (l l′ : Limits) (budget budget′ : Budget) (out out′ : List ℕ) (answer answer′ : Settling) (left left′ : List ℕ)
+    → (c : Call s l budget out answer left)
+    → (c′ : Call s′ l′ budget′ out′ answer′ left′)
+    → headIn s ≡ headIn s′
+    → take (answer .length) left ≡ take (answer′ .length) left′ ↔ coefficientsIn s ≡ coefficientsIn s′
 code-one-picture s s′ l l′ budget budget′ out out′ answer answer′ left left′ c c′ e =
     let w = one-picture-one-file s s′ l l′ budget budget′ out out′ (by s l budget out answer left c) (by s′ l′ budget′ out′ answer′ left′ c′) e in
-    (λ x. w .0 (same s l budget out answer left c ∙ x ∙ sym (same s′ l′ budget′ out′ answer′ left′ c′)), λ x. sym (same s l budget out answer left c) ∙ w .1 x ∙ same s′ l′ budget′ out′ answer′ left′ c′)
+    let here = same s l budget out answer left c in
+    let there = same s′ l′ budget′ out′ answer′ left′ c′ in
+    (λ x. w .0 (here ∙ x ∙ sym there), λ x. sym here ∙ w .1 x ∙ there)

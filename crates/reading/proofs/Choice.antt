@@ -53,10 +53,32 @@ module _ (c d : Bool) where
   segment-choice h Others b a e = refl
 
   marker-choice : (s : List ℕ) (h : Header) → marker s c h ≡ restage c (marker s d h)
-  marker-choice s h = through _ _ _ _ (either (eqb (byte s (h .at + 1)) 255) (more (moved h (h .at + 1) Marker)) (more (moved h (h .at + 1) Marker)) _ (refuse-if (eqb (byte s (h .at + 1)) 217) Malformed (refuse-if (ltb (length s) (h .at + 4) or ltb (word s (h .at + 2)) 2 or ltb (length s) (segmentEnd s (h .at))) CutShort (seg d))) refl (through (eqb (byte s (h .at + 1)) 217) Malformed _ (refuse-if (ltb (length s) (h .at + 4) or ltb (word s (h .at + 2)) 2 or ltb (length s) (segmentEnd s (h .at))) CutShort (seg d)) (through (ltb (length s) (h .at + 4) or ltb (word s (h .at + 2)) 2 or ltb (length s) (segmentEnd s (h .at))) CutShort (seg c) (seg d) (segment-choice h (kindOf (byte s (h .at + 1))) (window s (h .at + 4) (segmentEnd s (h .at))) (h .at + 4) (segmentEnd s (h .at))))))
+  marker-choice s h =
+      through _ _ _ _
+      (either (eqb code 255) fill fill _ (behind d) refl
+      (through (eqb code 217) Malformed _ (uncut d)
+      (through cut CutShort (seg c) (seg d) (segment-choice h (kindOf code) (window s (h .at + 4) end) (h .at + 4) end))))
     where
+      code : ℕ
+      code = byte s (h .at + 1)
+
+      end : ℕ
+      end = segmentEnd s (h .at)
+
+      fill : Stage
+      fill = more (moved h (h .at + 1) Marker)
+
+      cut : Bool
+      cut = ltb (length s) (h .at + 4) or ltb (word s (h .at + 2)) 2 or ltb (length s) end
+
       seg : Bool → Stage
-      seg k = segment k h (kindOf (byte s (h .at + 1))) (window s (h .at + 4) (segmentEnd s (h .at))) (h .at + 4) (segmentEnd s (h .at))
+      seg k = segment k h (kindOf code) (window s (h .at + 4) end) (h .at + 4) end
+
+      uncut : Bool → Stage
+      uncut k = refuse-if cut CutShort (seg k)
+
+      behind : Bool → Stage
+      behind k = refuse-if (eqb code 217) Malformed (uncut k)
 
   step-choice : (s : List ℕ) (h : Header) (k : Case) → stepIn s c h k ≡ restage c (stepIn s d h k)
   step-choice s h Marker = marker-choice s h

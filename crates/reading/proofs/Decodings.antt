@@ -170,19 +170,31 @@ module _ (s : List ℕ) (r : Record) (out scratch : List ℕ) (budget : Budget) 
   unfolding decode
   decode-eight = go (decoding s r out scratch budget) way
     where
-      go : (m : Judged (List (List ℤ))) → Way m → decoded s r out scratch m .answer .verdict ≡ Refused NotItsRecord ↔ Roomy r out scratch × (price ≤ budget .left) × Not ItsRecord
+      go :
+          (m : Judged (List (List ℤ)))
+          → Way m
+          → decoded s r out scratch m .answer .verdict ≡ Refused NotItsRecord ↔ Roomy r out scratch × (price ≤ budget .left) × Not ItsRecord
       go m (short n) = (λ v. absurd (subst⁻¹ (numbered 8) v tt), λ k. absurd (n (k .0)))
       go m (poor a p) = (λ v. absurd (subst⁻¹ (numbered 8) v tt), λ k. let z : ⊥ = omega (arith, p, k .1) in absurd z)
       go m (other a p n) = (λ v. (a, p, n), λ k. refl)
       go m (its ls a p e) = (λ v. absurd (subst⁻¹ (numbered 8) v tt), λ k. absurd (k .2 (ls, e)))
 
   -- what is accepted is drawn
-  pub decodes : (ls : List (List ℤ)) → reading s (r .colour) ≡ accepted r ls → Roomy r out scratch → price ≤ budget .left → decode s r out scratch budget ≡ decodedWith r out scratch (remaining budget price) (allSamples s r ls)
+  pub decodes :
+      (ls : List (List ℤ))
+      → reading s (r .colour) ≡ accepted r ls
+      → Roomy r out scratch
+      → price ≤ budget .left
+      → decode s r out scratch budget ≡ decodedWith r out scratch (remaining budget price) (allSamples s r ls)
   unfolding decode
   decodes ls e a p = rw (le-ltb (length out) (r .output) (a .0), le-ltb (length scratch) (r .scratch) (a .1), le-ltb (budget .left) price p, e, same-self r) refl
 
   -- the samples and the picture are those of the reading
-  pub decode-draws : (ls : List (List ℤ)) → reading s (r .colour) ≡ accepted r ls → decode s r out scratch budget .answer .verdict ≡ Accepted → (decode s r out scratch budget .scratch ≡ over (allSamples s r ls) scratch) × (decode s r out scratch budget .output ≡ over (picture r (allSamples s r ls)) out)
+  pub decode-draws :
+      (ls : List (List ℤ))
+      → reading s (r .colour) ≡ accepted r ls
+      → decode s r out scratch budget .answer .verdict ≡ Accepted
+      → (decode s r out scratch budget .scratch ≡ over (allSamples s r ls) scratch) × (decode s r out scratch budget .output ≡ over (picture r (allSamples s r ls)) out)
   decode-draws ls e v =
       let k = decode-accepts .0 v in
       let w = decodes ls e (k .0) (k .1) in

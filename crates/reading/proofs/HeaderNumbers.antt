@@ -49,7 +49,12 @@ module _ (s : List ℕ) (colour : Bool) where
   segment-numbered h Others b a e = off _ unsupported
 
   step-numbered : (h : Header) (k : Case) → Numbered (stepIn s colour h k)
-  step-numbered h Marker = test _ _ _ malformed (either (eqb (byte s (h .at + 1)) 255) _ _ (on _) (test _ _ _ malformed (test _ _ _ cut-short (segment-numbered h (kindOf (byte s (h .at + 1))) (window s (h .at + 4) (segmentEnd s (h .at))) (h .at + 4) (segmentEnd s (h .at))))))
+  step-numbered h Marker =
+      let code = byte s (h .at + 1) in
+      let end = segmentEnd s (h .at) in
+      test _ _ _ malformed
+      (either (eqb code 255) _ _ (on _)
+      (test _ _ _ malformed (test _ _ _ cut-short (segment-numbered h (kindOf code) (window s (h .at + 4) end) (h .at + 4) end))))
   step-numbered h (Quantizers e) = either (eqb (h .at) e) _ _ (on _) (test _ _ _ malformed (on _))
   step-numbered h (Huffman e) = either (eqb (h .at) e) _ _ (on _) (test _ _ _ malformed (on _))
 

@@ -45,23 +45,39 @@ module _ {B : Type 0} (P : Judged B → Type 0) where
   tested true x b k f g = f refl
   tested false x b k f g = g refl
 
-  pub charged : (n : ℕ) (x : Refusal) (b : Budget) (k : Judging B) → (b .left < n → P (refuses x b)) → (n ≤ b .left → P (k (remaining b n))) → P (onward (pay n x b) (λ _. k))
+  pub charged :
+      (n : ℕ) (x : Refusal) (b : Budget) (k : Judging B)
+      → (b .left < n → P (refuses x b))
+      → (n ≤ b .left → P (k (remaining b n)))
+      → P (onward (pay n x b) (λ _. k))
   charged n x b k f g = go (ltb (b .left) n) refl
     where
       go : (t : Bool) → ltb (b .left) n ≡ t → P (onward (cond t (refuses x b) (accepts (tt {0}) (remaining b n))) (λ _. k))
       go true e = f (ltb-true (b .left) n e)
       go false e = g (ltb-false (b .left) n e)
 
-  pub ended : (st : Stage) (b : Budget) (k : Record → Judging B) → ((x : Refusal) → headed st .verdict ≡ Refused x → P (refuses x b)) → ((r : Record) → st ≡ done r → P (k r b)) → P (onward (ending give refuse st b) k)
+  pub ended :
+      (st : Stage) (b : Budget) (k : Record → Judging B)
+      → ((x : Refusal) → headed st .verdict ≡ Refused x → P (refuses x b))
+      → ((r : Record) → st ≡ done r → P (k r b))
+      → P (onward (ending give refuse st b) k)
   ended (more h) b k f g = f CutShort refl
   ended (done r) b k f g = g r refl
   ended (stop x) b k f g = f x refl
 
-  pub followed : {A : Type 0} (m : Judged A) (k : A → Judging B) → ((x : Refusal) (b : Budget) → m ≡ refuses x b → P (refuses x b)) → ((a : A) (b : Budget) → m ≡ accepts a b → P (k a b)) → P (onward m k)
+  pub followed :
+      {A : Type 0} (m : Judged A) (k : A → Judging B)
+      → ((x : Refusal) (b : Budget) → m ≡ refuses x b → P (refuses x b))
+      → ((a : A) (b : Budget) → m ≡ accepts a b → P (k a b))
+      → P (onward m k)
   followed (accepts a b) k f g = g a b refl
   followed (refuses x b) k f g = f x b refl
 
-  pub scanned : {A : Type 0} (o : Read Bits A) (b : Budget) (k : A → Judging B) → ((f : Fault) → o ≡ fault f → P (refuses (Scan f) b)) → ((a : A) (q : Bits) → o ≡ got a q → P (k a b)) → P (onward (unbroken o b) k)
+  pub scanned :
+      {A : Type 0} (o : Read Bits A) (b : Budget) (k : A → Judging B)
+      → ((f : Fault) → o ≡ fault f → P (refuses (Scan f) b))
+      → ((a : A) (q : Bits) → o ≡ got a q → P (k a b))
+      → P (onward (unbroken o b) k)
   scanned (got a q) b k f g = g a q refl
   scanned (fault e) b k f g = f e refl
 
@@ -128,7 +144,13 @@ module _ (s : List ℕ) (colour : Bool) (l : Limits) (budget : Budget) where
     poor : tooLong s l ≡ false → budget .left < headerPrice s → Way (refuses OverBudget budget)
     headless : (x : Refusal) → Begun s l budget → headed (header s colour) .verdict ≡ Refused x → Way (refuses x behindHeader)
     large : (r : Record) → Begun s l budget → header s colour ≡ done r → tooLarge l r ≡ true → Way (refuses TooLarge behindHeader)
-    poor-for-work : (r : Record) → Begun s l budget → header s colour ≡ done r → Within l r → budget .left < headerPrice s + r .work → Way (refuses WorkOverBudget behindHeader)
+    poor-for-work :
+        (r : Record)
+        → Begun s l budget
+        → header s colour ≡ done r
+        → Within l r
+        → budget .left < headerPrice s + r .work
+        → Way (refuses WorkOverBudget behindHeader)
     admitted : (r : Record) → header s colour ≡ done r → Enough s r l budget → Way (accepts r (behindWork r))
 
   begins : tooLong s l ≡ false → headerPrice s ≤ budget .left → Begun s l budget
@@ -178,7 +200,12 @@ module _ (s : List ℕ) (colour : Bool) (l : Limits) (budget : Budget) where
   pub data Judges : Judged ReadFile → Type 0 where
     stopped : (x : Refusal) (b : Budget) → Way (refuses x b) → Judges (refuses x b)
     broken : (r : Record) (f : Fault) → header s colour ≡ done r → Enough s r l budget → levels s r ≡ fault f → Judges (refuses (Scan f) (behindWork r))
-    through : (r : Record) (ls : List (List ℤ)) (q : Bits) → header s colour ≡ done r → Enough s r l budget → levels s r ≡ got ls q → Judges (accepts (record { found = r; blocks = ls }) (behindWork r))
+    through :
+        (r : Record) (ls : List (List ℤ)) (q : Bits)
+        → header s colour ≡ done r
+        → Enough s r l budget
+        → levels s r ≡ got ls q
+        → Judges (accepts (record { found = r; blocks = ls }) (behindWork r))
 
   pub judged : Judges (judgement s colour l budget)
   judged = on (admission s colour l budget) way
@@ -194,12 +221,20 @@ module _ (s : List ℕ) (colour : Bool) (l : Limits) (budget : Budget) where
   -- ---- what is accepted
 
   -- a file that is read is judged to its end
-  pub judges : (r : Record) (ls : List (List ℤ)) → reading s colour ≡ accepted r ls → Enough s r l budget → judgement s colour l budget ≡ accepts (record { found = r; blocks = ls }) (behindWork r)
+  pub judges :
+      (r : Record) (ls : List (List ℤ))
+      → reading s colour ≡ accepted r ls
+      → Enough s r l budget
+      → judgement s colour l budget ≡ accepts (record { found = r; blocks = ls }) (behindWork r)
   judges r ls e h =
       let t = taken-apart s colour r ls e in
       ap (λ m. onward m (scanBehind s)) (admits r (t .head) h) ∙ ap (λ o. onward (unbroken o (behindWork r)) (λ ls. give (record { found = r; blocks = ls }))) (t .body)
 
-  pub inspects : (r : Record) (ls : List (List ℤ)) → reading s colour ≡ accepted r ls → Enough s r l budget → inspect s colour l budget ≡ record { verdict = Accepted; budget = behindWork r; found = r }
+  pub inspects :
+      (r : Record) (ls : List (List ℤ))
+      → reading s colour ≡ accepted r ls
+      → Enough s r l budget
+      → inspect s colour l budget ≡ record { verdict = Accepted; budget = behindWork r; found = r }
   unfolding inspect
   inspects r ls e h = ap foundIn (judges r ls e h)
 
@@ -225,7 +260,17 @@ module _ (s : List ℕ) (colour : Bool) (l : Limits) (budget : Budget) where
   -- accepted with this record exactly when the reading is, and limits and budget are enough for it
   pub inspect-accepts : (r : Record) → (inspect s colour l budget .verdict ≡ Accepted) × (inspect s colour l budget .found ≡ r) ↔ ReadsAs s colour r × Enough s r l budget
   inspect-accepts r =
-      (λ k. let a = inspect-accepted (k .0) in subst (λ (q : Record). ReadsAs s colour q × Enough s q l budget) (k .1) ((a .blocks, a .read), a .enough), λ k. let w = inspects r (k .0 .0) (k .0 .1) (k .1) in (ap (λ (i : Inspection). i .verdict) w, ap (λ (i : Inspection). i .found) w))
+      (so, back)
+    where
+      so : (inspect s colour l budget .verdict ≡ Accepted) × (inspect s colour l budget .found ≡ r) → ReadsAs s colour r × Enough s r l budget
+      so (v, e) =
+          let a = inspect-accepted v in
+          subst (λ (q : Record). ReadsAs s colour q × Enough s q l budget) e ((a .blocks, a .read), a .enough)
+
+      back : ReadsAs s colour r × Enough s r l budget → (inspect s colour l budget .verdict ≡ Accepted) × (inspect s colour l budget .found ≡ r)
+      back k =
+          let w = inspects r (k .0 .0) (k .0 .1) (k .1) in
+          (ap (λ (i : Inspection). i .verdict) w, ap (λ (i : Inspection). i .found) w)
 
   -- ---- what is taken at most
 

@@ -92,11 +92,21 @@ module _ (s : List ℕ) (l : Limits) (budget : Budget) where
   unfolding settle
   settle-price out = go (judgement s false l budget) (judged s false l budget)
     where
-      room-priced : (r : Record) → header s false ≡ done r → Enough s r l budget → (t : List ℕ) (q : Bool) → Settled (cond q (unsettled ShortRoom (leftBehind s r budget) (length t) out) (laid t (leftBehind s r budget) out))
+      room-priced :
+          (r : Record)
+          → header s false ≡ done r
+          → Enough s r l budget
+          → (t : List ℕ) (q : Bool)
+          → Settled (cond q (unsettled ShortRoom (leftBehind s r budget) (length t) out) (laid t (leftBehind s r budget) out))
       room-priced r e h t true = for-whole s false l budget (Refused ShortRoom) r e h refl
       room-priced r e h t false = for-whole s false l budget Accepted r e h refl
 
-      file-priced : (r : Record) → header s false ≡ done r → Enough s r l budget → (o : Option (List ℕ)) → Settled (rewritten out (give-or NoEndCode o (leftBehind s r budget)))
+      file-priced :
+          (r : Record)
+          → header s false ≡ done r
+          → Enough s r l budget
+          → (o : Option (List ℕ))
+          → Settled (rewritten out (give-or NoEndCode o (leftBehind s r budget)))
       file-priced r e h none = for-whole s false l budget (Refused NoEndCode) r e h refl
       file-priced r e h (some t) = room-priced r e h t (ltb (length out) (length t))
 
@@ -122,7 +132,9 @@ left-alike listed budget {v} {w} {a} {b} e p q = ap (λ n. record { left = n }) 
     same = omega (arith, p .all, q .all, taken)
 
 -- the colour choice changes neither the answer's number nor what is left
-pub inspect-choice : (s : List ℕ) (l : Limits) (budget : Budget) (c d : Bool) → (inspect s d l budget .verdict ≡ inspect s c l budget .verdict) × (inspect s d l budget .budget ≡ inspect s c l budget .budget)
+pub inspect-choice :
+    (s : List ℕ) (l : Limits) (budget : Budget) (c d : Bool)
+    → (inspect s d l budget .verdict ≡ inspect s c l budget .verdict) × (inspect s d l budget .budget ≡ inspect s c l budget .budget)
 inspect-choice s l budget c d =
     let e = verdict-alike s l budget c d in
     (e, left-alike (filePrice s) budget e (inspect-price s c l budget) (inspect-price s d l budget))
@@ -134,7 +146,10 @@ module _ (s : List ℕ) (r : Record) (out scratch : List ℕ) (budget : Budget) 
   unfolding decode
   decode-price = go (decoding s r out scratch budget) (dec.way s r out scratch budget)
     where
-      go : (m : Judged (List (List ℤ))) → dec.Way s r out scratch budget m → Priced (decodePrice s r) budget (decoded s r out scratch m .answer .verdict) (decoded s r out scratch m .answer .budget)
+      go :
+          (m : Judged (List (List ℤ)))
+          → dec.Way s r out scratch budget m
+          → Priced (decodePrice s r) budget (decoded s r out scratch m .answer .verdict) (decoded s r out scratch m .answer .budget)
       go m (dec.short n) = nothing (decodePrice s r) budget _ refl
       go m (dec.poor a p) = nothing (decodePrice s r) budget _ refl
       go m (dec.other a p n) = taking (decodePrice s r) budget _ (headerPrice s + r .work) p refl

@@ -88,7 +88,16 @@ module _ (s : List ℕ) (l : Limits) (budget : Budget) (out : List ℕ) where
   unfolding settle
   settled-by v = go (judgement s false l budget) (judged s false l budget) (subst⁻¹ IsAccepted v tt)
     where
-      room-test : (r : Record) (ls : List (List ℤ)) → reading s false ≡ accepted r ls → Enough s r l budget → (t : List ℕ) → settledFile s r ls ≡ some t → (q : Bool) → ltb (length out) (length t) ≡ q → IsAccepted (cond q (unsettled ShortRoom (leftBehind s r budget) (length t) out) (laid t (leftBehind s r budget) out) .answer .verdict) → SettledBy s l budget out
+      room-test :
+          (r : Record) (ls : List (List ℤ))
+          → reading s false ≡ accepted r ls
+          → Enough s r l budget
+          → (t : List ℕ)
+          → settledFile s r ls ≡ some t
+          → (q : Bool)
+          → ltb (length out) (length t) ≡ q
+          → IsAccepted (cond q (unsettled ShortRoom (leftBehind s r budget) (length t) out) (laid t (leftBehind s r budget) out) .answer .verdict)
+          → SettledBy s l budget out
       room-test r ls e h t f true p k = absurd k
       room-test r ls e h t f false p k =
           record {
@@ -102,7 +111,14 @@ module _ (s : List ℕ) (l : Limits) (budget : Budget) (out : List ℕ) where
             is = settles s l budget out r ls e h t f (ltb-false (length out) (length t) p);
           }
 
-      file-test : (r : Record) (ls : List (List ℤ)) → reading s false ≡ accepted r ls → Enough s r l budget → (o : Option (List ℕ)) → settledFile s r ls ≡ o → IsAccepted (rewritten out (give-or NoEndCode o (leftBehind s r budget)) .answer .verdict) → SettledBy s l budget out
+      file-test :
+          (r : Record) (ls : List (List ℤ))
+          → reading s false ≡ accepted r ls
+          → Enough s r l budget
+          → (o : Option (List ℕ))
+          → settledFile s r ls ≡ o
+          → IsAccepted (rewritten out (give-or NoEndCode o (leftBehind s r budget)) .answer .verdict)
+          → SettledBy s l budget out
       file-test r ls e h none f k = absurd k
       file-test r ls e h (some t) f k = room-test r ls e h t f (ltb (length out) (length t)) refl k
 
@@ -141,11 +157,19 @@ module _ (s : List ℕ) (l : Limits) (budget : Budget) (out : List ℕ) (z : Set
 
   module _ (l′ : Limits) (budget′ : Budget) where
     -- what inspect accepts of the file it accepts of the settled file, with the same record, where limits and budget suffice
-    pub settled-inspects : (colour : Bool) (r : Record) (ls : List (List ℤ)) → reading s colour ≡ accepted r ls → Enough bytes r l′ budget′ → inspect bytes colour l′ budget′ ≡ record { verdict = Accepted; budget = leftBehind bytes r budget′; found = r }
+    pub settled-inspects :
+        (colour : Bool) (r : Record) (ls : List (List ℤ))
+        → reading s colour ≡ accepted r ls
+        → Enough bytes r l′ budget′
+        → inspect bytes colour l′ budget′ ≡ record { verdict = Accepted; budget = leftBehind bytes r budget′; found = r }
     settled-inspects colour r ls e h = inspects bytes colour l′ budget′ r ls (settled-reads colour ∙ e) h
 
     -- settling it again gives the same bytes
-    pub settled-again : Enough bytes (z .found) l′ budget′ → (out′ : List ℕ) → length bytes ≤ length out′ → settle bytes l′ budget′ out′ ≡ laid bytes (leftBehind bytes (z .found) budget′) out′
+    pub settled-again :
+        Enough bytes (z .found) l′ budget′
+        → (out′ : List ℕ)
+        → length bytes ≤ length out′
+        → settle bytes l′ budget′ out′ ≡ laid bytes (leftBehind bytes (z .found) budget′) out′
     settled-again e out′ room =
         let read : reading bytes false ≡ accepted (z .found) (z .blocks) = settled-reads false ∙ z .read in
         settles bytes l′ budget′ out′ (z .found) (z .blocks) read e bytes
@@ -153,13 +177,23 @@ module _ (s : List ℕ) (l : Limits) (budget : Budget) (out : List ℕ) (z : Set
 
 -- two files with one head settle to the same bytes exactly when their coefficients are equal
 pub one-picture-one-file :
-    (s s′ : List ℕ) (l l′ : Limits) (budget budget′ : Budget) (out out′ : List ℕ) (z : SettledBy s l budget out) (z′ : SettledBy s′ l′ budget′ out′) → headIn s ≡ headIn s′ → settledBytes (settle s l budget out) ≡ settledBytes (settle s′ l′ budget′ out′) ↔ coefficientsIn s ≡ coefficientsIn s′
+    (s s′ : List ℕ) (l l′ : Limits) (budget budget′ : Budget) (out out′ : List ℕ)
+    → (z : SettledBy s l budget out)
+    → (z′ : SettledBy s′ l′ budget′ out′)
+    → headIn s ≡ headIn s′
+    → settledBytes (settle s l budget out) ≡ settledBytes (settle s′ l′ budget′ out′) ↔ coefficientsIn s ≡ coefficientsIn s′
 one-picture-one-file s s′ l l′ budget budget′ out out′ z z′ e =
     equal-so s s′ (bytes s l budget out z) (bytes s′ l′ budget′ out′ z′) (bytes-settled s l budget out z) (bytes-settled s′ l′ budget′ out′ z′) e
 
 -- ---- the settled file, decoded: the same samples and the same picture with the same record
 
-pub settled-decodes : (s t : List ℕ) → settledIn s ≡ some t → (r : Record) (out scratch : List ℕ) (budget budget′ : Budget) → decode s r out scratch budget .answer .verdict ≡ Accepted → headerPrice t + r .work ≤ budget′ .left → Alike (decode s r out scratch budget) (decode t r out scratch budget′)
+pub settled-decodes :
+    (s t : List ℕ)
+    → settledIn s ≡ some t
+    → (r : Record) (out scratch : List ℕ) (budget budget′ : Budget)
+    → decode s r out scratch budget .answer .verdict ≡ Accepted
+    → headerPrice t + r .work ≤ budget′ .left
+    → Alike (decode s r out scratch budget) (decode t r out scratch budget′)
 settled-decodes s t h r out scratch budget budget′ v p =
     let d = decode-accepted s r out scratch budget v in
     let w = decodes t r out scratch budget′ (d .blocks) (reads-alike s t h (r .colour) ∙ d .read) (d .room) p in
@@ -206,7 +240,13 @@ module _ (s : List ℕ) (l : Limits) (budget : Budget) (out : List ℕ) where
   unfolding settle inspect
   settle-way = go (judgement s false l budget) refl (judged s false l budget)
     where
-      room-way : (t : List ℕ) (b : Budget) → Inspects → settledIn s ≡ some t → (q : Bool) → ltb (length out) (length t) ≡ q → SettleWay (cond q (unsettled ShortRoom b (length t) out) (laid t b out))
+      room-way :
+          (t : List ℕ) (b : Budget)
+          → Inspects
+          → settledIn s ≡ some t
+          → (q : Bool)
+          → ltb (length out) (length t) ≡ q
+          → SettleWay (cond q (unsettled ShortRoom b (length t) out) (laid t b out))
       room-way t b a f true p = seven t b a f (ltb-true (length out) (length t) p)
       room-way t b a f false p = done t b a f (ltb-false (length out) (length t) p)
 
@@ -239,7 +279,11 @@ module _ (s : List ℕ) (l : Limits) (budget : Budget) (out : List ℕ) where
       go w (done t b a f p) = (λ v. (a, (t, f, p)), λ k. refl)
 
   -- it then writes the settled file over the buffer, and returns its length
-  pub settle-writes : (t : List ℕ) → settledIn s ≡ some t → settle s l budget out .answer .verdict ≡ Accepted → (settle s l budget out .answer .length ≡ length t) × (settle s l budget out .output ≡ over t out)
+  pub settle-writes :
+      (t : List ℕ)
+      → settledIn s ≡ some t
+      → settle s l budget out .answer .verdict ≡ Accepted
+      → (settle s l budget out .answer .length ≡ length t) × (settle s l budget out .output ≡ over t out)
   settle-writes t e = go (settle s l budget out) settle-way
     where
       go : (w : Rewritten) → SettleWay w → w .answer .verdict ≡ Accepted → (w .answer .length ≡ length t) × (w .output ≡ over t out)
@@ -249,10 +293,15 @@ module _ (s : List ℕ) (l : Limits) (budget : Budget) (out : List ℕ) where
       go w (done u b a f p) v = (ap length (one-file f e), ap (λ x. over x out) (one-file f e))
 
   -- 7 exactly when inspect would accept and there is a settled file that is too long; its length is named
-  pub settle-seven : (n : ℕ) → (settle s l budget out .answer .verdict ≡ Refused ShortRoom) × (settle s l budget out .answer .length ≡ n) ↔ Inspects × ((t : List ℕ) × (settledIn s ≡ some t) × (length t ≡ n) × (length out < n))
+  pub settle-seven :
+      (n : ℕ)
+      → (settle s l budget out .answer .verdict ≡ Refused ShortRoom) × (settle s l budget out .answer .length ≡ n) ↔ Inspects × ((t : List ℕ) × (settledIn s ≡ some t) × (length t ≡ n) × (length out < n))
   settle-seven n = go (settle s l budget out) settle-way
     where
-      go : (w : Rewritten) → SettleWay w → (w .answer .verdict ≡ Refused ShortRoom) × (w .answer .length ≡ n) ↔ Inspects × ((t : List ℕ) × (settledIn s ≡ some t) × (length t ≡ n) × (length out < n))
+      go :
+          (w : Rewritten)
+          → SettleWay w
+          → (w .answer .verdict ≡ Refused ShortRoom) × (w .answer .length ≡ n) ↔ Inspects × ((t : List ℕ) × (settledIn s ≡ some t) × (length t ≡ n) × (length out < n))
       go w (as-inspect x b e o) = (λ v. absurd (o (subst⁻¹ (λ v. T (eqb (number v) 7 or eqb (number v) 9)) (v .0) tt)), λ k. absurd (not-accepted x b e (k .0)))
       go w (nine b a f) = (λ v. absurd (subst⁻¹ (numbered 7) (v .0) tt), λ k. absurd (absurd-some (k .1 .0) (sym f ∙ k .1 .1)))
       go w (seven t b a f p) = (λ v. (a, (t, f, v .1, subst (λ m. length out < m) (v .1) p)), λ k. (refl, ap length (one-file f (k .1 .1)) ∙ k .1 .2))
@@ -271,7 +320,12 @@ module _ (s : List ℕ) (l : Limits) (budget : Budget) (out : List ℕ) where
       go w (seven t b a f p) = (λ v. absurd (subst⁻¹ (numbered 9) v tt), λ k. absurd (absurd-some t (sym (want a .1 (k .1)) ∙ f)))
       go w (done t b a f p) = (λ v. absurd (subst⁻¹ (numbered 9) v tt), λ k. absurd (absurd-some t (sym (want a .1 (k .1)) ∙ f)))
 
-  refusal-is : (x : Refusal) (i : Inspection) → i .verdict ≡ Refused x → (y : Refusal) (c : Budget) → i ≡ inspection (refuses y c) → unsettled y c 0 out ≡ unsettled x (i .budget) 0 out
+  refusal-is :
+      (x : Refusal) (i : Inspection)
+      → i .verdict ≡ Refused x
+      → (y : Refusal) (c : Budget)
+      → i ≡ inspection (refuses y c)
+      → unsettled y c 0 out ≡ unsettled x (i .budget) 0 out
   refusal-is x i e y c f =
       let same : y ≡ x = refusal-of (sym (ap (λ (i : Inspection). i .verdict) f) ∙ e) in
       ap (λ z. unsettled z c 0 out) same ∙ ap (λ b. unsettled x b 0 out) (sym (ap (λ (i : Inspection). i .budget) f))
@@ -287,7 +341,10 @@ module _ (s : List ℕ) (l : Limits) (budget : Budget) (out : List ℕ) where
       go w (done t c a f p) = absurd (subst⁻¹ IsAccepted (sym e ∙ a) tt)
 
   -- a refusal leaves the buffer as it came; only 7 names a length
-  pub settle-leaves : (x : Refusal) → settle s l budget out .answer .verdict ≡ Refused x → (settle s l budget out .output ≡ out) × (Not (x ≡ ShortRoom) → settle s l budget out .answer .length ≡ 0)
+  pub settle-leaves :
+      (x : Refusal)
+      → settle s l budget out .answer .verdict ≡ Refused x
+      → (settle s l budget out .output ≡ out) × (Not (x ≡ ShortRoom) → settle s l budget out .answer .length ≡ 0)
   settle-leaves x = go (settle s l budget out) settle-way
     where
       go : (w : Rewritten) → SettleWay w → w .answer .verdict ≡ Refused x → (w .output ≡ out) × (Not (x ≡ ShortRoom) → w .answer .length ≡ 0)

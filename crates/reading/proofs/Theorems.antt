@@ -357,5 +357,5 @@ has-comment-inspects s i l budget = N.has-comment-inspects s i l budget
 pub has-comment-there :
     (s : List ℕ) (i : ℕ) (l : Limits) (budget : Budget)
     → hasComment s i l budget .there ≡ true
-      ↔ Inspects s false l budget × (i < length (comments s))
+    ↔ Inspects s false l budget × (i < length (comments s))
 has-comment-there s i l budget = N.has-comment-there s i l budget

@@ -37,7 +37,10 @@ apart s t h = go (reading s false) refl h
     go (refused x) e w = absurd (absurd-some t w)
 
 -- what stands under an acceptance
-pub accepted-so : {A : Type 0} (f : Record → List (List ℤ) → A) (d : A) (s : List ℕ) (c : Bool) (r : Record) (ls : List (List ℤ)) → reading s c ≡ accepted r ls → if-accepted f d (reading s c) ≡ f r ls
+pub accepted-so :
+    {A : Type 0} (f : Record → List (List ℤ) → A) (d : A) (s : List ℕ) (c : Bool) (r : Record) (ls : List (List ℤ))
+    → reading s c ≡ accepted r ls
+    → if-accepted f d (reading s c) ≡ f r ls
 accepted-so f d s c r ls e = ap (if-accepted f d) e
 
 module _ (s t : List ℕ) (h : settledIn s ≡ some t) where

@@ -55,7 +55,27 @@ ReadsAs s colour r = (ls : List (List ℤ)) × (reading s colour ≡ accepted r 
 -- a record with another choice
 abbrev pub recolour : Bool → Record → Record
 recolour c r =
-    record { width = r .width; height = r .height; channels = r .channels; hs = r .hs; vs = r .vs; ids = r .ids; qids = r .qids; dcids = r .dcids; acids = r .acids; quants = r .quants; dcs = r .dcs; acs = r .acs; interval = r .interval; start = r .start; blocks = r .blocks; scratch = r .scratch; output = r .output; work = r .work; colour = c }
+    record {
+      width = r .width;
+      height = r .height;
+      channels = r .channels;
+      hs = r .hs;
+      vs = r .vs;
+      ids = r .ids;
+      qids = r .qids;
+      dcids = r .dcids;
+      acids = r .acids;
+      quants = r .quants;
+      dcs = r .dcs;
+      acs = r .acs;
+      interval = r .interval;
+      start = r .start;
+      blocks = r .blocks;
+      scratch = r .scratch;
+      output = r .output;
+      work = r .work;
+      colour = c;
+    }
 
 -- a reading by another choice: of what is accepted the record alone changes, in that one field
 abbrev pub reread : Bool → Reading → Reading
