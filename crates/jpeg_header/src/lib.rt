@@ -3,14 +3,16 @@
 // function equals the definition that its contract names. The steps need no allowance: what is left of the file falls with each, and
 // the proof of `header` says so.
 ghost use mathlib.Core.Path.{_≡_};
+ghost use mathlib.Core.Bool.{cond};
 ghost use Prim.Native.Nat.{_≤_};
 ghost use lib.ListN.{length};
-ghost use Rattle.reading.specs.Header.{window, kindOf, segment, marker, step, opens, header, headed};
+ghost use Rattle.reading.specs.declared.Refusal.the-variants.{CutShort};
+ghost use Rattle.reading.specs.Header.{stop, marker, step, opens, header, headed};
 ghost use Rattle.reading.specs.Comments.{textAt, atComment, comments, sought};
 ghost use Rattle.reading.proofs.Frames.{Framed};
 ghost use Rattle.reading.proofs.HeaderEnds.{Room};
 ghost use Rattle.jpeg_state.specs.Segments.{stepped};
-ghost use Rattle.jpeg_header.specs.Steps.{goesOn, Inside};
+ghost use Rattle.jpeg_header.specs.Steps.{goesOn, Inside, cutShort, segmentAt};
 use jpeg_state::Progress;
 use jpeg_state::Stepped;
 use reading::Case;
@@ -23,23 +25,60 @@ use reading::Verdict;
 
 // ---- one step
 
-// The segment of a marker code, whose body is s[from..end].
-fn segment(s: &[u8], colour: bool, state: Header, code: u8, from: usize, end: usize) -> Stepped
-    requires { ⌜ (from ≤ end) × (end ≤ length (now s)) × Framed state ⌝ }
-    ensures { λ r. ⌜ r ≡ stepped (segment colour state (kindOf code) (window (now (s .entry)) from end) from end) ⌝ }
-{
-    match code {
-        192..=193 => jpeg_state::frame(&s[from..end], state, end),
-        196 => jpeg_state::tables(state, from, end, Case::Huffman(end)),
-        218 => jpeg_state::scan(&s[from..end], colour, state, end),
-        219 => jpeg_state::tables(state, from, end, Case::Quantizers(end)),
-        221 => jpeg_state::interval(&s[from..end], state, end),
-        224..=239 | 254 => Stepped::more(state.moved(end, Case::Marker)),
-        _ => Stepped::stop(Refusal::Unsupported),
+// A segment by the place where its body begins and the one where it ends.
+struct Segment {
+    cut: bool,
+    from: usize,
+    end: usize,
+}
+
+impl Segment {
+    // A segment that is cut short counts as empty, so that every file holds its body.
+    fn cut_short() -> Self
+        ensures { λ r. ⌜ r ≡ cutShort ⌝ }
+    {
+        Self {
+            cut: true,
+            from: 0,
+            end: 0,
+        }
+    }
+
+    // A segment that is cut short is refused, whatever its code would make of the state.
+    fn unless_cut(self, whole: Stepped) -> Stepped
+        ensures { λ r. ⌜ r ≡ cond (self .cut) (stepped (stop CutShort)) whole ⌝ }
+    {
+        if self.cut {
+            return Stepped::stop(Refusal::CutShort);
+        }
+        whole
     }
 }
 
-// A second 255 is fill; 217 is refused before the length is looked at, any other code behind it.
+// The segment whose marker stands at a place.
+fn segment_at(s: &[u8], at: usize) -> Segment
+    requires { ⌜ at ≤ length (now s) ⌝ }
+    ensures { λ r. ⌜ r ≡ segmentAt (now (s .entry)) at ⌝ }
+{
+    if s.len() - at < 4 {
+        return Segment::cut_short(); // no room for a length
+    }
+    let size = jpeg_segments::word_at(s, at + 2);
+    if size < 2 {
+        return Segment::cut_short(); // a length that leaves itself out
+    }
+    let end = at + 2 + size;
+    if s.len() < end {
+        return Segment::cut_short(); // a length past the end
+    }
+    Segment {
+        cut: false,
+        from: at + 4,
+        end: end,
+    }
+}
+
+// The code behind a 255 chooses the step or the refusal: 217 and fill as they stand, any other behind the length of its segment.
 fn marker(s: &[u8], colour: bool, state: Header) -> Stepped
     requires { ⌜ (state .at ≤ length (now s)) × Framed state ⌝ }
     ensures { λ r. ⌜ r ≡ stepped (marker (now (s .entry)) colour state) ⌝ }
@@ -53,24 +92,21 @@ fn marker(s: &[u8], colour: bool, state: Header) -> Stepped
         return Stepped::stop(Refusal::Malformed);
     }
     let code = s[at + 1];
-    if code == 255 {
-        return Stepped::more(state.moved(at + 1, Case::Marker));
+    let segment = segment_at(s, at);
+    let from = segment.from;
+    let end = segment.end;
+    let body = &s[from..end];
+    match code {
+        192..=193 => segment.unless_cut(jpeg_state::frame(body, state, end)),
+        196 => segment.unless_cut(jpeg_state::tables(state, from, end, Case::Huffman(end))),
+        217 => Stepped::stop(Refusal::Malformed), // the end, wherever it stands
+        218 => segment.unless_cut(jpeg_state::scan(body, colour, state, end)),
+        219 => segment.unless_cut(jpeg_state::tables(state, from, end, Case::Quantizers(end))),
+        221 => segment.unless_cut(jpeg_state::interval(body, state, end)),
+        224..=239 | 254 => segment.unless_cut(Stepped::more(state.moved(end, Case::Marker))),
+        255 => Stepped::more(state.moved(at + 1, Case::Marker)), // fill
+        _ => segment.unless_cut(Stepped::stop(Refusal::Unsupported)),
     }
-    if code == 217 {
-        return Stepped::stop(Refusal::Malformed); // the end, wherever it stands
-    }
-    if s.len() - at < 4 {
-        return Stepped::stop(Refusal::CutShort); // no room for a length
-    }
-    let size = jpeg_segments::word_at(s, at + 2);
-    if size < 2 {
-        return Stepped::stop(Refusal::CutShort); // a length that leaves itself out
-    }
-    let end = at + 2 + size;
-    if s.len() < end {
-        return Stepped::stop(Refusal::CutShort); // a length past the end
-    }
-    segment(s, colour, state, code, at + 4, end)
 }
 
 fn step(s: &[u8], colour: bool, state: Header) -> Stepped
