@@ -18,8 +18,8 @@ use Rattle.reading.specs.Reader.{Read, got, fault}
 use Rattle.reading.specs.Header.{Stage, more, done, stop, header, noRecord}
 use Rattle.reading.specs.Scan.{levels}
 use Rattle.reading.specs.Reading.{scanned, readFrom, reading}
-use Rattle.reading.specs.Judging.{accepts, refuses, onward, _>>_, refuse, refuse-if, pay, remaining}
-use Rattle.reading.specs.Calls.{same, sameFrame, itsLevels, undecoded, decoded, decode, headerPrice}
+use Rattle.reading.specs.Judging.{Judged, accepts, refuses, Judging, onward, _>>_, refuse, refuse-if, pay, remaining}
+use Rattle.reading.specs.Calls.{same, sameFrame, itsLevels, undecoded, Decoded, decoded, decode, headerPrice}
 use Rattle.reading.proofs.FileBytes.{AllBytes}
 use Rattle.reading.proofs.Plain.{and-false}
 use Rattle.reading.proofs.Accepted.{header-accepted}
@@ -55,16 +55,38 @@ module _ (s : List ℕ) (y : AllBytes s) (f : FlatRecord) (out scratch : List �
   unfolding decode
   channelless-decodes budget = room (ltb (length out) (f .output) or ltb (length scratch) (f .scratch))
     where
-      last : decoded s (channelless f) out scratch (itsLevels (channelless f) (reading s (eqb (f .colour) 1)) (remaining budget (headerPrice s + f .work))) ≡ undecoded NotItsRecord (remaining budget (headerPrice s + f .work)) out scratch
-      last = ap (decoded s (channelless f) out scratch) (refused-so (remaining budget (headerPrice s + f .work)) (header s (eqb (f .colour) 1)) refl)
+      due : ℕ
+      due = headerPrice s + f .work
 
-      price : (t : Bool) → decoded s (channelless f) out scratch (onward (cond t (refuses OverBudget budget) (accepts (tt {0}) (remaining budget (headerPrice s + f .work)))) (λ _. itsLevels (channelless f) (reading s (eqb (f .colour) 1)))) ≡ decoded s noRecord out scratch (onward (cond t (refuses OverBudget budget) (accepts (tt {0}) (remaining budget (headerPrice s + f .work)))) (λ _. refuse NotItsRecord))
+      rest : Budget
+      rest = remaining budget due
+
+      its : Judging (List (List ℤ))
+      its = itsLevels (channelless f) (reading s (eqb (f .colour) 1))
+
+      -- the answer for the record without channels, and the one for no record
+      ours : Judged (List (List ℤ)) → Decoded
+      ours = decoded s (channelless f) out scratch
+
+      theirs : Judged (List (List ℤ)) → Decoded
+      theirs = decoded s noRecord out scratch
+
+      last : ours (its rest) ≡ undecoded NotItsRecord rest out scratch
+      last = ap (decoded s (channelless f) out scratch) (refused-so rest (header s (eqb (f .colour) 1)) refl)
+
+      paid : Bool → Judged (Unit {0})
+      paid t = cond t (refuses OverBudget budget) (accepts tt rest)
+
+      price : (t : Bool) → ours (onward (paid t) (λ _. its)) ≡ theirs (onward (paid t) (λ _. refuse NotItsRecord))
       price true = refl
       price false = last
 
-      room : (t : Bool) → decoded s (channelless f) out scratch (onward (refuse-if t ShortRoom budget) (λ _. pay (headerPrice s + f .work) >> itsLevels (channelless f) (reading s (eqb (f .colour) 1)))) ≡ decoded s noRecord out scratch (onward (refuse-if t ShortRoom budget) (λ _. pay (headerPrice s + f .work) >> refuse NotItsRecord))
+      tested : Bool → Judged (Unit {0})
+      tested t = refuse-if t ShortRoom budget
+
+      room : (t : Bool) → ours (onward (tested t) (λ _. pay due OverBudget >> its)) ≡ theirs (onward (tested t) (λ _. pay due OverBudget >> refuse NotItsRecord))
       room true = refl
-      room false = price (ltb (budget .left) (headerPrice s + f .work))
+      room false = price (ltb (budget .left) due)
 
   -- what the code decodes by gives what the numbers are to give
   pub asked-decodes : (budget : Budget) → decode s (asked f) out scratch budget ≡ decodeFlat s f out scratch budget
