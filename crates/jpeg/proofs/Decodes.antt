@@ -16,7 +16,8 @@ use Rattle.reading.specs.declared.Refusal.the-variants.{OverBudget, ShortRoom, 
 use Rattle.reading.specs.declared.Verdict.the-variants.{Refused}
 use Rattle.reading.specs.Tests.{_or_}
 use Rattle.reading.specs.Reader.{Read, got, fault}
-use Rattle.reading.specs.Header.{Stage, more, done, stop, header, headed}
+use Rattle.reading.specs.Header.{Stage, more, done, stop, header}
+use Rattle.reading.specs.Code.Heads.{headed}
 use Rattle.reading.specs.Scan.{levels}
 use Rattle.reading.specs.Reading.{accepted, scanned, readFrom, reading, allSamples}
 use Rattle.reading.specs.Judging.{remaining}

@@ -18,9 +18,11 @@ use Rattle.reading.specs.declared.Verdict.the-variants.{Accepted, Refused}
 use Rattle.reading.specs.Tests.{over}
 use Rattle.reading.specs.Reader.{got}
 use Rattle.reading.specs.Header.{done, header}
-use Rattle.reading.specs.Scan.{levels, readable, scanOf}
-use Rattle.reading.specs.Answers.{scanRead}
-use Rattle.reading.specs.Reading.{allSamples, picture, drawn}
+use Rattle.reading.specs.Scan.{levels}
+use Rattle.reading.specs.Code.Scans.{readable, scanOf}
+use Rattle.reading.specs.Code.Answers.{scanRead}
+use Rattle.reading.specs.Reading.{allSamples, picture}
+use Rattle.reading.specs.Code.Painted.{drawn}
 use Rattle.reading.specs.Calls.{same}
 use Rattle.reading.proofs.Equal.{records-equal}
 use Rattle.reading.proofs.FileBytes.{AllBytes}
@@ -31,7 +33,7 @@ use Rattle.jpeg.specs.Meets.{Meets}
 use Rattle.jpeg_render.specs.Rows.{Sized, Drawable}
 use Rattle.jpeg_render.specs.Rendered.{rendered}
 use Rattle.jpeg_render.proofs.Fitting.{rendered-drawable}
-use Rattle.jpeg.specs.Steps.{drawnAs, left}
+use Rattle.jpeg.specs.Steps.{drawnAs, leaving}
 use Rattle.reading.proofs.States.{header-readable}
 use Rattle.jpeg.proofs.Decodes.{drawn-other, drawn-fault, drawn-done}
 
@@ -50,8 +52,8 @@ sized s y colour r e =
     }
 
 module _ (s : List ℕ) (y : AllBytes s) (q r : Record) (out scratch : List ℕ) (rest : Budget) (m : Meets s q r out scratch) (t : Bool) (e : t ≡ same q r) where
-  pub draws-other : {answer : Decoding} → answer ≡ record { verdict = Refused NotItsRecord; budget = rest } → t ≡ false → left answer out scratch ≡ drawnAs s q r out scratch rest
-  draws-other a f = ap (λ x. left x out scratch) a ∙ drawn-other s q r out scratch rest (sym e ∙ f)
+  pub draws-other : {answer : Decoding} → answer ≡ record { verdict = Refused NotItsRecord; budget = rest } → t ≡ false → leaving answer out scratch ≡ drawnAs s q r out scratch rest
+  draws-other a f = ap (λ x. leaving x out scratch) a ∙ drawn-other s q r out scratch rest (sym e ∙ f)
 
   module _ (f : t ≡ true) where
     itself : q ≡ r
@@ -70,10 +72,10 @@ module _ (s : List ℕ) (y : AllBytes s) (q r : Record) (out scratch : List ℕ)
     room = omega (arith, m .scratch-room, accepted .scratch)
 
     module _ (v : ScanRead) (e3 : v ≡ scanRead (scanOf s r)) (scratch′ : List ℕ) (e4 : scratch′ ≡ drawn s r (scanOf s r) scratch) where
-      pub draws-stop : {answer : Decoding} → answer ≡ record { verdict = Refused NotItsRecord; budget = rest } → (g : Fault) → v ≡ Stop g → left answer out scratch′ ≡ drawnAs s q r out scratch rest
+      pub draws-stop : {answer : Decoding} → answer ≡ record { verdict = Refused NotItsRecord; budget = rest } → (g : Fault) → v ≡ Stop g → leaving answer out scratch′ ≡ drawnAs s q r out scratch rest
       draws-stop a g p =
           let o = E.refused (scanOf s r) e3 p in
-          ap₂ (λ x z. left x out z) a (e4 ∙ sym (E.drawn-stop s r scratch o))
+          ap₂ (λ x z. leaving x out z) a (e4 ∙ sym (E.drawn-stop s r scratch o))
           ∙ drawn-fault s q r out scratch rest (sym e ∙ f) g (sym (scan-is s r okay) ∙ o)
 
       module _ (p : v ≡ Done) where
@@ -109,9 +111,9 @@ module _ (s : List ℕ) (y : AllBytes s) (q r : Record) (out scratch : List ℕ)
               whole = omega (arith, full, accepted .blocks);
             }
 
-        pub draws-done : {answer : Decoding} {out′ : List ℕ} → answer ≡ record { verdict = Accepted; budget = rest } → out′ ≡ rendered r (take (r .scratch) scratch′) out → left answer out′ scratch′ ≡ drawnAs s q r out scratch rest
+        pub draws-done : {answer : Decoding} {out′ : List ℕ} → answer ≡ record { verdict = Accepted; budget = rest } → out′ ≡ rendered r (take (r .scratch) scratch′) out → leaving answer out′ scratch′ ≡ drawnAs s q r out scratch rest
         unfolding all
         draws-done {answer} {out′} a b =
-            ap (λ x. left x out′ scratch′) a
-            ∙ ap₂ (λ x z. left (record { verdict = Accepted; budget = rest }) x z) (b ∙ rendered-drawable r (take (r .scratch) scratch′) out drawable ∙ ap (λ x. over (picture r x) out) part) filled
+            ap (λ x. leaving x out′ scratch′) a
+            ∙ ap₂ (λ x z. leaving (record { verdict = Accepted; budget = rest }) x z) (b ∙ rendered-drawable r (take (r .scratch) scratch′) out drawable ∙ ap (λ x. over (picture r x) out) part) filled
             ∙ drawn-done s q r out scratch rest (sym e ∙ f) (E.accepted (scanOf s r) e3 p .blocks-read) (E.accepted (scanOf s r) e3 p .behind) scanned

@@ -14,9 +14,10 @@ use Rattle.reading.specs.declared.Refusal.{Refusal}
 use Rattle.reading.specs.declared.Refusal.the-variants.{Scan}
 use Rattle.reading.specs.declared.ScanRead.{ScanRead}
 use Rattle.reading.specs.declared.ScanRead.the-variants.{Done, Stop}
-use Rattle.reading.specs.Answers.{scanRead}
+use Rattle.reading.specs.Code.Answers.{scanRead}
 use Rattle.reading.specs.Reader.{Read}
-use Rattle.reading.specs.Scan.{levels, readable, scanOf}
+use Rattle.reading.specs.Scan.{levels}
+use Rattle.reading.specs.Code.Scans.{readable, scanOf}
 use Rattle.reading.specs.Judging.{Judged, accepts, refuses, onward, give, unbroken}
 use Rattle.reading.specs.Calls.{admission, inspection, inspect}
 use Rattle.reading.proofs.FileBytes.{AllBytes}

@@ -16,7 +16,7 @@ use Rattle.reading.specs.declared.Verdict.the-variants.{Refused}
 use Rattle.reading.specs.Reader.{Read, got, fault}
 use Rattle.reading.specs.Header.{done, header}
 use Rattle.reading.specs.Scan.{levels, planOf}
-use Rattle.reading.specs.Settled.{settledRead, settledOf}
+use Rattle.reading.specs.Code.Scans.{settledRead, settledOf}
 use Rattle.reading.specs.Judging.{Judged, refuses, onward, give, unbroken}
 use Rattle.reading.specs.Calls.{admission, Rewritten, rewritten, settle}
 use Rattle.reading.proofs.FileBytes.{AllBytes}

@@ -81,9 +81,9 @@ module _ (s : List ℕ) (l : Limits) (budget : Budget) (out : List ℕ) (answer 
   -- decode, called on the file and on the bytes with one record and the same buffers, leaves the same samples and the same picture
   pub code-decodes :
       (r : Record) (picture scratch : List ℕ) (first second : Budget) {d d′ : Decoding} {p q p′ q′ : List ℕ}
-      → steps.left d p q ≡ decode s r picture scratch first
+      → steps.leaving d p q ≡ decode s r picture scratch first
       → d .verdict ≡ Accepted
-      → steps.left d′ p′ q′ ≡ decode (take (answer .length) left) r picture scratch second
+      → steps.leaving d′ p′ q′ ≡ decode (take (answer .length) left) r picture scratch second
       → headerPrice (take (answer .length) left) + r .work ≤ second .left
       → (d′ .verdict ≡ Accepted) × (p′ ≡ p) × (q′ ≡ q)
   code-decodes r picture scratch first second a v b enough =

@@ -14,5 +14,5 @@ unfolding levels
 drawnAs s q r out scratch rest = decoded s r out scratch (itsLevels r (scanned q (levels s q)) rest)
 
 -- an answer and the two buffers as they are left
-abbrev pub left : Decoding → List ℕ → List ℕ → Decoded
-left answer out scratch = record { answer = answer; output = out; scratch = scratch }
+abbrev pub leaving : Decoding → List ℕ → List ℕ → Decoded
+leaving answer out scratch = record { answer = answer; output = out; scratch = scratch }

@@ -6,7 +6,7 @@ ghost use Rattle.reading.specs.declared.Verdict.the-variants.{Refused};
 ghost use Rattle.reading.specs.Calls.{inspect, decode, settle};
 ghost use Rattle.jpeg.specs.Meets.{Meets};
 ghost use Rattle.jpeg_rewrite.specs.Refiled.{remade};
-ghost use Rattle.jpeg.specs.Steps.{drawnAs, left};
+ghost use Rattle.jpeg.specs.Steps.{drawnAs, leaving};
 use reading::Budget;
 use reading::Decoding;
 use reading::Inspection;
@@ -68,7 +68,7 @@ fn draw(
     rest: Budget,
 ) -> Decoding
     requires { ⌜ Meets (now s) read found (now out) (now scratch) ⌝ }
-    ensures { λ r. ⌜ left r (now (out .exit)) (now (scratch .exit)) ≡ drawnAs (now (s .entry)) read found (now (out .entry)) (now (scratch .entry)) rest ⌝ }
+    ensures { λ r. ⌜ leaving r (now (out .exit)) (now (scratch .exit)) ≡ drawnAs (now (s .entry)) read found (now (out .entry)) (now (scratch .entry)) rest ⌝ }
 {
     if !jpeg_equal::same(read, found) {
         return undecoded(Refusal::NotItsRecord, rest);
@@ -94,7 +94,7 @@ pub fn decode(
     scratch: &mut [u8],
     budget: Budget,
 ) -> Decoding
-    ensures { λ r. ⌜ left r (now (out .exit)) (now (scratch .exit)) ≡ decode (now (s .entry)) found (now (out .entry)) (now (scratch .entry)) budget ⌝ }
+    ensures { λ r. ⌜ leaving r (now (out .exit)) (now (scratch .exit)) ≡ decode (now (s .entry)) found (now (out .entry)) (now (scratch .entry)) budget ⌝ }
 {
     if short_room(out.len(), scratch.len(), found) {
         return undecoded(Refusal::ShortRoom, budget);

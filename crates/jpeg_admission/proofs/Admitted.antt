@@ -16,7 +16,8 @@ use Rattle.reading.specs.declared.Refusal.{Refusal}
 use Rattle.reading.specs.declared.Refusal.the-variants.{TooLong, OverBudget, CutShort, TooLarge, WorkOverBudget}
 use Rattle.reading.specs.declared.Verdict.{Verdict}
 use Rattle.reading.specs.declared.Verdict.the-variants.{Accepted, Refused}
-use Rattle.reading.specs.Header.{Stage, more, done, stop, header, headed, ending}
+use Rattle.reading.specs.Header.{Stage, more, done, stop, header, ending}
+use Rattle.reading.specs.Code.Heads.{headed}
 use Rattle.reading.specs.Judging.{Judged, accepts, refuses, onward, give, refuse, remaining}
 use Rattle.reading.specs.Calls.{headerPrice, tooLong, tooLarge, weighing, admission, inspection}
 use Rattle.reading.proofs.Judgement.{not-long, Way, long, poor-for-work, headless, large, admitted, way}

@@ -14,8 +14,9 @@ use Rattle.reading.specs.declared.Fault.the-variants.{Broken}
 use Rattle.reading.specs.declared.BitRead.{BitRead}
 use Rattle.reading.specs.declared.BitRead.the-variants as bit
 use Rattle.reading.specs.Reader.{got, fault, Reader, onward}
-use Rattle.reading.specs.Bits.{one, fieldFrom, field, shortField}
-use Rattle.reading.specs.Answers.{bitRead}
+use Rattle.reading.specs.Bits.{one, fieldFrom, field}
+use Rattle.reading.specs.Code.Fields.{shortField}
+use Rattle.reading.specs.Code.Answers.{bitRead}
 
 -- ---- the field
 

@@ -11,7 +11,7 @@ use borrow.Author.Tests.{eq-eqb, ne-eqb}
 use Rattle.reading.specs.declared.Bits.{Bits}
 use Rattle.reading.specs.declared.Fault.the-variants.{RanOut, Bare}
 use Rattle.reading.specs.Reader.{got, fault}
-use Rattle.reading.specs.Bits.{one, oneAt, fresh, opened}
+use Rattle.reading.specs.Bits.{one, oneAt, fresh, firstOf}
 use Rattle.reading.proofs.FileBytes.{element-in, element-out}
 
 -- ---- the first bit of the next data byte
@@ -29,7 +29,7 @@ module _ (s : List ℕ) (at : ℕ) where
         getD s at 0 < 256 → (getD s at 0 ≡ 255 → ⊥)
         → fresh s at ≡ got (getD s at 0 / 128) (record { at = at + 1; byte = getD s at 0; left = 7 })
     fresh-data byte n =
-        let first : fresh s at ≡ opened (getD s at 0) (at + 1) = rw (element-in s at h, ne-eqb _ _ n) in
+        let first : fresh s at ≡ firstOf (getD s at 0) (at + 1) = rw (element-in s at h, ne-eqb _ _ n) in
         first ∙ ap (λ k. got k (record { at = at + 1; byte = getD s at 0; left = 7 })) (top-bit (getD s at 0) byte)
 
     module _ (full : getD s at 0 ≡ 255) where

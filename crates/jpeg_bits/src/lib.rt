@@ -2,8 +2,9 @@
 // Each function equals its definition for every cursor, so nothing is asked of a caller.
 ghost use Prim.Native.Nat.{_+_, _*_, _/_, _%_, _^_, _<_, _≤_};
 ghost use mathlib.Core.Path.{_≡_};
-ghost use Rattle.reading.specs.Bits.{fresh, one, shortField};
-ghost use Rattle.reading.specs.Answers.{bitRead, numberRead};
+ghost use Rattle.reading.specs.Bits.{fresh, one};
+ghost use Rattle.reading.specs.Code.Fields.{shortField};
+ghost use Rattle.reading.specs.Code.Answers.{bitRead, numberRead};
 use reading::BitRead;
 use reading::Bits;
 use reading::Fault;

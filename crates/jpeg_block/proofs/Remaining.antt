@@ -17,7 +17,8 @@ use Rattle.reading.specs.declared.Fault.{Fault}
 use Rattle.reading.specs.Reader.{Read, got, fault, Reader, onward, _>>=_, give, rule}
 use Rattle.reading.specs.Bits.{one, amplitude}
 use Rattle.reading.specs.Huffman.{tableAt, symbol}
-use Rattle.reading.specs.Block.{Ask, end, skip, value, wrong, asked, answered, zeros, first, rest, block, predictable, last, places}
+use Rattle.reading.specs.Block.{Ask, end, skip, value, wrong, asked, answered, zeros, first, rest, block, predictable}
+use Rattle.reading.specs.Code.Places.{extent, places}
 use Rattle.jpeg_block.specs.declared.StepRead.{StepRead}
 use Rattle.jpeg_block.specs.declared.StepRead.the-variants.{End, Skip, Put, Stop}
 use Rattle.jpeg_block.specs.Step.{askAt, Step, ends, skips, puts, stepRead, levelAt, valueAt, stepFor, stepped}
@@ -99,7 +100,7 @@ module _ (t s : List ℕ) (dc ac : ℕ) (p : ℤ) where
 
   -- ---- a step at a later place
 
-  module _ (n place : ℕ) (l : List ℤ) (h : 0 < place) (i : place < 64) (size : length l ≡ 64) (quiet : last l ≤ place) where
+  module _ (n place : ℕ) (l : List ℤ) (h : 0 < place) (i : place < 64) (size : length l ≡ 64) (quiet : extent l ≤ place) where
     answer : (a : Ask) → Possible place a → (q : Bits)
         → onward (answered (one s) place (later n) a q) (λ m. give (take place l ++ m)) ≡ onward (stepFor (one s) place p a q) (led n place l)
     unfolding valueAt
@@ -135,7 +136,7 @@ module _ (t s : List ℕ) (dc ac : ℕ) (p : ℤ) where
         go (got x r) = answer (asked place x) (asked-possible place x) r
 
   -- a step at any place, by the table of that place
-  one-step : (n place : ℕ) (l : List ℤ) (q : Bits) → 0 < n → place < 64 → length l ≡ 64 → last l ≤ place
+  one-step : (n place : ℕ) (l : List ℤ) (q : Bits) → 0 < n → place < 64 → length l ≡ 64 → extent l ≤ place
       → remaining n place l q ≡ onward (stepped (one s) (tableAt t (cond (eqb place 0) dc ac)) place p q) (led (n - 1) place l)
   one-step zero place l q h i size quiet = absurd (not-suc-le-zero h)
   one-step (suc n) zero l q h i size quiet = first-step (suc n) l q (omega arith)
@@ -150,7 +151,7 @@ pub record Walk (t s : List ℕ) (dc ac : ℕ) (p : ℤ) (b here : Bits) (place 
   pub within : place ≤ 64
   pub enough : 64 ≤ place + left
   pub long : length levels ≡ 64
-  pub quiet : last levels ≤ place
+  pub quiet : extent levels ≤ place
   pub many : places levels ≡ reach
   pub same : block (one s) (tableAt t dc) (tableAt t ac) p b ≡ remaining t s dc ac p left place levels here
 

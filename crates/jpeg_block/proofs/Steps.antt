@@ -18,10 +18,11 @@ use Rattle.reading.specs.declared.AmplitudeRead.{AmplitudeRead}
 use Rattle.reading.specs.declared.AmplitudeRead.the-variants as amplitude
 use Rattle.reading.specs.Reader.{Read, got, fault, onward, rule, _>>_, give}
 use Rattle.reading.specs.Tests.{_and_, within}
-use Rattle.reading.specs.Bits.{one, amplitude, shortAmplitude}
+use Rattle.reading.specs.Bits.{one, amplitude}
+use Rattle.reading.specs.Code.Fields.{shortAmplitude}
 use Rattle.reading.specs.Huffman.{tableAt, symbol}
 use Rattle.reading.specs.Block.{Ask, end, skip, value, wrong, asked, predictable}
-use Rattle.reading.specs.Answers.{numberRead, amplitudeRead}
+use Rattle.reading.specs.Code.Answers.{numberRead, amplitudeRead}
 use Rattle.jpeg_block.specs.declared.Asked.{Asked}
 use Rattle.jpeg_block.specs.declared.Asked.the-variants as asked
 use Rattle.jpeg_block.specs.declared.StepRead.{StepRead}

@@ -10,7 +10,7 @@ ghost use lib.Dec.{eqb};
 ghost use Rattle.reading.specs.Bits.{one};
 ghost use Rattle.reading.specs.Huffman.{tableAt};
 ghost use Rattle.reading.specs.Block.{block, zeros};
-ghost use Rattle.reading.specs.Answers.{said, levelsOr, levelsOf};
+ghost use Rattle.reading.specs.Code.Answers.{said, levelsOr, levelsOf};
 ghost use Rattle.jpeg_block.specs.Step.{askedFor, askAt, stepRead, valueAt, stepped};
 use reading::AmplitudeRead;
 use reading::Bits;

@@ -6,8 +6,8 @@ ghost use mathlib.Core.Path.{_≡_};
 ghost use mathlib.Core.Bool.{cond};
 ghost use Prim.Native.Nat.{_≤_};
 ghost use lib.IntN.{pos, natAbs, _+ℤ_, _-ℤ_};
-ghost use lib.Signed.{ltZ, shrZ};
-ghost use Rattle.reading.specs.Colour.{toByte, red, green, blue};
+ghost use lib.Signed.{ltZ};
+ghost use Rattle.reading.specs.Colour.{toByte, red, green, blue, floored};
 ghost use Rattle.jpeg_color.specs.Parts.{redPart, greenPart, bluePart};
 
 // The larger of a number and 0. `to_byte` is this and the next one after the other, and not one choice of three: so loops that clamp are
@@ -74,7 +74,7 @@ pub fn red_part(cr: u8) -> i32
 // The difference of two numbers, divided by 65536 and rounded down once: rounded apart the two would give another green.
 fn divided(p: i32, q: i32) -> i32
     requires { ⌜ (natAbs p ≤ 16777216) × (natAbs q ≤ 16777216) ⌝ }
-    ensures { λ r. ⌜ r ≡ shrZ (p -ℤ q) 65536 ⌝ }
+    ensures { λ r. ⌜ r ≡ floored (p -ℤ q) 65536 ⌝ }
 {
     (p - q) >> 16
 }

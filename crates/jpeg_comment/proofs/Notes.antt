@@ -23,9 +23,11 @@ use Rattle.reading.specs.declared.Sought.{Sought}
 use Rattle.reading.specs.declared.Sought.the-variants.{Absent, There}
 use Rattle.reading.specs.declared.Verdict.{Verdict}
 use Rattle.reading.specs.declared.Verdict.the-variants.{Accepted, Refused}
-use Rattle.reading.specs.Answers.{scanRead}
-use Rattle.reading.specs.Header.{Stage, more, done, stop, header, headed}
-use Rattle.reading.specs.Scan.{levels, readable, scanOf}
+use Rattle.reading.specs.Code.Answers.{scanRead}
+use Rattle.reading.specs.Header.{Stage, more, done, stop, header}
+use Rattle.reading.specs.Code.Heads.{headed}
+use Rattle.reading.specs.Scan.{levels}
+use Rattle.reading.specs.Code.Scans.{readable, scanOf}
 use Rattle.reading.specs.Reading.{Reading, accepted, refused, scanned, readFrom, reading}
 use Rattle.reading.specs.Comments.{comments, sought, partOf, partIn, commentPart, textOf, isAccepted, hasComment}
 use Rattle.reading.specs.Calls.{inspect}

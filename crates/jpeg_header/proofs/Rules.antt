@@ -13,7 +13,7 @@ use Rattle.reading.specs.declared.Kind.{Kind}
 use Rattle.reading.specs.declared.Kind.the-variants.{Frames, Skips, Others}
 use Rattle.reading.specs.declared.Header.{Header}
 use Rattle.reading.specs.Tests.{_or_, within}
-use Rattle.reading.specs.Header.{Stage, more, stop, refuse-if, byte, word, moved, window, kindOf, segment, segmentEnd, marker}
+use Rattle.reading.specs.Header.{Stage, more, stop, stop-if, byte, word, moved, window, kindOf, segment, segmentEnd, marker}
 use Rattle.reading.proofs.Stages.{refuse-yes, refuse-go, chosen-or}
 use Rattle.reading.proofs.HeaderEnds.{segment-room}
 use Rattle.jpeg_state.specs.declared.Stepped.{Stepped}
@@ -136,7 +136,7 @@ module _ (s : List ℕ) (colour : Bool) (h : Header) where
     marker-first p = sym (refuse-yes unmarked Malformed _ (told true (ap not (ne-eqb (byte s (h .at)) 255 p))))
 
     module _ (first : byte s (h .at) ≡ 255) where
-      opened : (st : Stage) → refuse-if unmarked Malformed st ≡ st
+      opened : (st : Stage) → stop-if unmarked Malformed st ≡ st
       opened st = refuse-go unmarked Malformed st (told false (ap not (eq-eqb (byte s (h .at)) 255 first)))
 
       pub marker-fill : byte s (h .at + 1) ≡ 255 → more (moved h (h .at + 1) Marker) ≡ marker s colour h
@@ -149,7 +149,7 @@ module _ (s : List ℕ) (colour : Bool) (h : Header) where
           ∙ sym (opened _)
 
       module _ (k : Kind) (asks : Asks (byte s (h .at + 1)) k) where
-        onward : (x st : Stage) → st ≡ cond (eqb (byte s (h .at + 1)) 255) x (refuse-if (eqb (byte s (h .at + 1)) 217) Malformed st)
+        onward : (x st : Stage) → st ≡ cond (eqb (byte s (h .at + 1)) 255) x (stop-if (eqb (byte s (h .at + 1)) 217) Malformed st)
         onward x st = sym (refuse-go (eqb (byte s (h .at + 1)) 217) Malformed st (asks .2)) ∙ cond-no (eqb (byte s (h .at + 1)) 255) x _ (asks .1)
 
         -- what is made of a segment of that kind

@@ -20,7 +20,7 @@ use Rattle.reading.specs.declared.BitRead.the-variants.{Got, Stop}
 use Rattle.reading.specs.Reader.{got, fault, Reader, onward, _>>=_, give}
 use Rattle.reading.specs.Bits.{one}
 use Rattle.reading.specs.Huffman.{tableAt, sum, codeFrom, symbol}
-use Rattle.reading.specs.Answers.{bitRead}
+use Rattle.reading.specs.Code.Answers.{bitRead}
 use Rattle.reading.proofs.Readings.{onward-onward}
 use Rattle.reading.proofs.BitAnswers.{bit-below}
 use Rattle.whole.specs.Powers.{grown, small}

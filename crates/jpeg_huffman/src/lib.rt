@@ -5,7 +5,7 @@ ghost use Prim.Native.Nat.{min};
 ghost use lib.ListN.{getD};
 ghost use Rattle.reading.specs.Bits.{one};
 ghost use Rattle.reading.specs.Huffman.{symbol, tableAt, countsFit};
-ghost use Rattle.reading.specs.Answers.{numberRead};
+ghost use Rattle.reading.specs.Code.Answers.{numberRead};
 use reading::BitRead;
 use reading::Bits;
 use reading::Fault;

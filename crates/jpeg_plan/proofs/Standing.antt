@@ -14,7 +14,8 @@ use Rattle.reading.specs.Tests.{_and_, within}
 use Rattle.reading.specs.Reader.{fault}
 use Rattle.reading.specs.Huffman.{tableAt}
 use Rattle.reading.specs.Tables.{quantAt, dcAt, acAt}
-use Rattle.reading.specs.Scan.{planOf, readable, scanOf}
+use Rattle.reading.specs.Scan.{planOf}
+use Rattle.reading.specs.Code.Scans.{readable, scanOf}
 use Rattle.reading.proofs.Plain.{and-left, and-right}
 use Rattle.reading.proofs.Fits.{within-known}
 use Rattle.reading.proofs.Places.{per-is, channel-at}

@@ -9,6 +9,7 @@ use Rattle.reading.specs.declared.Record.{Record}
 use Rattle.reading.specs.Huffman.{tableAt}
 use Rattle.reading.specs.Layout.{perMcu, channelIn}
 use Rattle.reading.specs.Scan as scan
+use Rattle.reading.specs.Code.Scans.{readable}
 use Rattle.reading.specs.Tables.{quantAt, dcAt, acAt}
 use Rattle.jpeg_plan.specs.declared.Plan.{Plan}
 
@@ -44,8 +45,8 @@ planIn r =
 
 -- the plan of a record's scan; where the record has numbers by which no scan can be read, the plan of none
 unfoldable pub planFor : List ℕ → Record → Plan
-unfolding scan.readable
-planFor s r = cond (scan.readable s r) (planIn r) noPlan
+unfolding readable
+planFor s r = cond (readable s r) (planIn r) noPlan
 
 -- the channel of block j of an MCU: the first channel's blocks, then one of the second channel, then those of the third
 unfoldable pub chan : ℕ → ℕ → ℕ

@@ -6,7 +6,7 @@ ghost use Rattle.reading.specs.Tests.{within};
 ghost use Rattle.reading.specs.Bits.{padded, ended};
 ghost use Rattle.reading.specs.Layout.{dueBefore, restartBefore};
 ghost use Rattle.reading.specs.Tables.{chosen};
-ghost use Rattle.reading.specs.Scan.{readable};
+ghost use Rattle.reading.specs.Code.Scans.{readable};
 ghost use Rattle.jpeg_plan.specs.Plans.{three, noPlan, planFor, chan};
 ghost use Rattle.jpeg_plan.specs.Restart.{marked, restarted};
 use reading::Bits;

@@ -22,8 +22,9 @@ use Rattle.reading.specs.declared.Settling.{Settling}
 use Rattle.reading.specs.declared.Verdict.the-variants.{Accepted, Refused}
 use Rattle.reading.specs.Tests.{_and_, over}
 use Rattle.reading.specs.Reader.{Read, got, fault}
-use Rattle.reading.specs.Scan.{levels, readable, scanOf, planOf}
-use Rattle.reading.specs.Settled.{settledScan, settledRead, settledOf, scanSettled, laidOver}
+use Rattle.reading.specs.Scan.{levels, planOf}
+use Rattle.reading.specs.Code.Scans.{readable, scanOf, settledRead, settledOf, scanSettled, laidOver}
+use Rattle.reading.specs.Settled.{settledScan}
 use Rattle.reading.specs.Calls.{Rewritten, unsettled}
 use Rattle.reading.proofs.Counted.{scan-levels}
 use Rattle.reading.proofs.Plain.{and-left}

@@ -12,7 +12,8 @@ use Rattle.reading.specs.declared.Refusal.the-variants.{TooLong, ShortRoom, NoE
 use Rattle.reading.specs.declared.Settling.{Settling}
 use Rattle.reading.specs.declared.Verdict.the-variants.{Accepted}
 use Rattle.reading.specs.Reader.{Read, got, fault}
-use Rattle.reading.specs.Settled.{behind, settledOf, laidOver}
+use Rattle.reading.specs.Settled.{behind}
+use Rattle.reading.specs.Code.Scans.{settledOf, laidOver}
 use Rattle.reading.specs.Judging.{give-or}
 use Rattle.reading.specs.Calls.{Rewritten, unsettled, rewritten}
 

@@ -5,7 +5,7 @@ ghost use mathlib.Core.List.{_++_};
 ghost use Prim.Native.Nat.{_+_, _≤_, _<_, _^_};
 ghost use lib.ListN.{length, take, drop};
 ghost use Rattle.reading.specs.declared.Verdict.the-variants.{Refused};
-ghost use Rattle.reading.specs.Settled.{settledOf, scanSettled};
+ghost use Rattle.reading.specs.Code.Scans.{settledOf, scanSettled};
 ghost use Rattle.jpeg_rewrite.specs.Refiled.{remade, scanLaid, joined, refiled};
 use reading::Budget;
 use reading::Record;

@@ -14,7 +14,8 @@ use Rattle.reading.specs.Tests.{over}
 use Rattle.reading.specs.Reader.{got, fault, Reader, onward, give, rule}
 use Rattle.reading.specs.Bits.{file, ended}
 use Rattle.reading.specs.Reading.{allSamples}
-use Rattle.reading.specs.Scan.{planOf, blocks, opened, levels, readable, scanOf}
+use Rattle.reading.specs.Scan.{planOf, blocks, levels}
+use Rattle.reading.specs.Code.Scans.{atStart, readable, scanOf}
 use Rattle.reading.proofs.Readings.{got-val, no-fault}
 use Rattle.jpeg_scan.specs.Steps.{ahead, placed, inked, Left}
 use Rattle.jpeg_scan.proofs.Samples.{inked-not}
@@ -26,14 +27,14 @@ abbrev closing : List ℕ → List (List ℤ) → Reader Bits (List (List ℤ))
 closing s ls = λ b. onward (rule (ended s b) b) (λ _. give ls)
 
 module _ (s : List ℕ) (r : Record) (e : readable s r ≡ true) where
-  scan-is : scanOf s r ≡ onward (ahead s (planOf s r) (r .blocks) (opened (r .start))) (closing s)
+  scan-is : scanOf s r ≡ onward (ahead s (planOf s r) (r .blocks) (atStart (r .start))) (closing s)
   unfolding scanOf levels ahead file
   scan-is = let z : r .blocks - 0 ≡ r .blocks = omega arith in rw (e, z)
 
-  pub scan-stop : {f : Fault} → ahead s (planOf s r) (r .blocks) (opened (r .start)) ≡ fault f → scanOf s r ≡ fault f
+  pub scan-stop : {f : Fault} → ahead s (planOf s r) (r .blocks) (atStart (r .start)) ≡ fault f → scanOf s r ≡ fault f
   scan-stop g = scan-is ∙ rw g
 
-  module _ {ls : List (List ℤ)} {b : Bits} (g : ahead s (planOf s r) (r .blocks) (opened (r .start)) ≡ got ls b) where
+  module _ {ls : List (List ℤ)} {b : Bits} (g : ahead s (planOf s r) (r .blocks) (atStart (r .start)) ≡ got ls b) where
     pub scan-done : ended s b ≡ true → scanOf s r ≡ got ls b
     scan-done h = scan-is ∙ rw g (rw h)
 

@@ -16,9 +16,9 @@ use Rattle.reading.specs.declared.BlockRead.the-variants.{Got, Stop}
 use Rattle.reading.specs.declared.Fault.{Fault}
 use Rattle.reading.specs.declared.ScanCursor.{ScanCursor}
 use Rattle.reading.specs.Reader.{fault}
-use Rattle.reading.specs.Block.{places}
-use Rattle.reading.specs.Answers.{said, levelsOf}
-use Rattle.reading.specs.Transform.{samplesTo}
+use Rattle.reading.specs.Code.Places.{places}
+use Rattle.reading.specs.Code.Answers.{said, levelsOf}
+use Rattle.reading.specs.Code.Painted.{samplesTo}
 use Rattle.reading.specs.Scan as scan
 use Rattle.jpeg_plan.specs.declared.Plan.{Plan}
 use Rattle.jpeg_plan.specs.Plans.{chan, Stands}

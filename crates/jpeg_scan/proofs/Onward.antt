@@ -20,9 +20,10 @@ use Rattle.reading.specs.Tests.{_and_, isAt}
 use Rattle.reading.specs.Reader.{Read, got, fault, onward, _>>_, give}
 use Rattle.reading.specs.Bits.{one, file, mark, padded}
 use Rattle.reading.specs.Huffman.{Table, tableAt}
-use Rattle.reading.specs.Block.{block, places}
+use Rattle.reading.specs.Block.{block}
+use Rattle.reading.specs.Code.Places.{places}
 use Rattle.reading.specs.Layout.{channelIn, channelOf, perMcu, mcuOf, dueBefore, restartDue, restartBefore, restartCode}
-use Rattle.reading.specs.Answers.{said, levelsOf}
+use Rattle.reading.specs.Code.Answers.{said, levelsOf}
 use Rattle.reading.specs.Scan as scan
 use Rattle.reading.proofs.Readings.{onward-same}
 use Rattle.reading.proofs.BlockAnswers.{Taken, told}

@@ -8,9 +8,10 @@ use lib.ListN.{length, take, drop, length-append, length-take, length-drop, take
 use lib.Seq.{length-take-le, take-at, drop-at, drop-drop}
 use lib.IntN.{ℤ}
 use borrow.Author.Tests.{le-ltb}
-use Rattle.reading.specs.Block.{places}
+use Rattle.reading.specs.Code.Places.{places}
 use Rattle.reading.specs.Layout.{channelOf}
-use Rattle.reading.specs.Transform.{coefficients, samples, samplesTo, painted}
+use Rattle.reading.specs.Transform.{coefficients, samples}
+use Rattle.reading.specs.Code.Painted.{samplesTo, painted}
 use Rattle.reading.specs.Scan as scan
 use Rattle.reading.proofs.Counted.{samplesOf, samplesTo-length, samplesOf-length, samplesOf-append}
 use Rattle.reading.proofs.Reach.{samples-enough}

@@ -14,6 +14,7 @@ use Rattle.reading.specs.Bits.{Source, file}
 use Rattle.reading.specs.Block.{block}
 use Rattle.reading.specs.Layout.{channelOf}
 use Rattle.reading.specs.Scan as scan
+use Rattle.reading.specs.Code.Scans.{scanOf}
 use Rattle.reading.specs.Reading.{dequantized, blockSamples, allSamples}
 use Rattle.jpeg_plan.specs.declared.Plan.{Plan}
 use Rattle.jpeg_plan.specs.declared.Halt.{Halt}
@@ -82,4 +83,4 @@ pub record Went (s : List ℕ) (n : Plan) (from : ScanCursor) (write : Bool) (ol
 abbrev pub Left : Bool → List ℕ → Record → List ℕ → List ℕ → Type 0
 Left false s r old new = new ≡ old
 Left true s r old new =
-    (ls : List (List ℤ)) (b : Bits) → scan.scanOf s r ≡ got ls b → new ≡ over (allSamples s r ls) old
+    (ls : List (List ℤ)) (b : Bits) → scanOf s r ≡ got ls b → new ≡ over (allSamples s r ls) old

@@ -12,7 +12,7 @@ use Rattle.reading.specs.declared.Case.the-variants.{Marker}
 use Rattle.reading.specs.declared.Header.{Header}
 use Rattle.reading.specs.Huffman.{sum}
 use Rattle.reading.specs.Layout.{blockCount, outputLength}
-use Rattle.reading.specs.Header.{Stage, more, done, stop, refuse-if, byte, word, moved, each, withQuantizer, countsOf, withTable, frameKnown, frameOf, frameFits, withFrame, hasFrame, frame, withInterval, interval, shapeOf, dcId, acId, recordOf, complete, scanKnown, inOrder, selected, scan}
+use Rattle.reading.specs.Header.{Stage, more, done, stop, stop-if, byte, word, moved, each, withQuantizer, countsOf, withTable, frameKnown, frameOf, frameFits, withFrame, hasFrame, frame, withInterval, interval, shapeOf, dcId, acId, recordOf, complete, scanKnown, inOrder, selected, scanSegment}
 use Rattle.reading.proofs.Stages.{refuse-yes, refuse-go}
 use Rattle.reading.proofs.Accepted.{work-is}
 
@@ -26,7 +26,7 @@ cond-no t x y e = rw e
 
 module _ (h : Header) (e : ℕ) (fits : Bool) (next : Header) where
   abbrev entry : Stage
-  entry = cond (eqb (h .at) e) (more (moved h e Marker)) (refuse-if (not fits) Malformed (more next))
+  entry = cond (eqb (h .at) e) (more (moved h e Marker)) (stop-if (not fits) Malformed (more next))
 
   pub entry-end : h .at ≡ e → more (moved h e Marker) ≡ entry
   entry-end p = cond-yes (eqb (h .at) e) _ _ (eq-eqb (h .at) e p)
@@ -123,36 +123,36 @@ record-made b colour h e dcids acids n o ed ea en eo = rw (ed, ea, en, eo, work-
 -- ---- the scan
 
 module _ (b : List ℕ) (colour : Bool) (h : Header) (e : ℕ) where
-  pub scan-frameless : h .frame .channels ≡ 0 → stop Malformed ≡ scan b colour h e
+  pub scan-frameless : h .frame .channels ≡ 0 → stop Malformed ≡ scanSegment b colour h e
   scan-frameless p = sym (refuse-yes (not (hasFrame h)) Malformed _ (ap not (le-ltb 0 (h .frame .channels) (omega arith))))
 
   module _ (framed : h .frame .channels ≡ 0 → ⊥) where
     has : not (hasFrame h) ≡ false
     has = ap not (lt-ltb 0 (h .frame .channels) (omega arith))
 
-    pub scan-unknown : scanKnown b (h .frame .channels) ≡ false → stop Unsupported ≡ scan b colour h e
+    pub scan-unknown : scanKnown b (h .frame .channels) ≡ false → stop Unsupported ≡ scanSegment b colour h e
     scan-unknown p = sym (refuse-go (not (hasFrame h)) Malformed _ has ∙ refuse-yes (not (scanKnown b (h .frame .channels))) Unsupported _ (ap not p))
 
     module _ (known : scanKnown b (h .frame .channels) ≡ true) where
-      to-order : (st : Stage) → refuse-if (not (scanKnown b (h .frame .channels))) Unsupported st ≡ st
+      to-order : (st : Stage) → stop-if (not (scanKnown b (h .frame .channels))) Unsupported st ≡ st
       to-order st = refuse-go (not (scanKnown b (h .frame .channels))) Unsupported st (ap not known)
 
-      pub scan-order : inOrder b (h .frame .ids) (h .frame .channels) ≡ false → stop Malformed ≡ scan b colour h e
+      pub scan-order : inOrder b (h .frame .ids) (h .frame .channels) ≡ false → stop Malformed ≡ scanSegment b colour h e
       scan-order p = sym (refuse-go (not (hasFrame h)) Malformed _ has ∙ to-order _ ∙ refuse-yes (not (inOrder b (h .frame .ids) (h .frame .channels))) Malformed _ (ap not p))
 
       module _ (order : inOrder b (h .frame .ids) (h .frame .channels) ≡ true) where
-        to-selected : (st : Stage) → refuse-if (not (inOrder b (h .frame .ids) (h .frame .channels))) Malformed st ≡ st
+        to-selected : (st : Stage) → stop-if (not (inOrder b (h .frame .ids) (h .frame .channels))) Malformed st ≡ st
         to-selected st = refuse-go (not (inOrder b (h .frame .ids) (h .frame .channels))) Malformed st (ap not order)
 
-        pub scan-selected : selected b (h .frame .channels) ≡ false → stop Unsupported ≡ scan b colour h e
+        pub scan-selected : selected b (h .frame .channels) ≡ false → stop Unsupported ≡ scanSegment b colour h e
         scan-selected p = sym (refuse-go (not (hasFrame h)) Malformed _ has ∙ to-order _ ∙ to-selected _ ∙ refuse-yes (not (selected b (h .frame .channels))) Unsupported _ (ap not p))
 
         module _ (chosen-ids : selected b (h .frame .channels) ≡ true) where
-          to-complete : (st : Stage) → refuse-if (not (selected b (h .frame .channels))) Unsupported st ≡ st
+          to-complete : (st : Stage) → stop-if (not (selected b (h .frame .channels))) Unsupported st ≡ st
           to-complete st = refuse-go (not (selected b (h .frame .channels))) Unsupported st (ap not chosen-ids)
 
-          pub scan-incomplete : complete (recordOf b colour h e) ≡ false → stop Malformed ≡ scan b colour h e
+          pub scan-incomplete : complete (recordOf b colour h e) ≡ false → stop Malformed ≡ scanSegment b colour h e
           scan-incomplete p = sym (refuse-go (not (hasFrame h)) Malformed _ has ∙ to-order _ ∙ to-selected _ ∙ to-complete _ ∙ refuse-yes (not (complete (recordOf b colour h e))) Malformed _ (ap not p))
 
-          pub scan-in : complete (recordOf b colour h e) ≡ true → done (recordOf b colour h e) ≡ scan b colour h e
+          pub scan-in : complete (recordOf b colour h e) ≡ true → done (recordOf b colour h e) ≡ scanSegment b colour h e
           scan-in p = sym (refuse-go (not (hasFrame h)) Malformed _ has ∙ to-order _ ∙ to-selected _ ∙ to-complete _ ∙ refuse-go (not (complete (recordOf b colour h e))) Malformed _ (ap not p))

@@ -9,7 +9,7 @@ use Rattle.reading.specs.declared.Refusal.the-variants.{Malformed, Unsupported}
 use Rattle.reading.specs.declared.Frame.{Frame}
 use Rattle.reading.specs.declared.Header.{Header}
 use Rattle.reading.specs.Tests.{_and_, within}
-use Rattle.reading.specs.Header.{Stage, more, done, stop, refuse-if, hasFrame, opening, noRecord}
+use Rattle.reading.specs.Header.{Stage, more, done, stop, stop-if, hasFrame, opening, noRecord}
 use Rattle.jpeg_state.specs.declared.Progress.the-variants.{More, Done, Stop}
 use Rattle.jpeg_state.specs.declared.Stepped.{Stepped}
 
@@ -21,8 +21,8 @@ stepped (stop x) = record { progress = Stop x; state = opening; found = noRecord
 
 -- what is left of a segment of tables ends with the segment; a table that lies past its end is malformed
 unfoldable pub inSegment : List ℕ → Header → ℕ → Stage → Stage
-unfolding refuse-if
-inSegment b h e st = refuse-if (not (leb (h .at + length b) e)) Malformed st
+unfolding stop-if
+inSegment b h e st = stop-if (not (leb (h .at + length b) e)) Malformed st
 
 -- the most blocks that the first channel has in an MCU: 4 of three channels, 1 of a single one; no other count is read
 abbrev pub mostOf : ℕ → ℕ
@@ -36,5 +36,5 @@ numbersFit f =
 
 -- a scan behind a frame with other numbers is not read
 unfoldable pub behindFrame : Header → Stage → Stage
-unfolding refuse-if numbersFit
-behindFrame h st = refuse-if (hasFrame h and not (numbersFit (h .frame))) Unsupported st
+unfolding stop-if numbersFit
+behindFrame h st = stop-if (hasFrame h and not (numbersFit (h .frame))) Unsupported st

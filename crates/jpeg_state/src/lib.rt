@@ -9,7 +9,7 @@ ghost use lib.ListN.{length, set};
 ghost use Rattle.reading.specs.declared.Refusal.the-variants.{Malformed};
 ghost use Rattle.reading.specs.Tests.{within};
 ghost use Rattle.reading.specs.Layout.{ceiling, blockCount, outputLength};
-ghost use Rattle.reading.specs.Header.{more, done, stop, refuse-if, moved, quantizer, huffman, frame, interval, shapeOf, recordOf, scan};
+ghost use Rattle.reading.specs.Header.{more, done, stop, stop-if, moved, quantizer, huffman, frame, interval, shapeOf, recordOf, scanSegment};
 ghost use Rattle.jpeg_state.specs.Segments.{stepped, inSegment, mostOf, numbersFit, behindFrame};
 use reading::Budget;
 use reading::Case;
@@ -74,7 +74,7 @@ impl Stepped {
 
 // a segment of tables holds one or more
 pub fn tables(state: Header, from: usize, end: usize, next: Case) -> Stepped
-    ensures { λ r. ⌜ r ≡ stepped (refuse-if (eqb from end) Malformed (more (moved state from next))) ⌝ }
+    ensures { λ r. ⌜ r ≡ stepped (stop-if (eqb from end) Malformed (more (moved state from next))) ⌝ }
 {
     if from == end {
         return Stepped::stop(Refusal::Malformed);
@@ -299,7 +299,7 @@ fn record_of(body: &[u8], colour: bool, state: Header, end: usize) -> Record
 }
 
 pub fn scan(body: &[u8], colour: bool, state: Header, end: usize) -> Stepped
-    ensures { λ r. ⌜ r ≡ stepped (behindFrame state (scan (now (body .entry)) colour state end)) ⌝ }
+    ensures { λ r. ⌜ r ≡ stepped (behindFrame state (scanSegment (now (body .entry)) colour state end)) ⌝ }
 {
     let frame = state.frame;
     let channels = frame.channels;

@@ -15,7 +15,8 @@ use Rattle.whole.specs.Ring.{*ℤ-assoc}
 use Rattle.whole.specs.Expressions.{at, Within}
 use Rattle.whole.specs.Lists.{listOf, is-list-of, listOf-cong}
 use Rattle.reading.specs.Tests.{over}
-use Rattle.reading.specs.Transform.{zigzag, zigzagPlace, dequantizedAt, coefficients, basis, plane, sampleOf, samples, samplesTo, painted}
+use Rattle.reading.specs.Transform.{zigzag, zigzagPlace, dequantizedAt, coefficients, basis, plane, sampleOf, samples}
+use Rattle.reading.specs.Code.Painted.{samplesTo, painted}
 use Rattle.reading.proofs.Zigzag.{zigzag-place, place-zigzag, place-below}
 pub use Rattle.reading.proofs.Zigzag.{zigzag-below}
 use Rattle.reading.proofs.Zigzag as zig

@@ -12,7 +12,7 @@ use lib.ListN.{length, getD, drop, replicate}
 use mir.Syntax.{w64}
 use mir.Val.{SFits, toZ, ofZ}
 use mir.Facts.{and-yes, toZ-ofZ}
-use Rattle.whole.specs.Expressions.{Exp, at, value, bitsOf, Within, within-nil, within-cons, safe, allSafe, size, bounded, Fine, fine, exact, fits-abs, dot, coeffs, Pure, weighted}
+use Rattle.whole.specs.Expressions.{Exp, at, value, machineBits, Within, within-nil, within-cons, safe, allSafe, size, bounded, Fine, fine, exact, fits-abs, dot, coeffs, Pure, weighted}
 use Rattle.whole.specs.Lists.{from, getD-from}
 use Rattle.whole.specs.Signs.{zero-bits}
 use Rattle.reading.specs.Tests.{all}
@@ -58,12 +58,12 @@ module _ {l : List ℤ} (small : Within (2 ^ 40) l) where
   pub ok : (e : Exp) → T (safe w64 L e) → Fine w64 (at l) e
   ok e t = fine w64 (at l) L (small .each) e t
 
-  read : (e : Exp) → T (safe w64 L e) → toZ w64 (bitsOf w64 (at l) e) ≡ value (at l) e
+  read : (e : Exp) → T (safe w64 L e) → toZ w64 (machineBits w64 (at l) e) ≡ value (at l) e
   read e t = exact w64 (at l) L (small .each) e t
 
   -- the four results of a half, as the machine has them
   pub four : (p q r s : Exp) → T (allSafe w64 L (p ∷ q ∷ r ∷ s ∷ []))
-      → _≡_ {A = Four} (toZ w64 (bitsOf w64 (at l) p), toZ w64 (bitsOf w64 (at l) q), toZ w64 (bitsOf w64 (at l) r), toZ w64 (bitsOf w64 (at l) s))
+      → _≡_ {A = Four} (toZ w64 (machineBits w64 (at l) p), toZ w64 (machineBits w64 (at l) q), toZ w64 (machineBits w64 (at l) r), toZ w64 (machineBits w64 (at l) s))
       (value (at l) p, value (at l) q, value (at l) r, value (at l) s)
   four p q r s t =
       let a = and-yes (safe w64 L p) (allSafe w64 L (q ∷ r ∷ s ∷ [])) t in
@@ -155,7 +155,7 @@ factored f = values f outputs ((tt, refl), ((tt, refl), ((tt, refl), ((tt, refl)
 abbrev pub H : ℕ → ℕ
 H i = 2 ^ 56
 
-machine : (l : List ℤ) → Within (2 ^ 56) l → (es : List Exp) → T (allSafe w64 H es) → map (λ e. toZ w64 (bitsOf w64 (at l) e)) es ≡ map (value (at l)) es
+machine : (l : List ℤ) → Within (2 ^ 56) l → (es : List Exp) → T (allSafe w64 H es) → map (λ e. toZ w64 (machineBits w64 (at l) e)) es ≡ map (value (at l)) es
 machine l small [] t = refl
 machine l small (e ∷ es) t =
     let u = and-yes (safe w64 H e) (allSafe w64 H es) t in
@@ -166,12 +166,12 @@ module _ (e o : Four) (small : Within (2 ^ 56) (halves e o)) where
   pub join-fits : (s : Exp) → T (safe w64 H s) → Fine w64 (at (halves e o)) s
   join-fits s t = fine w64 (at (halves e o)) H (small .each) s t
 
-  pub join-small : (s : Exp) → T (safe w64 H s) → T (leb (size H s) (2 ^ 57)) → natAbs (toZ w64 (bitsOf w64 (at (halves e o)) s)) ≤ 2 ^ 57
+  pub join-small : (s : Exp) → T (safe w64 H s) → T (leb (size H s) (2 ^ 57)) → natAbs (toZ w64 (machineBits w64 (at (halves e o)) s)) ≤ 2 ^ 57
   join-small s t b =
       rw (exact w64 (at (halves e o)) H (small .each) s t)
       (le-trans (bounded w64 (at (halves e o)) H (small .each) s) (leb→le (size H s) (2 ^ 57) b))
 
-  pub joins : map (λ s. toZ w64 (bitsOf w64 (at (halves e o)) s)) sums ≡ joined e o
+  pub joins : map (λ s. toZ w64 (machineBits w64 (at (halves e o)) s)) sums ≡ joined e o
   unfolding joined
   joins = machine (halves e o) small sums tt
 

@@ -12,9 +12,10 @@ use Rattle.reading.specs.declared.Fault.{Fault}
 use Rattle.reading.specs.declared.NumberRead.{NumberRead}
 use Rattle.reading.specs.declared.NumberRead.the-variants as number
 use Rattle.reading.specs.Reader.{got, fault, give}
-use Rattle.reading.specs.Bits.{one, meaning, field, amplitude, shortField, shortAmplitude}
+use Rattle.reading.specs.Bits.{one, meaning, field, amplitude}
+use Rattle.reading.specs.Code.Fields.{shortField, shortAmplitude}
 use Rattle.reading.specs.Settled.{size}
-use Rattle.reading.specs.Answers.{numberRead}
+use Rattle.reading.specs.Code.Answers.{numberRead}
 use Rattle.reading.proofs.Readings.{two, got-val}
 use Rattle.reading.proofs.FineRead.{file-bits, field-below, meaning-below}
 use Rattle.reading.proofs.WantOfCode.{size-meaning}

@@ -2,9 +2,10 @@
 // can predict the next one.
 ghost use mathlib.Core.Path.{_≡_};
 ghost use Prim.Native.Nat.{_<_, _≤_, _^_};
-ghost use Rattle.reading.specs.Bits.{one, meaning, shortAmplitude};
+ghost use Rattle.reading.specs.Bits.{one, meaning};
+ghost use Rattle.reading.specs.Code.Fields.{shortAmplitude};
 ghost use Rattle.reading.specs.Block.{predictable};
-ghost use Rattle.reading.specs.Answers.{amplitudeRead};
+ghost use Rattle.reading.specs.Code.Answers.{amplitudeRead};
 use reading::AmplitudeRead;
 use reading::Bits;
 use reading::Level;

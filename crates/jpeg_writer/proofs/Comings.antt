@@ -19,7 +19,7 @@ use Rattle.reading.specs.Reader.{Read, got, fault, onward}
 use Rattle.reading.specs.Bits.{one}
 use Rattle.reading.specs.Block.{block}
 use Rattle.reading.specs.Layout.{channelOf, dueBefore, restartBefore, restartDue, restartCode}
-use Rattle.reading.specs.Answers.{said, levelsOf}
+use Rattle.reading.specs.Code.Answers.{said, levelsOf}
 use Rattle.reading.specs.Scan as scan
 use Rattle.reading.specs.Settled.{Written, Coded, onto, cut, blockBits, predictors, written}
 use Rattle.reading.proofs.BlockAnswers.{Taken, told}

@@ -12,7 +12,7 @@ use Rattle.reading.specs.declared.BlockRead.{BlockRead}
 use Rattle.reading.specs.declared.BlockRead.the-variants.{Got, Stop}
 use Rattle.reading.specs.declared.Fault.{Fault}
 use Rattle.reading.specs.declared.ScanCursor.{ScanCursor}
-use Rattle.reading.specs.Answers.{said, levelsOf}
+use Rattle.reading.specs.Code.Answers.{said, levelsOf}
 use Rattle.reading.specs.Scan as scan
 use Rattle.reading.specs.Settled.{Written, onto, blockBy}
 use Rattle.jpeg_plan.specs.declared.Plan.{Plan}

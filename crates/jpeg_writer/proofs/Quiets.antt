@@ -10,7 +10,7 @@ use borrow.Author.Tests.{eq-eqb}
 use Rattle.reading.specs.declared.Bits.{Bits}
 use Rattle.reading.specs.declared.BlockRead.{BlockRead}
 use Rattle.reading.specs.declared.BlockRead.the-variants as read
-use Rattle.reading.specs.Answers.{said, levelsOf}
+use Rattle.reading.specs.Code.Answers.{said, levelsOf}
 use Rattle.reading.specs.Reader.{Read}
 use Rattle.reading.proofs.BlockAnswers.{Taken, told}
 use Rattle.reading.proofs.Reach.{places-some, places-zero}

@@ -18,6 +18,7 @@ use Rattle.reading.specs.Bits.{ended}
 use Rattle.reading.specs.Layout.{dueBefore, restartBefore}
 use Rattle.reading.specs.Reader.{Read, got, fault}
 use Rattle.reading.specs.Scan as scan
+use Rattle.reading.specs.Code.Scans.{atStart}
 use Rattle.reading.specs.Settled.{cut}
 use Rattle.jpeg_plan.specs.declared.Plan.{Plan}
 use Rattle.jpeg_plan.specs.declared.Halt.{Halt}
@@ -37,7 +38,7 @@ use Rattle.jpeg_writer.proofs.Comings.{coming-none, coming-stop, coming
 
 -- a scan that is not begun
 abbrev whole : List ℕ → scan.Plan → Plan → List ℕ → Read Bits (Option Spot)
-whole s p n old = coming s p (n .blocks) (scan.opened (n .start)) (Done (fresh 0)) old
+whole s p n old = coming s p (n .blocks) (atStart (n .start)) (Done (fresh 0)) old
 
 -- before MCU m, or behind the last block: `old` are the bytes at the start, q, `ink` and `new` the cursor, the ink and the bytes now
 pub record Walk (s : List ℕ) (n : Plan) (old new : List ℕ) (q : ScanCursor) (ink : Outcome) (m : ℕ) : Type 0 where
@@ -46,10 +47,10 @@ pub record Walk (s : List ℕ) (n : Plan) (old new : List ℕ) (q : ScanCursor) 
   pub place : q .done ≡ min (m * n .per) (n .blocks)
   pub on : (p : scan.Plan) → Stands (head n s) n p → whole s p n old ≡ coming s p (n .blocks) q ink new
 
-pub begin : (s : List ℕ) (n : Plan) (old : List ℕ) {q : ScanCursor} {ink : Outcome} → q ≡ scan.opened (n .start) → ink ≡ Done (fresh 0) → Walk s n old old q ink 0
+pub begin : (s : List ℕ) (n : Plan) (old : List ℕ) {q : ScanCursor} {ink : Outcome} → q ≡ atStart (n .start) → ink ≡ Done (fresh 0) → Walk s n old old q ink 0
 begin s n old {q} {ink} e f =
     subst⁻¹ (λ (x : ScanCursor). Walk s n old old x ink 0) e
-    (subst⁻¹ (λ (i : Outcome). Walk s n old old (scan.opened (n .start)) i 0) f
+    (subst⁻¹ (λ (i : Outcome). Walk s n old old (atStart (n .start)) i 0) f
     (record {
       size = refl;
       fit = fresh-proper 0;

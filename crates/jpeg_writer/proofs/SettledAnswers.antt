@@ -19,7 +19,8 @@ use Rattle.reading.specs.declared.ScanSettled.the-variants as answer
 use Rattle.reading.specs.Bits.{ended}
 use Rattle.reading.specs.Reader.{Read, got, fault}
 use Rattle.reading.specs.Scan as scan
-use Rattle.reading.specs.Settled.{written, settledScan, settledRead, settledOf, scanSettled, laidOver}
+use Rattle.reading.specs.Code.Scans.{atStart, scanOf, settledRead, settledOf, scanSettled, laidOver}
+use Rattle.reading.specs.Settled.{written, settledScan}
 use Rattle.jpeg_plan.specs.declared.Plan.{Plan}
 use Rattle.jpeg_scan.specs.Steps.{ahead}
 use Rattle.jpeg_plan.proofs.Standing.{Ready}
@@ -53,36 +54,36 @@ module _ {s : List ℕ} {r : Record} {n : Plan} (u : Ready s r n) (few : r .bloc
   abbrev plan : scan.Plan
   plan = scan.planOf s r
 
-  from-start : (old : List ℕ) → closing s (coming s plan (r .blocks) (scan.opened (r .start)) (Done (fresh 0)) old) ≡ put old (settledRead plan (scan.scanOf s r))
+  from-start : (old : List ℕ) → closing s (coming s plan (r .blocks) (atStart (r .start)) (Done (fresh 0)) old) ≡ put old (settledRead plan (scanOf s r))
   unfolding coming settling finalBy settledScan
-  from-start old = go (ahead s plan (r .blocks) (scan.opened (r .start))) refl
+  from-start old = go (ahead s plan (r .blocks) (atStart (r .start))) refl
     where
       bytes : List (List ℤ) → Option Spot
       bytes ls = finalBy (Done (fresh 0)) old (written (scan.planOf s r) 0 scan.noPredictors ls)
 
-      close : (ls : List (List ℤ)) (b : Bits) → ahead s (scan.planOf s r) (r .blocks) (scan.opened (r .start)) ≡ got ls b → (t : Bool) → ended s b ≡ t
-          → cond t (got (bytes ls) b) (fault Broken) ≡ put old (settledRead (scan.planOf s r) (scan.scanOf s r))
+      close : (ls : List (List ℤ)) (b : Bits) → ahead s (scan.planOf s r) (r .blocks) (atStart (r .start)) ≡ got ls b → (t : Bool) → ended s b ≡ t
+          → cond t (got (bytes ls) b) (fault Broken) ≡ put old (settledRead (scan.planOf s r) (scanOf s r))
       close ls b e true h =
           ap (λ (x : Option Spot). got x b) (final-scan old 0 (written (scan.planOf s r) 0 scan.noPredictors ls))
           ∙ sym (ap (λ (o : Read Bits (List (List ℤ))). put old (settledRead (scan.planOf s r) o)) (scan-done s r (u .readable-is) e h))
       close ls b e false h = sym (ap (λ (o : Read Bits (List (List ℤ))). put old (settledRead (scan.planOf s r) o)) (scan-open s r (u .readable-is) e h))
 
-      go : (o : Read Bits (List (List ℤ))) → ahead s (scan.planOf s r) (r .blocks) (scan.opened (r .start)) ≡ o → closing s (settling bytes o) ≡ put old (settledRead (scan.planOf s r) (scan.scanOf s r))
+      go : (o : Read Bits (List (List ℤ))) → ahead s (scan.planOf s r) (r .blocks) (atStart (r .start)) ≡ o → closing s (settling bytes o) ≡ put old (settledRead (scan.planOf s r) (scanOf s r))
       go (got ls b) e = close ls b e (ended s b) refl
       go (fault f) e = sym (ap (λ (o : Read Bits (List (List ℤ))). put old (settledRead (scan.planOf s r) o)) (scan-stop s r (u .readable-is) e))
 
   -- as the pass says it
-  told-so : {old new : List ℕ} {x : ScanSettled} → Ran s n old x new → Answers (put old (settledRead plan (scan.scanOf s r))) x new
+  told-so : {old new : List ℕ} {x : ScanSettled} → Ran s n old x new → Answers (put old (settledRead plan (scanOf s r))) x new
   told-so {old} {new} {x} a =
       subst (λ (o : Read Bits (Option Spot)). Answers o x new)
-      (ap (λ (k : Plan). closing s (coming s plan (k .blocks) (scan.opened (k .start)) (Done (fresh 0)) old)) (u .plan-is) ∙ from-start old)
+      (ap (λ (k : Plan). closing s (coming s plan (k .blocks) (atStart (k .start)) (Done (fresh 0)) old)) (u .plan-is) ∙ from-start old)
       (a .each plan (u .numbers))
 
-  passed : {old new : List ℕ} {x : ScanSettled} → Ran s n old x new → Passed (settledRead plan (scan.scanOf s r)) old x new
+  passed : {old new : List ℕ} {x : ScanSettled} → Ran s n old x new → Passed (settledRead plan (scanOf s r)) old x new
   unfolding scanSettled
-  passed {old} {new} {x} a = go (scan.scanOf s r) refl (told-so a)
+  passed {old} {new} {x} a = go (scanOf s r) refl (told-so a)
     where
-      whole : (ls : List (List ℤ)) (b : Bits) → scan.scanOf s r ≡ got ls b → (w : Option (List ℕ)) → settledScan (scan.planOf s r) ls ≡ w → endedAt (scanAt (spot old 0) w) x new → Passed (got w b) old x new
+      whole : (ls : List (List ℤ)) (b : Bits) → scanOf s r ≡ got ls b → (w : Option (List ℕ)) → settledScan (scan.planOf s r) ls ≡ w → endedAt (scanAt (spot old 0) w) x new → Passed (got w b) old x new
       whole ls b e none f h = record { says = h; fills = tt }
       whole ls b e (some t) f h =
           let laid : bytesAt (spot old 0) t ≡ spot (sets old 0 t) (0 + length t) = settled-laid s r ls b t (scan-levels s r e) f old 0 (omega arith) (omega arith) in
@@ -91,11 +92,11 @@ module _ {s : List ℕ} {r : Record} {n : Plan} (u : Ready s r n) (few : r .bloc
             fills = h .1 ∙ ap (λ (y : Spot). y .bytes) laid;
           }
 
-      go : (o : Read Bits (List (List ℤ))) → scan.scanOf s r ≡ o → Answers (put old (settledRead (scan.planOf s r) o)) x new → Passed (settledRead (scan.planOf s r) o) old x new
+      go : (o : Read Bits (List (List ℤ))) → scanOf s r ≡ o → Answers (put old (settledRead (scan.planOf s r) o)) x new → Passed (settledRead (scan.planOf s r) o) old x new
       go (got ls b) e h = whole ls b e (settledScan (scan.planOf s r) ls) refl h
       go (fault f) e h = record { says = h; fills = tt }
 
-  pub settled-is : settledOf s r ≡ settledRead plan (scan.scanOf s r)
+  pub settled-is : settledOf s r ≡ settledRead plan (scanOf s r)
   unfolding settledOf
   settled-is = rw (lt-ltb (r .blocks) (2 ^ 32) few) refl
 
@@ -149,6 +150,6 @@ pub settled-many : (s : List ℕ) (r : Record) → 2 ^ 32 ≤ r .blocks → sett
 unfolding settledOf
 settled-many s r h = rw (le-ltb (r .blocks) (2 ^ 32) h) refl
 
-pub settled-unread : (s : List ℕ) (r : Record) → r .blocks < 2 ^ 32 → scan.scanOf s r ≡ fault Broken → settledOf s r ≡ fault Broken
+pub settled-unread : (s : List ℕ) (r : Record) → r .blocks < 2 ^ 32 → scanOf s r ≡ fault Broken → settledOf s r ≡ fault Broken
 unfolding settledOf
 settled-unread s r h e = rw (lt-ltb (r .blocks) (2 ^ 32) h) (ap (settledRead (scan.planOf s r)) e)

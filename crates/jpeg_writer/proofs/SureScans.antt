@@ -19,12 +19,13 @@ use Rattle.reading.specs.declared.ScanRead.{ScanRead}
 use Rattle.reading.specs.declared.ScanRead.the-variants as reads
 use Rattle.reading.specs.declared.ScanSettled.{ScanSettled}
 use Rattle.reading.specs.declared.ScanSettled.the-variants as answer
-use Rattle.reading.specs.Answers.{scanRead}
+use Rattle.reading.specs.Code.Answers.{scanRead}
 use Rattle.reading.specs.Huffman.{Table, codeOf}
 use Rattle.reading.specs.Layout.{channelOf}
 use Rattle.reading.specs.Reader.{Read, got, fault}
 use Rattle.reading.specs.Scan as scan
-use Rattle.reading.specs.Settled.{Written, settledRead, settledOf, scanSettled, laidOver}
+use Rattle.reading.specs.Code.Scans.{scanOf, settledRead, settledOf, scanSettled, laidOver}
+use Rattle.reading.specs.Settled.{Written}
 use Rattle.reading.specs.Tables.{shapeIn}
 use Rattle.reading.specs.Tests.{isNone}
 use Rattle.reading.proofs.Counted.{scan-levels}
@@ -127,12 +128,12 @@ module _ {s : List ℕ} {r : Record} {n : Plan} (u : Ready s r n) {ws : List ℕ
           (word-coded (512 * c + 256) ws _ (words-ac (u .numbers) w c (third c h)) (subst (λ (a : ℕ). getD ws a 0 ≡ 0 → ⊥) place (coded-each ws (2 * r .channels) e (2 * c + 1) (omega arith))))
 
   sure-fits : r .blocks < 2 ^ 32 → AllBytes s → (room : ℕ) → sure r ws (length s - n .start) room ≡ true → Roomy (settledOf s r) room
-  sure-fits few ab room e = subst⁻¹ (λ (o : Read Bits (Option (List ℕ))). Roomy o room) (settled-is u few) (go (scan.scanOf s r) refl)
+  sure-fits few ab room e = subst⁻¹ (λ (o : Read Bits (Option (List ℕ))). Roomy o room) (settled-is u few) (go (scanOf s r) refl)
     where
       starts : n .start ≡ r .start
       starts = ap (λ (k : Plan). k .start) (u .plan-is)
 
-      go : (o : Read Bits (List (List ℤ))) → scan.scanOf s r ≡ o → Roomy (settledRead (scan.planOf s r) o) room
+      go : (o : Read Bits (List (List ℤ))) → scanOf s r ≡ o → Roomy (settledRead (scan.planOf s r) o) room
       go (got ls b) f =
           let says = sure-says r ws (length s - n .start) room e in
           let l = scan-levels s r f in
@@ -141,10 +142,10 @@ module _ {s : List ℕ} {r : Record} {n : Plan} (u : Ready s r n) {ws : List ℕ
       go (fault f) g = tt
 
   -- what reading it tells
-  module _ (few : r .blocks < 2 ^ 32) (room : ℕ) {x : ScanRead} (e : x ≡ scanRead (scan.scanOf s r)) where
+  module _ (few : r .blocks < 2 ^ 32) (room : ℕ) {x : ScanRead} (e : x ≡ scanRead (scanOf s r)) where
     pub read-stop : {f : Fault} → x ≡ reads.Stop f → answer.Stop f ≡ foretold true room (settledOf s r)
     unfolding foretold scanRead
-    read-stop {f} g = subst⁻¹ (λ (o : Read Bits (Option (List ℕ))). answer.Stop f ≡ foretold true room o) (settled-is u few) (go (scan.scanOf s r) e)
+    read-stop {f} g = subst⁻¹ (λ (o : Read Bits (Option (List ℕ))). answer.Stop f ≡ foretold true room o) (settled-is u few) (go (scanOf s r) e)
       where
         go : (o : Read Bits (List (List ℤ))) → x ≡ scanRead o → answer.Stop f ≡ foretold true room (settledRead (scan.planOf s r) o)
         go (got ls b) h = absurd (suc-ne-zero 0 cc)
@@ -152,7 +153,7 @@ module _ {s : List ℕ} {r : Record} {n : Plan} (u : Ready s r n) {ws : List ℕ
 
     pub read-done : x ≡ reads.Done → answer.Done room ≡ foretold true room (settledOf s r)
     unfolding foretold scanRead
-    read-done g = subst⁻¹ (λ (o : Read Bits (Option (List ℕ))). answer.Done room ≡ foretold true room o) (settled-is u few) (go (scan.scanOf s r) e)
+    read-done g = subst⁻¹ (λ (o : Read Bits (Option (List ℕ))). answer.Done room ≡ foretold true room o) (settled-is u few) (go (scanOf s r) e)
       where
         go : (o : Read Bits (List (List ℤ))) → x ≡ scanRead o → answer.Done room ≡ foretold true room (settledRead (scan.planOf s r) o)
         go (got ls b) h = refl

@@ -15,7 +15,8 @@ use Rattle.reading.specs.Reader.{Read, got, fault}
 use Rattle.reading.specs.Bits.{ended}
 use Rattle.reading.specs.Layout.{channelOf}
 use Rattle.reading.specs.Scan as scan
-use Rattle.reading.specs.Settled.{Coded, onto, blockBits, written, scanSettled}
+use Rattle.reading.specs.Code.Scans.{atStart, scanSettled}
+use Rattle.reading.specs.Settled.{Coded, onto, blockBits, written}
 use Rattle.jpeg_plan.specs.declared.Plan.{Plan}
 use Rattle.jpeg_plan.specs.declared.Halt.{Halt}
 use Rattle.jpeg_plan.specs.declared.Halt.the-variants.{No, Yes}
@@ -107,7 +108,7 @@ Answers (fault f) r new = r ≡ answer.Stop f
 -- a scan from its first coded byte on, written at the start of a buffer
 pub record Ran (s : List ℕ) (n : Plan) (old : List ℕ) (r : ScanSettled) (new : List ℕ) : Type 0 where
   pub size : length new ≡ length old
-  pub each : (p : scan.Plan) → Stands (take (n .start) s) n p → Answers (closing s (coming s p (n .blocks) (scan.opened (n .start)) (Done (fresh 0)) old)) r new
+  pub each : (p : scan.Plan) → Stands (take (n .start) s) n p → Answers (closing s (coming s p (n .blocks) (atStart (n .start)) (Done (fresh 0)) old)) r new
 
 -- the answer alone, whatever lies in the buffer
 pub record Measures (s : List ℕ) (n : Plan) (r : ScanSettled) : Type 0 where

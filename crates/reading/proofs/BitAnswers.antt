@@ -9,8 +9,9 @@ use Rattle.reading.specs.declared.BitRead.the-variants as bit
 use Rattle.reading.specs.declared.NumberRead.{NumberRead}
 use Rattle.reading.specs.declared.NumberRead.the-variants as number
 use Rattle.reading.specs.Reader.{got, rule}
-use Rattle.reading.specs.Bits.{one, field, shortField}
-use Rattle.reading.specs.Answers.{bitRead, numberRead}
+use Rattle.reading.specs.Bits.{one, field}
+use Rattle.reading.specs.Code.Fields.{shortField}
+use Rattle.reading.specs.Code.Answers.{bitRead, numberRead}
 use Rattle.reading.proofs.Readings.{two, rule-so}
 use Rattle.reading.proofs.FineRead.{file-bits, field-below}
 

@@ -9,8 +9,9 @@ use Rattle.reading.specs.declared.Fault.{Fault}
 use Rattle.reading.specs.declared.BlockRead.{BlockRead}
 use Rattle.reading.specs.declared.BlockRead.the-variants.{Got, Stop}
 use Rattle.reading.specs.Reader.{Read, got, fault}
-use Rattle.reading.specs.Block.{zeros, places}
-use Rattle.reading.specs.Answers.{said, levelsOr, levelsOf}
+use Rattle.reading.specs.Block.{zeros}
+use Rattle.reading.specs.Code.Places.{places}
+use Rattle.reading.specs.Code.Answers.{said, levelsOr, levelsOf}
 
 module _ {r : Read Bits (List ℤ)} where
   pub said-got : {l : List ℤ} {q : Bits} → r ≡ got l q → (z : ℤ) (n : ℕ) → z ≡ getD l 0 (pos 0) → places l ≡ n → Got q z n ≡ said r

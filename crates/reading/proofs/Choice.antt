@@ -17,7 +17,7 @@ use Rattle.reading.specs.declared.Header.{Header}
 use Rattle.reading.specs.declared.Record.{Record}
 use Rattle.reading.specs.Tests.{_or_}
 use Rattle.reading.specs.Reader.{Read, got, fault}
-use Rattle.reading.specs.Header.{Stage, more, done, stop, refuse-if, byte, word, window, moved, frame, scan, kindOf, segment, segmentEnd, marker, stepIn, step, steps, opens, opening, started, header}
+use Rattle.reading.specs.Header.{Stage, more, done, stop, stop-if, byte, word, window, moved, frame, scanSegment, kindOf, segment, segmentEnd, marker, stepIn, step, steps, opens, opening, started, header}
 use Rattle.reading.specs.Scan.{levels}
 use Rattle.reading.specs.Reading.{Reading, accepted, refused, reading, readFrom, scanned}
 pub use Rattle.reading.specs.Words.{recolour, reread}
@@ -28,8 +28,8 @@ restage c (done r) = done (recolour c r)
 restage c (stop x) = stop x
 
 module _ (c d : Bool) where
-  through : (t : Bool) (x : Refusal) (u v : Stage) → u ≡ restage c v → refuse-if t x u ≡ restage c (refuse-if t x v)
-  unfolding refuse-if
+  through : (t : Bool) (x : Refusal) (u v : Stage) → u ≡ restage c v → stop-if t x u ≡ restage c (stop-if t x v)
+  unfolding stop-if
   through true x u v e = refl
   through false x u v e = e
 
@@ -37,7 +37,7 @@ module _ (c d : Bool) where
   either true u u′ v v′ e f = e
   either false u u′ v v′ e f = f
 
-  scan-choice : (b : List ℕ) (h : Header) (e : ℕ) → scan b c h e ≡ restage c (scan b d h e)
+  scan-choice : (b : List ℕ) (h : Header) (e : ℕ) → scanSegment b c h e ≡ restage c (scanSegment b d h e)
   scan-choice b h e = through _ _ _ _ (through _ _ _ _ (through _ _ _ _ (through _ _ _ _ (through _ _ _ _ refl))))
 
   frame-choice : (b : List ℕ) (h : Header) (e : ℕ) → frame b h e ≡ restage c (frame b h e)
@@ -75,10 +75,10 @@ module _ (c d : Bool) where
       seg k = segment k h (kindOf code) (window s (h .at + 4) end) (h .at + 4) end
 
       uncut : Bool → Stage
-      uncut k = refuse-if cut CutShort (seg k)
+      uncut k = stop-if cut CutShort (seg k)
 
       behind : Bool → Stage
-      behind k = refuse-if (eqb code 217) Malformed (uncut k)
+      behind k = stop-if (eqb code 217) Malformed (uncut k)
 
   step-choice : (s : List ℕ) (h : Header) (k : Case) → stepIn s c h k ≡ restage c (stepIn s d h k)
   step-choice s h Marker = marker-choice s h

@@ -11,9 +11,11 @@ use Rattle.reading.specs.declared.Fault.the-variants.{Broken}
 use Rattle.reading.specs.declared.Record.{Record}
 use Rattle.reading.specs.Reader.{got, fault}
 use Rattle.reading.specs.Layout.{channelOf}
-use Rattle.reading.specs.Transform.{coefficients, samples, samplesTo}
+use Rattle.reading.specs.Transform.{coefficients, samples}
+use Rattle.reading.specs.Code.Painted.{samplesTo}
 use Rattle.reading.specs.Reading.{dequantized, blockSamples, allSamples}
-use Rattle.reading.specs.Scan.{Plan, planOf, noPredictors, levels, readable, scanOf}
+use Rattle.reading.specs.Scan.{Plan, planOf, noPredictors, levels}
+use Rattle.reading.specs.Code.Scans.{readable, scanOf}
 use Rattle.reading.proofs.DoubleSum.{length-samples}
 use Rattle.reading.proofs.Readings.{no-fault}
 use Rattle.reading.proofs.FineRead.{levels-fine}

@@ -15,7 +15,8 @@ use Rattle.reading.specs.declared.Header.{Header}
 use Rattle.reading.specs.declared.Record.{Record}
 use Rattle.reading.specs.declared.Verdict.{Verdict}
 use Rattle.reading.specs.declared.Verdict.the-variants.{Accepted, Refused}
-use Rattle.reading.specs.Header.{Stage, more, done, stop, refuse-if, byte, window, kindOf, segment, segmentEnd, stepIn, opening, opens, started, header, headed}
+use Rattle.reading.specs.Header.{Stage, more, done, stop, stop-if, byte, window, kindOf, segment, segmentEnd, stepIn, opening, opens, started, header}
+use Rattle.reading.specs.Code.Heads.{headed}
 use Rattle.reading.proofs.Stages.{steps-hold}
 
 -- the refusals of a header
@@ -29,8 +30,8 @@ pub data Numbered : Stage → Type 0 where
   met : (r : Record) → Numbered (done r)
   off : (x : Refusal) → OfHeader x → Numbered (stop x)
 
-test : (b : Bool) (x : Refusal) (st : Stage) → OfHeader x → Numbered st → Numbered (refuse-if b x st)
-unfolding refuse-if
+test : (b : Bool) (x : Refusal) (st : Stage) → OfHeader x → Numbered st → Numbered (stop-if b x st)
+unfolding stop-if
 test true x st o n = off x o
 test false x st o n = n
 

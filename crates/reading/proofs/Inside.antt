@@ -12,10 +12,10 @@ use Rattle.reading.specs.declared.Bits.{Bits}
 use Rattle.reading.specs.declared.Fault.{Fault}
 use Rattle.reading.specs.declared.Fault.the-variants.{Bare, Broken}
 use Rattle.reading.specs.Reader.{Read, got, fault, Reader, onward, _>>=_, give, fail, rule}
-use Rattle.reading.specs.Bits.{opened, afterFull, freshFrom, oneAt, one, file, mark, padded, fieldFrom, meaning, amplitude}
+use Rattle.reading.specs.Bits.{firstOf, afterFull, freshFrom, oneAt, one, file, mark, padded, fieldFrom, meaning, amplitude}
 use Rattle.reading.specs.Huffman.{Table, codeFrom, symbol}
 use Rattle.reading.proofs.FileBytes.{element-there}
-use Rattle.reading.specs.Tests.{_and_, isSome, isAt}
+use Rattle.reading.specs.Tests.{_and_, holds, isAt}
 use Rattle.reading.specs.Layout.{channelOf, restartDue, restartCode}
 use Rattle.reading.specs.Scan.{Plan, noPredictors, restart, blocks}
 use Rattle.reading.specs.Block.{Ask, end, skip, value, wrong, asked, predictable, first, zeros, answered, rest, block}
@@ -114,7 +114,7 @@ one-leads s P Q less next b h = by (b .at) (b .byte) (b .left) h
     full at byte none e h = tt
     full at byte (some y) e h = go (eqb y 0)
       where
-        go : (t : Bool) → Stands Q (cond t (opened 255 (at + 2)) (fault Bare))
+        go : (t : Bool) → Stands Q (cond t (firstOf 255 (at + 2)) (fault Bare))
         go true = next at byte 255 2 h (omega arith) (omega (arith, element-there s (at + 1) y e))
         go false = tt
 
@@ -122,7 +122,7 @@ one-leads s P Q less next b h = by (b .at) (b .byte) (b .left) h
     new at byte none e h = tt
     new at byte (some x) e h = go (eqb x 255)
       where
-        go : (t : Bool) → Stands Q (cond t (afterFull at (getElem? s (at + 1))) (opened x (at + 1)))
+        go : (t : Bool) → Stands Q (cond t (afterFull at (getElem? s (at + 1))) (firstOf x (at + 1)))
         go true = full at byte (getElem? s (at + 1)) refl h
         go false = next at byte x 1 h (omega arith) (omega (arith, element-there s at x e))
 
@@ -161,7 +161,7 @@ nothing = tt
 pub mark-inside : (s : List ℕ) (code : ℕ) → Keeps (Inside s) (mark s code)
 mark-inside s code = record { kept = λ b h. go b (padded b) (isAt s (b .at) 255) (getElem? s (b .at + 1)) refl }
   where
-    go : (b : Bits) (x y : Bool) (o : Option ℕ) → getElem? s (b .at + 1) ≡ o → Stands (Inside s) (cond (x and y and isSome o code) (got nothing (record { at = b .at + 2; byte = 0; left = 0 })) (fault Broken))
+    go : (b : Bits) (x y : Bool) (o : Option ℕ) → getElem? s (b .at + 1) ≡ o → Stands (Inside s) (cond (x and y and holds o code) (got nothing (record { at = b .at + 2; byte = 0; left = 0 })) (fault Broken))
     go b false y o e = tt
     go b true false o e = tt
     go b true true none e = tt

@@ -27,7 +27,8 @@ use Rattle.reading.specs.declared.Verdict.{Verdict}
 use Rattle.reading.specs.declared.Verdict.the-variants.{Accepted, Refused}
 use Rattle.reading.specs.Tests.{_or_}
 use Rattle.reading.specs.Reader.{Read, got, fault}
-use Rattle.reading.specs.Header.{Stage, more, done, stop, header, headed, ending}
+use Rattle.reading.specs.Header.{Stage, more, done, stop, header, ending}
+use Rattle.reading.specs.Code.Heads.{headed}
 use Rattle.reading.specs.Scan.{levels}
 use Rattle.reading.specs.Reading.{accepted, reading}
 use Rattle.reading.specs.Judging.{Judged, accepts, refuses, Judging, onward, _>>_, give, refuse, refuse-if, pay, remaining, unbroken}

@@ -12,8 +12,10 @@ use lib.Seq.{take-add, take-suc-set, getD-take, drop-nil}
 use lib.IntN.{ℤ, pos, negsuc, _*ℤ_}
 use borrow.Author.Tests.{ltb-true, ltb-false}
 use Rattle.whole.specs.Lists.{listOf-cong}
-use Rattle.reading.specs.Block.{zeros, isZero, oneMore, last, places}
-use Rattle.reading.specs.Transform.{coefficients, zigzagPlace, dequantizedAt, samples, samplesTo}
+use Rattle.reading.specs.Block.{zeros}
+use Rattle.reading.specs.Code.Places.{isZero, oneMore, extent, places}
+use Rattle.reading.specs.Transform.{coefficients, zigzagPlace, dequantizedAt, samples}
+use Rattle.reading.specs.Code.Painted.{samplesTo}
 
 -- ---- the last level that is not 0, level by level
 
@@ -40,30 +42,30 @@ tail-within false n k h = omega arith
 -- ---- zeros from a place on
 
 -- the level at a place that the levels do not reach
-pub last-zero : (l : List ℤ) (k : ℕ) → last l ≤ k → getD l k (pos 0) ≡ pos 0
+pub last-zero : (l : List ℤ) (k : ℕ) → extent l ≤ k → getD l k (pos 0) ≡ pos 0
 last-zero [] k h = refl
-last-zero (z ∷ l) zero h = head-none z (last l) h
-last-zero (z ∷ l) (suc k) h = last-zero l k (tail-within (isZero z) (last l) k h)
+last-zero (z ∷ l) zero h = head-none z (extent l) h
+last-zero (z ∷ l) (suc k) h = last-zero l k (tail-within (isZero z) (extent l) k h)
 
-all-zero : (l : List ℤ) → last l ≤ 0 → l ≡ zeros (length l)
+all-zero : (l : List ℤ) → extent l ≤ 0 → l ≡ zeros (length l)
 all-zero [] h = refl
 all-zero (z ∷ l) h =
-    let none : last l ≤ 0 = omega (arith, tail-none (isZero z) (last l) h) in
-    rw (head-none z (last l) h) (ap (λ m. pos 0 ∷ m) (all-zero l none))
+    let none : extent l ≤ 0 = omega (arith, tail-none (isZero z) (extent l) h) in
+    rw (head-none z (extent l) h) (ap (λ m. pos 0 ∷ m) (all-zero l none))
 
-drop-zeros : (l : List ℤ) (k : ℕ) → last l ≤ k → drop k l ≡ zeros (length l - k)
+drop-zeros : (l : List ℤ) (k : ℕ) → extent l ≤ k → drop k l ≡ zeros (length l - k)
 drop-zeros [] k h = let none : 0 - k ≡ 0 = omega arith in rw none (drop-nil k)
 drop-zeros (z ∷ l) zero h = let all : suc (length l) - 0 ≡ suc (length l) = omega arith in rw all (all-zero (z ∷ l) h)
 drop-zeros (z ∷ l) (suc k) h =
     let less : suc (length l) - suc k ≡ length l - k = omega arith in
-    rw less (drop-zeros l k (tail-within (isZero z) (last l) k h))
+    rw less (drop-zeros l k (tail-within (isZero z) (extent l) k h))
 
 take-zeros : (n m : ℕ) → n ≤ m → take n (zeros m) ≡ zeros n
 take-zeros zero m h = refl
 take-zeros (suc n) zero h = absurd (not-suc-le-zero h)
 take-zeros (suc n) (suc m) h = ap (λ l. pos 0 ∷ l) (take-zeros n m (le-of-suc-le-suc h))
 
-module _ (l : List ℤ) (k : ℕ) (h : last l ≤ k) where
+module _ (l : List ℤ) (k : ℕ) (h : extent l ≤ k) where
   -- the whole list
   pub reach-all : take k l ++ zeros (length l - k) ≡ l
   reach-all = ap (λ m. take k l ++ m) (sym (drop-zeros l k h)) ∙ take-append-drop k l
@@ -82,18 +84,18 @@ module _ (l : List ℤ) (k : ℕ) (h : last l ≤ k) where
 
 -- ---- a level is put at a place from which on all are 0
 
-last-set : (l : List ℤ) (i : ℕ) (z : ℤ) → i < length l → last l ≤ i → (z ≡ pos 0 → ⊥) → last (set l i z) ≡ suc i
+last-set : (l : List ℤ) (i : ℕ) (z : ℤ) → i < length l → extent l ≤ i → (z ≡ pos 0 → ⊥) → extent (set l i z) ≡ suc i
 last-set [] i z h q n = absurd (not-suc-le-zero h)
-last-set (x ∷ l) zero z h q n = rw (nonzero z n, tail-none (isZero x) (last l) q)
-last-set (x ∷ l) (suc i) z h q n = rw (last-set l i z (le-of-suc-le-suc h) (tail-within (isZero x) (last l) i q) n) (go (isZero x))
+last-set (x ∷ l) zero z h q n = rw (nonzero z n, tail-none (isZero x) (extent l) q)
+last-set (x ∷ l) (suc i) z h q n = rw (last-set l i z (le-of-suc-le-suc h) (tail-within (isZero x) (extent l) i q) n) (go (isZero x))
   where
     go : (t : Bool) → oneMore t (suc i) ≡ suc (suc i)
     go true = refl
     go false = refl
 
-last-first : (l : List ℤ) (z : ℤ) → last l ≤ 0 → last (set l 0 z) ≤ 1
+last-first : (l : List ℤ) (z : ℤ) → extent l ≤ 0 → extent (set l 0 z) ≤ 1
 last-first [] z q = omega arith
-last-first (x ∷ l) z q = rw (tail-none (isZero x) (last l) q) (go (isZero z))
+last-first (x ∷ l) z q = rw (tail-none (isZero x) (extent l) q) (go (isZero z))
   where
     go : (t : Bool) → oneMore t 0 ≤ 1
     go true = omega arith
@@ -101,22 +103,22 @@ last-first (x ∷ l) z q = rw (tail-none (isZero x) (last l) q) (go (isZero z))
 
 -- the levels reach one place further than where the last one was put
 pub record Reached (l : List ℤ) (n : ℕ) : Type 0 where
-  pub quiet : last l ≤ n
+  pub quiet : extent l ≤ n
   pub many : places l ≡ n
 
-pub reached-put : (l : List ℤ) (i : ℕ) (z : ℤ) → i < length l → last l ≤ i → (0 < i → z ≡ pos 0 → ⊥) → Reached (set l i z) (i + 1)
+pub reached-put : (l : List ℤ) (i : ℕ) (z : ℤ) → i < length l → extent l ≤ i → (0 < i → z ≡ pos 0 → ⊥) → Reached (set l i z) (i + 1)
 unfolding places
 reached-put l zero z h q n =
-    let m : last (set l 0 z) ≤ 1 = last-first l z q in
+    let m : extent (set l 0 z) ≤ 1 = last-first l z q in
     record { quiet = m; many = omega arith }
 reached-put l (suc i) z h q n =
-    let m : last (set l (suc i) z) ≡ suc (suc i) = last-set l (suc i) z h q (n (omega arith)) in
+    let m : extent (set l (suc i) z) ≡ suc (suc i) = last-set l (suc i) z h q (n (omega arith)) in
     record { quiet = omega arith; many = omega arith }
 
 -- ---- the places of a block say all of its levels
 
 module _ (l : List ℤ) where
-  within : last l ≤ places l
+  within : extent l ≤ places l
   unfolding places
   within = omega arith
 

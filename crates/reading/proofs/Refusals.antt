@@ -21,7 +21,8 @@ use Rattle.reading.specs.declared.Verdict.{Verdict}
 use Rattle.reading.specs.declared.Verdict.the-variants.{Accepted, Refused}
 use Rattle.reading.specs.Tests.{_or_}
 use Rattle.reading.specs.Reader.{fault}
-use Rattle.reading.specs.Header.{Stage, more, done, stop, header, headed}
+use Rattle.reading.specs.Header.{Stage, more, done, stop, header}
+use Rattle.reading.specs.Code.Heads.{headed}
 use Rattle.reading.specs.Scan.{levels}
 use Rattle.reading.specs.Judging.{Judged, accepts, refuses, onward, give, unbroken}
 use Rattle.reading.specs.Calls.{headerPrice, tooLong, tooLarge, admission, ReadFile, judgement, inspect}

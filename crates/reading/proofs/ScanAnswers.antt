@@ -13,8 +13,9 @@ use Rattle.reading.specs.declared.ScanRead.{ScanRead}
 use Rattle.reading.specs.declared.ScanRead.the-variants.{Done, Stop}
 use Rattle.reading.specs.Tests.{over}
 use Rattle.reading.specs.Reader.{Read, got, fault}
-use Rattle.reading.specs.Answers.{scanRead}
-use Rattle.reading.specs.Reading.{allSamples, drawn}
+use Rattle.reading.specs.Code.Answers.{scanRead}
+use Rattle.reading.specs.Reading.{allSamples}
+use Rattle.reading.specs.Code.Painted.{drawn}
 
 -- ---- the answer
 

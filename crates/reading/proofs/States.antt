@@ -13,7 +13,7 @@ use Rattle.reading.specs.declared.Refusal.the-variants.{Malformed}
 use Rattle.reading.specs.declared.Header.{Header}
 use Rattle.reading.specs.declared.Record.{Record}
 use Rattle.reading.specs.Tests.{within}
-use Rattle.reading.specs.Scan.{readable}
+use Rattle.reading.specs.Code.Scans.{readable}
 use Rattle.reading.specs.Header.{Stage, more, done, stop, step, steps, opens, started, opening, header}
 use Rattle.reading.proofs.Stages.{refused-or, steps-hold}
 use Rattle.reading.proofs.HeaderEnds.{Ok, Down, left, opens-two, step-down}

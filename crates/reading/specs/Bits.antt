@@ -3,26 +3,26 @@ use Prim.Native.Nat.{ℕ, zero, suc, _+_, _*_, _-_, _/_, _%_, _^_}
 use mathlib.Core.Bool.{Bool, cond}
 use mathlib.Core.List.{List}
 use mathlib.Core.Option.{Option, none, some}
-use lib.Dec.{leb, ltb, eqb}
+use lib.Dec.{ltb, eqb}
 use lib.ListN.{getElem?, length}
 use lib.IntN.{ℤ, pos, subℕ}
 use Rattle.reading.specs.declared.Bits.{Bits}
 use Rattle.reading.specs.declared.Fault.the-variants.{RanOut, Bare, Broken}
-use Rattle.reading.specs.Reader.{Read, got, fault, Reader, _>>=_, _>>_, give, rule}
+use Rattle.reading.specs.Reader.{Read, got, fault, Reader, _>>=_, give}
 use Rattle.reading.specs.Tests.{_and_, isAt}
 
 -- the first bit of a data byte x that stands before `at`
-abbrev pub opened : ℕ → ℕ → Read Bits ℕ
-opened x at = got (x / 128 % 2) (record { at = at; byte = x; left = 7 })
+abbrev pub firstOf : ℕ → ℕ → Read Bits ℕ
+firstOf x at = got (x / 128 % 2) (record { at = at; byte = x; left = 7 })
 
 -- a data byte 255 must be followed by 0, which is skipped
 abbrev pub afterFull : ℕ → Option ℕ → Read Bits ℕ
 afterFull at none = fault RanOut
-afterFull at (some y) = cond (eqb y 0) (opened 255 (at + 2)) (fault Bare)
+afterFull at (some y) = cond (eqb y 0) (firstOf 255 (at + 2)) (fault Bare)
 
 abbrev pub freshFrom : List ℕ → ℕ → Option ℕ → Read Bits ℕ
 freshFrom s at none = fault RanOut
-freshFrom s at (some x) = cond (eqb x 255) (afterFull at (getElem? s (at + 1))) (opened x (at + 1))
+freshFrom s at (some x) = cond (eqb x 255) (afterFull at (getElem? s (at + 1))) (firstOf x (at + 1))
 
 -- the first bit of the next data byte
 abbrev pub fresh : List ℕ → ℕ → Read Bits ℕ
@@ -71,11 +71,6 @@ fieldFrom next (suc n) v = next >>= λ b. fieldFrom next n (2 * v + b)
 unfoldable pub field : {S : Type 0} → Reader S ℕ → ℕ → Reader S ℕ
 field next n = fieldFrom next n 0
 
--- a field that fits the code's numbers: one of over 16 bits, which no rule asks for, is Broken
-unfoldable pub shortField : {S : Type 0} → Reader S ℕ → ℕ → Reader S ℕ
-unfolding field
-shortField next n = rule (leb n 16) >> field next n
-
 -- what an n-bit field v means: 0 if n = 0, v + 1 - 2^n if v < 2^(n-1), else v
 abbrev pub meaning : ℕ → ℕ → ℤ
 meaning zero v = pos 0
@@ -84,7 +79,3 @@ meaning (suc n) v = cond (ltb v (2 ^ n)) (subℕ (v + 1) (2 ^ suc n)) (pos v)
 unfoldable pub amplitude : {S : Type 0} → Reader S ℕ → ℕ → Reader S ℤ
 unfolding field
 amplitude next n = field next n >>= λ v. give (meaning n v)
-
-unfoldable pub shortAmplitude : {S : Type 0} → Reader S ℕ → ℕ → Reader S ℤ
-unfolding shortField field
-shortAmplitude next n = shortField next n >>= λ v. give (meaning n v)

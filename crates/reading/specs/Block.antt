@@ -1,6 +1,6 @@
 -- A block: 64 levels in zigzag order.
-use Prim.Native.Nat.{ℕ, zero, suc, _+_, _-_, _/_, _%_, max}
-use mathlib.Core.Bool.{Bool, true, false, cond}
+use Prim.Native.Nat.{ℕ, zero, suc, _+_, _-_, _/_, _%_}
+use mathlib.Core.Bool.{Bool, cond}
 use mathlib.Core.List.{List, [], _∷_, _++_}
 use lib.Dec.{leb, ltb, eqb}
 use lib.ListN.{replicate}
@@ -62,24 +62,3 @@ block next dc ac p = do
   v ← first next dc p
   l ← rest next ac 63 1
   give (v ∷ l)
-
--- ---- how many places the levels of a block reach
-
-abbrev pub isZero : ℤ → Bool
-isZero (pos zero) = true
-isZero (pos (suc n)) = false
-isZero (negsuc n) = false
-
-abbrev pub oneMore : Bool → ℕ → ℕ
-oneMore true zero = zero
-oneMore true (suc n) = suc (suc n)
-oneMore false n = suc n
-
--- one more than the last place that is not 0
-abbrev pub last : List ℤ → ℕ
-last [] = 0
-last (z ∷ l) = oneMore (isZero z) (last l)
-
--- all levels from this place on are 0; the first place always counts
-unfoldable pub places : List ℤ → ℕ
-places l = max 1 (last l)

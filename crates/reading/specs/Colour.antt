@@ -12,22 +12,24 @@ toByte z = cond (ltZ z (pos 0)) 0 (cond (ltZ (pos 255) z) 255 (natAbs z))
 abbrev pub chroma : ℕ → ℤ
 chroma c = pos c -ℤ pos 128
 
--- `shrZ z 65536` is z / 65536, rounded down
+-- z / n, rounded down, below 0 too
+abbrev pub floored : ℤ → ℕ → ℤ
+floored z n = shrZ z n
 
 -- R = (65536Y + 91881(Cr-128) + 32768)/65536
 unfoldable pub red : ℕ → ℕ → ℕ
 unfolding toByte
-red y cr = toByte (shrZ (pos 65536 *ℤ pos y +ℤ pos 91881 *ℤ chroma cr +ℤ pos 32768) 65536)
+red y cr = toByte (floored (pos 65536 *ℤ pos y +ℤ pos 91881 *ℤ chroma cr +ℤ pos 32768) 65536)
 
 -- G = (65536Y - 22554(Cb-128) - 46802(Cr-128) + 32768)/65536
 unfoldable pub green : ℕ → ℕ → ℕ → ℕ
 unfolding toByte
-green y cb cr = toByte (shrZ (pos 65536 *ℤ pos y -ℤ pos 22554 *ℤ chroma cb -ℤ pos 46802 *ℤ chroma cr +ℤ pos 32768) 65536)
+green y cb cr = toByte (floored (pos 65536 *ℤ pos y -ℤ pos 22554 *ℤ chroma cb -ℤ pos 46802 *ℤ chroma cr +ℤ pos 32768) 65536)
 
 -- B = (65536Y + 116130(Cb-128) + 32768)/65536
 unfoldable pub blue : ℕ → ℕ → ℕ
 unfolding toByte
-blue y cb = toByte (shrZ (pos 65536 *ℤ pos y +ℤ pos 116130 *ℤ chroma cb +ℤ pos 32768) 65536)
+blue y cb = toByte (floored (pos 65536 *ℤ pos y +ℤ pos 116130 *ℤ chroma cb +ℤ pos 32768) 65536)
 
 -- channel c of the colour
 abbrev pub colourOf : ℕ → ℕ → ℕ → ℕ → ℕ

@@ -13,8 +13,6 @@ use Rattle.reading.specs.declared.Kind.the-variants.{Quants, Tables, Fra
 use Rattle.reading.specs.declared.Frame.{Frame}
 use Rattle.reading.specs.declared.Header.{Header}
 use Rattle.reading.specs.declared.Record.{Record}
-use Rattle.reading.specs.declared.Verdict.the-variants.{Accepted, Refused}
-use Rattle.reading.specs.declared.Head.{Head}
 use Rattle.reading.specs.Tests.{_and_, _or_, within, all, allFrom}
 use Rattle.reading.specs.Huffman.{sum, codesFit}
 use Rattle.reading.specs.Tables.{quantAt, dcAt, acAt}
@@ -27,9 +25,9 @@ pub data Stage : Type 0 where
   stop : Refusal → Stage
 
 -- a refusal where the test passes, else what follows
-unfoldable pub refuse-if : Bool → Refusal → Stage → Stage
-refuse-if true x st = stop x
-refuse-if false x st = st
+unfoldable pub stop-if : Bool → Refusal → Stage → Stage
+stop-if true x st = stop x
+stop-if false x st = st
 
 abbrev pub byte : List ℕ → ℕ → ℕ
 byte s p = getD s p 0
@@ -57,7 +55,7 @@ withQuantizer b h =
 abbrev pub quantizer : List ℕ → Header → ℕ → Stage
 quantizer b h e =
     cond (eqb (h .at) e) (more (moved h e Marker))
-    (refuse-if (not (quantizerFits b)) Malformed (more (withQuantizer b h)))
+    (stop-if (not (quantizerFits b)) Malformed (more (withQuantizer b h)))
 
 -- the 16 counts behind a table's first byte
 abbrev pub countsOf : List ℕ → List ℕ
@@ -87,7 +85,7 @@ withTable b h =
 
 abbrev pub huffman : List ℕ → Header → ℕ → Stage
 huffman b h e =
-    cond (eqb (h .at) e) (more (moved h e Marker)) (refuse-if (not (tableFits b)) Malformed (more (withTable b h)))
+    cond (eqb (h .at) e) (more (moved h e Marker)) (stop-if (not (tableFits b)) Malformed (more (withTable b h)))
 
 -- for each of three channels, f of it; 0 behind the last channel
 abbrev pub each : ℕ → (ℕ → ℕ) → List ℕ
@@ -146,10 +144,10 @@ withFrame h e f =
 
 abbrev pub frame : List ℕ → Header → ℕ → Stage
 frame b h e =
-    refuse-if (hasFrame h) Malformed
-    (refuse-if (not (frameKnown b)) Unsupported
-    (refuse-if (not (eqb (length b) (6 + 3 * byte b 5))) Malformed
-    (refuse-if (not (frameFits b (frameOf b))) Unsupported
+    stop-if (hasFrame h) Malformed
+    (stop-if (not (frameKnown b)) Unsupported
+    (stop-if (not (eqb (length b) (6 + 3 * byte b 5))) Malformed
+    (stop-if (not (frameFits b (frameOf b))) Unsupported
     (more (withFrame h e (frameOf b))))))
 
 abbrev pub withInterval : Header → ℕ → ℕ → Header
@@ -157,7 +155,7 @@ withInterval h e n =
     record { at = e; case = Marker; quants = h .quants; dcs = h .dcs; acs = h .acs; frame = h .frame; interval = n }
 
 abbrev pub interval : List ℕ → Header → ℕ → Stage
-interval b h e = refuse-if (not (eqb (length b) 2)) Malformed (more (withInterval h e (word b 0)))
+interval b h e = stop-if (not (eqb (length b) 2)) Malformed (more (withInterval h e (word b 0)))
 
 abbrev pub shapeOf : Frame → Shape
 shapeOf f = record { width = f .width; height = f .height; factors = factorsOf (f .hs) (f .vs) (f .channels) }
@@ -220,14 +218,14 @@ inOrder b ids ch = eachChannel ch (λ c. eqb (byte b (1 + 2 * c)) (getD ids c 0)
 abbrev pub selected : List ℕ → ℕ → Bool
 selected b ch = eachChannel ch (λ c. leb (dcId b c) 3 and leb (acId b c) 3)
 
-abbrev pub scan : List ℕ → Bool → Header → ℕ → Stage
-scan b colour h e =
+abbrev pub scanSegment : List ℕ → Bool → Header → ℕ → Stage
+scanSegment b colour h e =
     let ch = h .frame .channels in
-    refuse-if (not (hasFrame h)) Malformed
-    (refuse-if (not (scanKnown b ch)) Unsupported
-    (refuse-if (not (inOrder b (h .frame .ids) ch)) Malformed
-    (refuse-if (not (selected b ch)) Unsupported
-    (refuse-if (not (complete (recordOf b colour h e))) Malformed
+    stop-if (not (hasFrame h)) Malformed
+    (stop-if (not (scanKnown b ch)) Unsupported
+    (stop-if (not (inOrder b (h .frame .ids) ch)) Malformed
+    (stop-if (not (selected b ch)) Unsupported
+    (stop-if (not (complete (recordOf b colour h e))) Malformed
     (done (recordOf b colour h e))))))
 
 -- what a marker code asks for
@@ -242,10 +240,10 @@ kindOf c =
 
 -- a segment from a to e with its body
 abbrev pub segment : Bool → Header → Kind → List ℕ → ℕ → ℕ → Stage
-segment colour h Quants b a e = refuse-if (eqb a e) Malformed (more (moved h a (Quantizers e)))
-segment colour h Tables b a e = refuse-if (eqb a e) Malformed (more (moved h a (Huffman e)))
+segment colour h Quants b a e = stop-if (eqb a e) Malformed (more (moved h a (Quantizers e)))
+segment colour h Tables b a e = stop-if (eqb a e) Malformed (more (moved h a (Huffman e)))
 segment colour h Frames b a e = frame b h e
-segment colour h Scans b a e = scan b colour h e
+segment colour h Scans b a e = scanSegment b colour h e
 segment colour h Intervals b a e = interval b h e
 segment colour h Skips b a e = more (moved h e Marker)
 segment colour h Others b a e = stop Unsupported
@@ -257,10 +255,10 @@ segmentEnd s p = p + 2 + word s (p + 2)
 abbrev pub marker : List ℕ → Bool → Header → Stage
 marker s colour h =
     let p = h .at in
-    refuse-if (ltb (length s) (p + 2) or not (eqb (byte s p) 255)) Malformed
+    stop-if (ltb (length s) (p + 2) or not (eqb (byte s p) 255)) Malformed
     (cond (eqb (byte s (p + 1)) 255) (more (moved h (p + 1) Marker))
-    (refuse-if (eqb (byte s (p + 1)) 217) Malformed
-    (refuse-if (ltb (length s) (p + 4) or ltb (word s (p + 2)) 2 or ltb (length s) (segmentEnd s p)) CutShort
+    (stop-if (eqb (byte s (p + 1)) 217) Malformed
+    (stop-if (ltb (length s) (p + 4) or ltb (word s (p + 2)) 2 or ltb (length s) (segmentEnd s p)) CutShort
     (segment colour h (kindOf (byte s (p + 1))) (window s (p + 4) (segmentEnd s p)) (p + 4) (segmentEnd s p)))))
 
 -- one step of the header
@@ -291,10 +289,10 @@ abbrev pub opens : List ℕ → Bool
 opens s = leb 2 (length s) and eqb (byte s 0) 255 and eqb (byte s 1) 216
 
 abbrev pub started : List ℕ → Stage
-started s = refuse-if (not (opens s)) Malformed (more opening)
+started s = stop-if (not (opens s)) Malformed (more opening)
 
 unfoldable pub header : List ℕ → Bool → Stage
-unfolding refuse-if blockCount outputLength workOf
+unfolding stop-if blockCount outputLength workOf
 header s colour = steps s colour (2 * length s + 1) (started s)
 
 -- the record of a refusal
@@ -327,7 +325,3 @@ abbrev pub ending : {A : Type 0} → (Record → A) → (Refusal → A) → Stag
 ending f g (more h) = g CutShort
 ending f g (done r) = f r
 ending f g (stop x) = g x
-
--- the header as the code answers it
-abbrev pub headed : Stage → Head
-headed st = ending (λ r. record { verdict = Accepted; found = r }) (λ x. record { verdict = Refused x; found = noRecord }) st

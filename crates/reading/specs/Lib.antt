@@ -4,7 +4,6 @@ pub mod Reader
 pub mod Bits
 pub mod Huffman
 pub mod Block
-pub mod Answers
 pub mod Transform
 pub mod Layout
 pub mod Colour
@@ -20,3 +19,5 @@ pub mod Files
 pub mod Words
 pub mod Comments
 pub mod Bench
+-- no rule: what contracts of inner functions cite
+pub mod Code

@@ -1,9 +1,9 @@
 -- The reading of a file, limits set aside, and its picture.
-use Prim.Native.Nat.{ℕ, suc, _*_, _/_, _%_}
+use Prim.Native.Nat.{ℕ, suc, _/_, _%_}
 use mathlib.Core.Bool.{Bool, cond}
 use mathlib.Core.List.{List, [], _∷_, _++_}
-use lib.Dec.{ltb, eqb}
-use lib.ListN.{getD, length}
+use lib.Dec.{eqb}
+use lib.ListN.{getD}
 use lib.IntN.{ℤ}
 use Rattle.reading.specs.declared.Refusal.{Refusal}
 use Rattle.reading.specs.declared.Refusal.the-variants.{Scan}
@@ -11,7 +11,7 @@ use Rattle.reading.specs.declared.Record.{Record}
 use Rattle.reading.specs.declared.Bits.{Bits}
 use Rattle.reading.specs.Reader.{Read, got, fault}
 use Rattle.whole.specs.Lists.{listOf}
-use Rattle.reading.specs.Tests.{_and_, over}
+use Rattle.reading.specs.Tests.{_and_}
 use Rattle.reading.specs.Header.{Stage, ending, header}
 use Rattle.reading.specs.Layout.{channelOf, sampleAt}
 use Rattle.reading.specs.Transform.{coefficients, samples}
@@ -48,13 +48,6 @@ blockSamples (c ∷ cs) = samples c ++ blockSamples cs
 
 abbrev pub allSamples : List ℕ → Record → List (List ℤ) → List ℕ
 allSamples s r ls = blockSamples (dequantized (planOf s r) 0 ls)
-
--- what a scan leaves in the scratch: the samples of its blocks, then the old tail; the scratch as it was on a fault, or where
--- it has no room for all blocks
-unfoldable pub drawn : List ℕ → Record → Read Bits (List (List ℤ)) → List ℕ → List ℕ
-unfolding channelOf coefficients samples
-drawn s r (got ls b) old = cond (ltb (length old) (64 * r .blocks)) old (over (allSamples s r ls) old)
-drawn s r (fault f) old = old
 
 -- channel c of pixel (x, y)
 abbrev pub pixel : Record → List ℕ → ℕ → ℕ → ℕ → ℕ

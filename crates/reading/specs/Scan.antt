@@ -1,20 +1,16 @@
 -- The scan: blocks, restarts, the end.
 use Prim.Native.Nat.{ℕ, zero, suc}
-use mathlib.Core.Bool.{Bool, cond}
+use mathlib.Core.Bool.{cond}
 use mathlib.Core.List.{List, [], _∷_}
-use lib.Dec.{leb}
-use lib.ListN.{getD, take, drop, set, length}
+use lib.ListN.{getD, take, drop, set}
 use lib.IntN.{ℤ, pos}
 use Rattle.reading.specs.declared.Bits.{Bits}
-use Rattle.reading.specs.declared.Fault.the-variants.{Broken}
 use Rattle.reading.specs.declared.Record.{Record}
-use Rattle.reading.specs.declared.ScanCursor.{ScanCursor}
-use Rattle.reading.specs.Reader.{Read, fault, Reader, _>>=_, _>>_, give, rule}
+use Rattle.reading.specs.Reader.{Read, Reader, _>>=_, _>>_, give, rule}
 use Rattle.reading.specs.Bits.{Source, file}
 use Rattle.reading.specs.Huffman.{Table, tableAt}
 use Rattle.reading.specs.Block.{block, zeros}
 use Rattle.reading.specs.Layout.{Shape, channelOf, restartDue, restartCode}
-use Rattle.reading.specs.Tests.{_and_, within}
 use Rattle.reading.specs.Tables.{shapeIn, quantAt, dcAt, acAt}
 
 -- a channel's tables
@@ -72,20 +68,7 @@ scan src p n = blocks src p n 0 noPredictors >>= λ ls. closed src >> give ls
 abbrev pub firstBit : ℕ → Bits
 firstBit at = record { at = at; byte = 0; left = 0 }
 
--- a scan before its first block: the bit place, three predictors and the count of blocks done
-abbrev pub opened : ℕ → ScanCursor
-opened at = record { bits = firstBit at; predictors = noPredictors; done = 0 }
-
 -- the levels of a file's scan
 unfoldable pub levels : List ℕ → Record → Read Bits (List (List ℤ))
 unfolding block file channelOf restartDue
 levels s r = scan (file s) (planOf s r) (r .blocks) (firstBit (r .start))
-
--- a record's numbers by which a scan can be read: the first coded byte lies within the file, factors 1 to 4, 1 to 3 channels
-unfoldable pub readable : List ℕ → Record → Bool
-readable s r = leb (r .start) (length s) and within 1 4 (r .hs) and within 1 4 (r .vs) and within 1 3 (r .channels)
-
--- the scan as the code reads it: a record with other numbers, which no header gives, is Broken
-unfoldable pub scanOf : List ℕ → Record → Read Bits (List (List ℤ))
-unfolding readable levels
-scanOf s r = cond (readable s r) (levels s r) (fault Broken)

@@ -4,18 +4,13 @@ use mathlib.Core.Bool.{Bool, true, false, cond}
 use mathlib.Core.List.{List, [], _∷_, _++_}
 use mathlib.Core.Option.{Option, none, some}
 use lib.Dec.{ltb, eqb}
-use lib.ListN.{getD, length, take, set}
+use lib.ListN.{getD, take, set}
 use lib.IntN.{ℤ, pos, negsuc, natAbs, _-ℤ_}
-use Rattle.reading.specs.declared.Bits.{Bits}
-use Rattle.reading.specs.declared.Fault.the-variants.{Broken}
 use Rattle.reading.specs.declared.Record.{Record}
-use Rattle.reading.specs.declared.ScanSettled.{ScanSettled}
-use Rattle.reading.specs.declared.ScanSettled.the-variants as answer
-use Rattle.reading.specs.Reader.{Read, got, fault}
 use Rattle.reading.specs.Huffman.{bitsOf, codeOf}
 use Rattle.reading.specs.Layout.{channelOf, restartDue, restartCode}
-use Rattle.reading.specs.Scan.{Plan, Channel, planOf, noPredictors, scanOf}
-use Rattle.reading.specs.Tests.{_and_, _or_, isNone, over}
+use Rattle.reading.specs.Scan.{Plan, Channel, planOf, noPredictors}
+use Rattle.reading.specs.Tests.{_and_, _or_, isNone}
 
 -- bits that are written, or none for want of a code
 abbrev pub Written : Type 0
@@ -157,25 +152,3 @@ lacksEnd ch l = eqb (natAbs (getD l 63 (pos 0))) 0 and isNone (codeOf (ch .ac) 0
 abbrev pub someLacksEnd : Plan → ℕ → List (List ℤ) → Bool
 someLacksEnd p k [] = false
 someLacksEnd p k (l ∷ ls) = lacksEnd (p .channels (channelOf (p .shape) k)) l or someLacksEnd p (suc k) ls
-
--- a scan that was read, settled; none for want of a code
-abbrev pub settledRead : Plan → Read Bits (List (List ℤ)) → Read Bits (Option (List ℕ))
-settledRead p (got ls b) = got (settledScan p ls) b
-settledRead p (fault f) = fault f
-
--- a record's scan, read and settled as the code does it: a record with 2^32 blocks or more, which no header gives, is Broken
-unfoldable pub settledOf : List ℕ → Record → Read Bits (Option (List ℕ))
-unfolding scanOf settledScan
-settledOf s r = cond (ltb (r .blocks) (2 ^ 32)) (settledRead (planOf s r) (scanOf s r)) (fault Broken)
-
--- what is answered of it
-unfoldable pub scanSettled : Read Bits (Option (List ℕ)) → ScanSettled
-scanSettled (got none b) = answer.NoCode
-scanSettled (got (some t) b) = answer.Done (length t)
-scanSettled (fault f) = answer.Stop f
-
--- what lies in the buffer then: the settled scan over the old bytes where there is room for it, else the old bytes
-unfoldable pub laidOver : Read Bits (Option (List ℕ)) → List ℕ → List ℕ
-laidOver (got none b) old = old
-laidOver (got (some t) b) old = cond (ltb (length old) (length t)) old (over t old)
-laidOver (fault f) old = old

@@ -1,16 +1,16 @@
 -- Tests on numbers as Booleans, and small functions on lists.
 use Prim.Native.Nat.{ℕ, suc}
-use mathlib.Core.Bool.{Bool, true, false, cond}
+use mathlib.Core.Bool.{Bool, true, false, cond, _||_}
 use mathlib.Core.List.{List, [], _∷_, _++_}
 use mathlib.Core.Option.{Option, none, some}
 use lib.Dec.{leb, eqb}
 use lib.ListN.{getElem?, length, drop}
 pub use Rattle.whole.specs.Tests.{_and_, allFrom}
 
+-- one of two tests. The same as the library's `||`, but grouping to the right, as `and` does
 infixr 35 _or_
 abbrev pub _or_ : Bool → Bool → Bool
-true or b = true
-false or b = b
+a or b = a || b
 
 -- lo ≤ n ≤ hi
 abbrev pub within : ℕ → ℕ → ℕ → Bool
@@ -24,13 +24,14 @@ placeFrom (y ∷ ys) x i = cond (eqb x y) (some i) (placeFrom ys x (suc i))
 abbrev pub placeOf : List ℕ → ℕ → Option ℕ
 placeOf ys x = placeFrom ys x 0
 
-abbrev pub isSome : Option ℕ → ℕ → Bool
-isSome none x = false
-isSome (some y) x = eqb y x
+-- the option holds the number given
+abbrev pub holds : Option ℕ → ℕ → Bool
+holds none x = false
+holds (some y) x = eqb y x
 
 -- the byte at a place is the number given
 abbrev pub isAt : List ℕ → ℕ → ℕ → Bool
-isAt s i x = isSome (getElem? s i) x
+isAt s i x = holds (getElem? s i) x
 
 -- every element passes
 abbrev pub all : {A : Type 0} → (A → Bool) → List A → Bool

@@ -2,13 +2,12 @@
 use Prim.Native.Nat.{ℕ, _+_, _*_, _/_, _%_}
 use mathlib.Core.Bool.{cond}
 use mathlib.Core.List.{List, [], _∷_}
-use lib.Dec.{ltb}
-use lib.ListN.{getD, take, length}
+use lib.ListN.{getD}
 use lib.IntN.{ℤ, pos, natAbs, _+ℤ_, _*ℤ_}
 use lib.Signed.{leZ}
 use Rattle.whole.specs.Lists.{from, listOf}
 use Rattle.whole.specs.Expressions.{dot, at}
-use Rattle.reading.specs.Tests.{placeOf, orZero, over}
+use Rattle.reading.specs.Tests.{placeOf, orZero}
 unfoldable pub use Rattle.basis.specs.Basis.{basis}
 pub use Rattle.basis.specs.Basis.{weights}
 
@@ -59,13 +58,3 @@ sampleOf v = clamped (v +ℤ pos 137975824384)
 unfoldable pub samples : List ℤ → List ℕ
 unfolding basis row plane clamped from
 samples c = listOf 64 (λ k. sampleOf (plane c (k / 8) (k % 8)))
-
--- the samples that a block's first n levels make, the others taken as 0, by a quantizer
-unfoldable pub samplesTo : List ℕ → List ℤ → ℕ → List ℕ
-unfolding coefficients samples
-samplesTo q l n = samples (coefficients q (take n l))
-
--- what is left in a part that is lent for a block: the 64 samples, then what stood behind them; fewer than 64 bytes stay as they were
-unfoldable pub painted : List ℕ → List ℤ → ℕ → List ℕ → List ℕ
-unfolding samplesTo
-painted q l n out = cond (ltb (length out) 64) out (over (samplesTo q l n) out)

@@ -3,8 +3,10 @@
 ghost use mathlib.Core.Path.{_≡_};
 ghost use Prim.Native.Nat.{_-_};
 ghost use lib.Dec.{leb};
-ghost use Rattle.reading.specs.Header.{noFrame, opening, moved, withFrame, withInterval, noRecord, headed, stop};
-ghost use Rattle.reading.specs.Scan.{firstBit, opened};
+ghost use Rattle.reading.specs.Header.{noFrame, opening, moved, withFrame, withInterval, noRecord, stop};
+ghost use Rattle.reading.specs.Code.Heads.{headed};
+ghost use Rattle.reading.specs.Scan.{firstBit};
+ghost use Rattle.reading.specs.Code.Scans.{atStart};
 ghost use Rattle.reading.specs.Calls.{numberOf, number};
 
 // The bit place of a scan: the next byte of the file, the current byte, and how many of its low bits are unread.
@@ -37,7 +39,7 @@ pub struct ScanCursor {
 impl ScanCursor {
     // before the first block of a scan whose first coded byte is at `at`
     pub fn fresh(at: usize) -> Self
-        ensures { λ r. ⌜ r ≡ opened at ⌝ }
+        ensures { λ r. ⌜ r ≡ atStart at ⌝ }
     {
         let bits = Bits::first(at);
         Self {

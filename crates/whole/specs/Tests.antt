@@ -1,15 +1,15 @@
 -- Tests as Booleans: two at once, and one of many numbers; what a test that is passed says of its parts. Assumes nothing.
 use Prim.Native.Nat.{ℕ, zero, suc, _+_, _<_, _≤_}
 use mathlib.Core.Path.{_≡_, refl, sym, _∙_, subst, subst⁻¹}
-use mathlib.Core.Bool.{Bool, true, false}
+use mathlib.Core.Bool.{Bool, true, false, _&&_}
 use lib.Dec.{T, eqb, eqb→eq}
 use native.Mathlib.Omega.{arith}
 use borrow.Author.Tests.{eq-eqb}
 
+-- both tests. The same as the library's `&&`, but grouping to the right: so the first test of a chain is the outermost one
 infixr 40 _and_
 abbrev pub _and_ : Bool → Bool → Bool
-true and b = b
-false and b = false
+a and b = a && b
 
 pub and-left : (a b : Bool) → T (a and b) → T a
 and-left true b t = tt

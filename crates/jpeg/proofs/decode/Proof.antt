@@ -9,7 +9,7 @@ use Rattle.reading.specs.Header.{header}
 use Rattle.reading.specs.Judging.{remaining}
 use Rattle.reading.specs.Calls.{headerPrice}
 use Rattle.reading.proofs.Judgement.{paid-twice}
-use Rattle.jpeg.specs.Steps.{left, drawnAs}
+use Rattle.jpeg.specs.Steps.{leaving, drawnAs}
 use Rattle.jpeg_admission.proofs.Admitted.{price-fits, poor, rich, done-found, stop-verdict}
 use Rattle.jpeg.proofs.Decodes.{roomy-out, roomy-scratch, decode-room, decode-poor, decode-head, decode-drawn}
 use borrow.Author.Needs.{needs}
@@ -37,7 +37,7 @@ undecoded-requires : tie.Need-undecoded-requires
 undecoded-requires c κs = search needs
 
 returns : tie.Need-returns
-returns c = ap (λ a. left a (c .before .before .before .before .before .before .args .out .now) (c .before .before .before .before .before .before .args .scratch .now)) (c .undecoded .ensures) ∙ decode-room (c .before .before .before .before .before .before .args .s .now) (c .before .before .before .before .before .before .args .found) (c .before .before .before .before .before .before .args .out .now) (c .before .before .before .before .before .before .args .scratch .now) (c .before .before .before .before .before .before .args .budget) (sym (c .before .before .short-room .ensures) ∙ c .before .if1 .taken)
+returns c = ap (λ a. leaving a (c .before .before .before .before .before .before .args .out .now) (c .before .before .before .before .before .before .args .scratch .now)) (c .undecoded .ensures) ∙ decode-room (c .before .before .before .before .before .before .args .s .now) (c .before .before .before .before .before .before .args .found) (c .before .before .before .before .before .before .args .out .now) (c .before .before .before .before .before .before .args .scratch .now) (c .before .before .before .before .before .before .args .budget) (sym (c .before .before .short-room .ensures) ∙ c .before .if1 .taken)
 
 past-counting-requires : tie.Need-past-counting-requires
 past-counting-requires c κs = search needs
@@ -46,7 +46,7 @@ undecoded-requires-2 : tie.Need-undecoded-requires-2
 undecoded-requires-2 c κs = search needs
 
 returns-2 : tie.Need-returns-2
-returns-2 c = ap (λ a. left a (c .before .before .before .before .before .before .before .before .args .out .now) (c .before .before .before .before .before .before .before .before .args .scratch .now)) (c .undecoded2 .ensures) ∙ decode-poor (c .before .before .before .before .before .before .before .before .args .s .now) (c .before .before .before .before .before .before .before .before .args .found) (c .before .before .before .before .before .before .before .before .args .out .now) (c .before .before .before .before .before .before .before .before .args .scratch .now) (c .before .before .before .before .before .before .before .before .args .budget) (sym (c .before .before .before .before .short-room .ensures) ∙ c .before .before .before .if1 .left) (beyond _ _ _ _ (omega arith) (c .before .before .past-counting .ensures) (c .before .if2 .taken))
+returns-2 c = ap (λ a. leaving a (c .before .before .before .before .before .before .before .before .args .out .now) (c .before .before .before .before .before .before .before .before .args .scratch .now)) (c .undecoded2 .ensures) ∙ decode-poor (c .before .before .before .before .before .before .before .before .args .s .now) (c .before .before .before .before .before .before .before .before .args .found) (c .before .before .before .before .before .before .before .before .args .out .now) (c .before .before .before .before .before .before .before .before .args .scratch .now) (c .before .before .before .before .before .before .before .before .args .budget) (sym (c .before .before .before .before .short-room .ensures) ∙ c .before .before .before .if1 .left) (beyond _ _ _ _ (omega arith) (c .before .before .past-counting .ensures) (c .before .if2 .taken))
 
 header-price-requires : tie.Need-header-price-requires
 header-price-requires c κs = search needs
@@ -62,7 +62,7 @@ undecoded-requires-3 : tie.Need-undecoded-requires-3
 undecoded-requires-3 c κs = search needs
 
 returns-3 : tie.Need-returns-3
-returns-3 c = ap (λ a. left a (c .before .before .before .before .before .before .before .before .before .before .before .args .out .now) (c .before .before .before .before .before .before .before .before .before .before .before .args .scratch .now)) (c .undecoded3 .ensures) ∙ decode-poor (c .before .before .before .before .before .before .before .before .before .before .before .args .s .now) (c .before .before .before .before .before .before .before .before .before .before .before .args .found) (c .before .before .before .before .before .before .before .before .before .before .before .args .out .now) (c .before .before .before .before .before .before .before .before .before .before .before .args .scratch .now) (c .before .before .before .before .before .before .before .before .before .before .before .args .budget) (sym (c .before .before .before .before .before .before .before .short-room .ensures) ∙ c .before .before .before .before .before .before .if1 .left) (more _ _ _ (poor _ _ _ _ (price (c .before .before .before)) (c .before .before .covers .ensures) (c .before .if3 .taken)))
+returns-3 c = ap (λ a. leaving a (c .before .before .before .before .before .before .before .before .before .before .before .args .out .now) (c .before .before .before .before .before .before .before .before .before .before .before .args .scratch .now)) (c .undecoded3 .ensures) ∙ decode-poor (c .before .before .before .before .before .before .before .before .before .before .before .args .s .now) (c .before .before .before .before .before .before .before .before .before .before .before .args .found) (c .before .before .before .before .before .before .before .before .before .before .before .args .out .now) (c .before .before .before .before .before .before .before .before .before .before .before .args .scratch .now) (c .before .before .before .before .before .before .before .before .before .before .before .args .budget) (sym (c .before .before .before .before .before .before .before .short-room .ensures) ∙ c .before .before .before .before .before .before .if1 .left) (more _ _ _ (poor _ _ _ _ (price (c .before .before .before)) (c .before .before .covers .ensures) (c .before .if3 .taken)))
 
 less-requires : tie.Need-less-requires
 less-requires c κs = search needs
@@ -74,7 +74,7 @@ undecoded-requires-4 : tie.Need-undecoded-requires-4
 undecoded-requires-4 c κs = search needs
 
 returns-4 : tie.Need-returns-4
-returns-4 c = ap (λ a. left a (c .before .before .before .before .before .before .before .before .before .before .before .before .before .before .args .out .now) (c .before .before .before .before .before .before .before .before .before .before .before .before .before .before .args .scratch .now)) (c .undecoded4 .ensures) ∙ decode-poor (c .before .before .before .before .before .before .before .before .before .before .before .before .before .before .args .s .now) (c .before .before .before .before .before .before .before .before .before .before .before .before .before .before .args .found) (c .before .before .before .before .before .before .before .before .before .before .before .before .before .before .args .out .now) (c .before .before .before .before .before .before .before .before .before .before .before .before .before .before .args .scratch .now) (c .before .before .before .before .before .before .before .before .before .before .before .before .before .before .args .budget) (sym (c .before .before .before .before .before .before .before .before .before .before .short-room .ensures) ∙ c .before .before .before .before .before .before .before .before .before .if1 .left) (short _ _ _ (c .before .before .before .less .ensures) (price (c .before .before .before .before .before .before)) (poor _ _ _ _ refl (c .before .before .covers2 .ensures) (c .before .if4 .taken)))
+returns-4 c = ap (λ a. leaving a (c .before .before .before .before .before .before .before .before .before .before .before .before .before .before .args .out .now) (c .before .before .before .before .before .before .before .before .before .before .before .before .before .before .args .scratch .now)) (c .undecoded4 .ensures) ∙ decode-poor (c .before .before .before .before .before .before .before .before .before .before .before .before .before .before .args .s .now) (c .before .before .before .before .before .before .before .before .before .before .before .before .before .before .args .found) (c .before .before .before .before .before .before .before .before .before .before .before .before .before .before .args .out .now) (c .before .before .before .before .before .before .before .before .before .before .before .before .before .before .args .scratch .now) (c .before .before .before .before .before .before .before .before .before .before .before .before .before .before .args .budget) (sym (c .before .before .before .before .before .before .before .before .before .before .short-room .ensures) ∙ c .before .before .before .before .before .before .before .before .before .if1 .left) (short _ _ _ (c .before .before .before .less .ensures) (price (c .before .before .before .before .before .before)) (poor _ _ _ _ refl (c .before .before .covers2 .ensures) (c .before .if4 .taken)))
 
 less-requires-2 : tie.Need-less-requires-2
 less-requires-2 c κs = search needs
@@ -101,7 +101,7 @@ draw-requires c κs =
 
 returns-5 : tie.Need-returns-5
 returns-5 c =
-    ap (λ a. left a (c .before .before .before .before .before .before .before .before .before .before .before .before .before .before .before .before .before .before .before .args .out .now) (c .before .before .before .before .before .before .before .before .before .before .before .before .before .before .before .before .before .before .before .args .scratch .now)) (c .undecoded5 .ensures) ∙ ap (λ b. left (record { verdict = _; budget = b }) (c .before .before .before .before .before .before .before .before .before .before .before .before .before .before .before .before .before .before .before .args .out .now) (c .before .before .before .before .before .before .before .before .before .before .before .before .before .before .before .before .before .before .before .args .scratch .now)) (c .before .before .before .before .before .less2 .ensures ∙ ap (λ b. remaining b (c .before .before .before .before .before .before .before .before .before .before .before .before .before .before .before .before .before .before .before .args .found .work)) (c .before .before .before .before .before .before .before .before .less .ensures ∙ ap (remaining (c .before .before .before .before .before .before .before .before .before .before .before .before .before .before .before .before .before .before .before .args .budget)) (price (c .before .before .before .before .before .before .before .before .before .before .before))) ∙ paid-twice (c .before .before .before .before .before .before .before .before .before .before .before .before .before .before .before .before .before .before .before .args .budget) _ _)
+    ap (λ a. leaving a (c .before .before .before .before .before .before .before .before .before .before .before .before .before .before .before .before .before .before .before .args .out .now) (c .before .before .before .before .before .before .before .before .before .before .before .before .before .before .before .before .before .before .before .args .scratch .now)) (c .undecoded5 .ensures) ∙ ap (λ b. leaving (record { verdict = _; budget = b }) (c .before .before .before .before .before .before .before .before .before .before .before .before .before .before .before .before .before .before .before .args .out .now) (c .before .before .before .before .before .before .before .before .before .before .before .before .before .before .before .before .before .before .before .args .scratch .now)) (c .before .before .before .before .before .less2 .ensures ∙ ap (λ b. remaining b (c .before .before .before .before .before .before .before .before .before .before .before .before .before .before .before .before .before .before .before .args .found .work)) (c .before .before .before .before .before .before .before .before .less .ensures ∙ ap (remaining (c .before .before .before .before .before .before .before .before .before .before .before .before .before .before .before .before .before .before .before .args .budget)) (price (c .before .before .before .before .before .before .before .before .before .before .before))) ∙ paid-twice (c .before .before .before .before .before .before .before .before .before .before .before .before .before .before .before .before .before .before .before .args .budget) _ _)
     ∙ decode-head (c .before .before .before .before .before .before .before .before .before .before .before .before .before .before .before .before .before .before .before .args .s .now) (c .before .before .before .before .before .before .before .before .before .before .before .before .before .before .before .before .before .before .before .args .found) (c .before .before .before .before .before .before .before .before .before .before .before .before .before .before .before .before .before .before .before .args .out .now) (c .before .before .before .before .before .before .before .before .before .before .before .before .before .before .before .before .before .before .before .args .scratch .now) (c .before .before .before .before .before .before .before .before .before .before .before .before .before .before .before .before .before .before .before .args .budget) (sym (c .before .before .before .before .before .before .before .before .before .before .before .before .before .before .before .short-room .ensures) ∙ c .before .before .before .before .before .before .before .before .before .before .before .before .before .before .if1 .left) (enough _ _ _ (rich _ _ _ _ (price (c .before .before .before .before .before .before .before .before .before .before .before)) (c .before .before .before .before .before .before .before .before .before .before .covers .ensures) (c .before .before .before .before .before .before .before .before .before .if3 .left)) (c .before .before .before .before .before .before .before .before .less .ensures) (price (c .before .before .before .before .before .before .before .before .before .before .before)) (rich _ _ _ _ refl (c .before .before .before .before .before .before .before .covers2 .ensures) (c .before .before .before .before .before .before .if4 .left))) _ (stop-verdict (header (c .before .before .before .before .before .before .before .before .before .before .before .before .before .before .before .before .before .before .before .args .s .now) (c .before .before .before .before .before .before .before .before .before .before .before .before .before .before .before .before .before .before .before .args .found .colour)) _ _ (c .before .before .before .before .header .ensures) (c .before .enum-told .given .1))
 
 same-length : tie.Need-same-length

@@ -8,7 +8,7 @@ use borrow.Author.Needs.{needs}
 use Rattle.whole.specs.Powers.{grown, grown-by, small}
 use Rattle.reading.specs.declared.Bits.{Bits}
 use Rattle.reading.specs.Bits.{one}
-use Rattle.reading.specs.Answers.{bitRead}
+use Rattle.reading.specs.Code.Answers.{bitRead}
 use Rattle.reading.proofs.BitAnswers.{bit-below}
 use Rattle.jpeg_bits.proofs.Next.{one-fresh}
 use Rattle.jpeg_bits.proofs.Field.{further, field-wide, field-is, field-done, field-more, field-cut, field-part}

@@ -12,7 +12,7 @@ use Rattle.reading.specs.Bits.{one}
 use Rattle.reading.specs.Huffman.{tableAt}
 use Rattle.reading.specs.Block.{block}
 use Rattle.reading.specs.Reader.{Read}
-use Rattle.reading.specs.Answers.{said}
+use Rattle.reading.specs.Code.Answers.{said}
 use Rattle.reading.proofs.BlockAnswers.{levels-got, Taken, Refused, told}
 use Rattle.jpeg_block.proofs.block.Statement.{statement}
 use Rattle.jpeg_block.proofs.block.Tie as tie

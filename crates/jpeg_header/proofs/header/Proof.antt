@@ -2,7 +2,8 @@ use mathlib.Core.Path.{_≡_, sym, ap, _∙_, subst⁻¹}
 use mathlib.Core.Bool.{true, not}
 use native.Mathlib.Omega.{arith}
 use lib.ListN.{length}
-use Rattle.reading.specs.Header.{opens, headed}
+use Rattle.reading.specs.Header.{opens}
+use Rattle.reading.specs.Code.Heads.{headed}
 use Rattle.reading.proofs.HeaderEnds.{left}
 use Rattle.reading.proofs.FileBytes.{AllBytes, all-bytes}
 use borrow.Author.Tests.{not-true, not-false}

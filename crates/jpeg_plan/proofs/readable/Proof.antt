@@ -1,7 +1,7 @@
 -- `readable`: four comparisons, one after the other.
 use mathlib.Core.Path.{sym, _∙_}
 use borrow.Author.Tests.{le-leb, lt-leb, not-true, not-false}
-use Rattle.reading.specs.Scan.{readable}
+use Rattle.reading.specs.Code.Scans.{readable}
 use borrow.Author.Needs.{needs}
 use Rattle.jpeg_plan.proofs.readable.Statement.{statement}
 use Rattle.jpeg_plan.proofs.readable.Tie as tie

@@ -1,4 +1,4 @@
-use Rattle.reading.specs.Settled.{settledOf}
+use Rattle.reading.specs.Code.Scans.{settledOf}
 use Rattle.jpeg_rewrite.proofs.Refiling.{laid-short, laid-long}
 use borrow.Author.Needs.{needs}
 use Rattle.jpeg_rewrite.proofs.scan.Statement.{statement}

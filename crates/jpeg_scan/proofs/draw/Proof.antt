@@ -3,7 +3,7 @@ use mathlib.Core.Bool.{true≢false}
 use mathlib.Core.Path.{sym, _∙_, ap}
 use native.Mathlib.Omega.{arith}
 use lib.ListN.{length}
-use Rattle.reading.specs.Scan.{scanOf}
+use Rattle.reading.specs.Code.Scans.{scanOf}
 use Rattle.reading.specs.Tests.{over}
 use Rattle.reading.specs.Reading.{allSamples}
 use Rattle.reading.proofs.ScanAnswers.{Accepted, accepted, refused, drawn-stop, drawn-short, drawn-all}

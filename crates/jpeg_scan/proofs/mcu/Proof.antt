@@ -12,7 +12,7 @@ use mir.Val.{SFits, toZ, ofZ}
 use mir.Facts.{toZ-ofZ}
 use Rattle.reading.specs.declared.Bits.{Bits}
 use Rattle.reading.specs.Reader.{Read}
-use Rattle.reading.specs.Answers.{said, levelsOf}
+use Rattle.reading.specs.Code.Answers.{said, levelsOf}
 use Rattle.jpeg_scan.proofs.Onward.{blockBy}
 use Rattle.jpeg_scan.proofs.OneMcu.{head, Walk, begin, below, whole, out, broken, further}
 use Rattle.jpeg_scan.proofs.mcu.Statement.{statement}

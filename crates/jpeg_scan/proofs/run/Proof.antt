@@ -11,7 +11,8 @@ use lib.IntN.{ℤ}
 use Rattle.reading.specs.declared.Bits.{Bits}
 use Rattle.reading.specs.declared.ScanCursor.{ScanCursor}
 use Rattle.reading.specs.Reader.{Read}
-use Rattle.reading.specs.Scan.{planOf, opened}
+use Rattle.reading.specs.Scan.{planOf}
+use Rattle.reading.specs.Code.Scans.{atStart}
 use Rattle.jpeg_plan.specs.declared.Plan.{Plan}
 use Rattle.jpeg_scan.specs.Steps.{ahead}
 use Rattle.jpeg_plan.proofs.Standing.{Ready, ready, unready}
@@ -97,10 +98,10 @@ same-length c = c .before .before .before .before .mcus .inv .size
 -- the blocks of the scan, from the cursor that the code starts with
 from-start : (c : tie.After-fresh Inv-mcus μ-mcus) {o : Read Bits (List (List ℤ))}
     → ahead (c .before .before .before .before .before .before .args .s .now) (planOf (c .before .before .before .before .before .before .args .s .now) (c .before .before .before .before .before .before .args .found)) (c .before .before .before .of .result .blocks) (c .fresh .result) ≡ o
-    → ahead (c .before .before .before .before .before .before .args .s .now) (planOf (c .before .before .before .before .before .before .args .s .now) (c .before .before .before .before .before .before .args .found)) (c .before .before .before .before .before .before .args .found .blocks) (opened (c .before .before .before .before .before .before .args .found .start)) ≡ o
+    → ahead (c .before .before .before .before .before .before .args .s .now) (planOf (c .before .before .before .before .before .before .args .s .now) (c .before .before .before .before .before .before .args .found)) (c .before .before .before .before .before .before .args .found .blocks) (atStart (c .before .before .before .before .before .before .args .found .start)) ≡ o
 from-start c e =
     let a = (c .before .before .before .before .before .before) .args in
-    ap (λ (n : Plan). ahead (a .s .now) (planOf (a .s .now) (a .found)) (n .blocks) (opened (n .start))) (sym (set-up (c .before) .plan-is))
+    ap (λ (n : Plan). ahead (a .s .now) (planOf (a .s .now) (a .found)) (n .blocks) (atStart (n .start))) (sym (set-up (c .before) .plan-is))
     ∙ ap (ahead (a .s .now) (planOf (a .s .now) (a .found)) (c .before .before .before .of .result .blocks)) (sym (c .fresh .ensures)) ∙ e
 
 returns-2 : tie.Need-returns-2 Inv-mcus μ-mcus

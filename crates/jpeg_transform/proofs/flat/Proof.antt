@@ -9,7 +9,7 @@ use lib.IntN.{pos, natAbs, _*ℤ_}
 use mir.Syntax.{w64}
 use mir.Val.{toZ}
 use mir.Facts.{toZ-ofZ}
-use Rattle.whole.specs.Expressions.{Exp, var, Fine, fine, bitsOf, exact, bounded}
+use Rattle.whole.specs.Expressions.{Exp, var, Fine, fine, machineBits, exact, bounded}
 use Rattle.whole.specs.Lists.{listOf}
 use Rattle.reading.specs.Tests.{over}
 use Rattle.reading.specs.Colour.{toByte}
@@ -37,10 +37,10 @@ module _ (s : tie.Start Inv-loop μ-loop) where
   fits : Fine w64 (λ i. s .args .first) P
   fits = fine w64 (λ i. s .args .first) L (λ i. s .pre .0) P tt
 
-  read : toZ w64 (bitsOf w64 (λ i. s .args .first) P) ≡ s .args .first *ℤ pos 134212225
+  read : toZ w64 (machineBits w64 (λ i. s .args .first) P) ≡ s .args .first *ℤ pos 134212225
   read = exact w64 (λ i. s .args .first) L (λ i. s .pre .0) P tt
 
-  low : natAbs (toZ w64 (bitsOf w64 (λ i. s .args .first) P)) ≤ 2 ^ 57
+  low : natAbs (toZ w64 (machineBits w64 (λ i. s .args .first) P)) ≤ 2 ^ 57
   low = rw read (le-trans (bounded w64 (λ i. s .args .first) L (λ i. s .pre .0) P) (lit≤ tt))
 
 loop-holds : tie.Need-loop-holds Inv-loop μ-loop

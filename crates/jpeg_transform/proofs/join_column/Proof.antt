@@ -10,7 +10,7 @@ use lib.IntN.{ℤ, natAbs}
 use mir.Syntax.{w64}
 use mir.Val.{toZ}
 use mir.Facts.{toZ-ofZ}
-use Rattle.whole.specs.Expressions.{Exp, var, add, sub, at, safe, size, Fine, bitsOf}
+use Rattle.whole.specs.Expressions.{Exp, var, add, sub, at, safe, size, Fine, machineBits}
 use Rattle.jpeg_transform.specs.Halves.{halves, joined}
 use Rattle.jpeg_transform.specs.Passes.{place, puts, inSteps}
 use Rattle.jpeg_transform.proofs.Lines.{H, join-fits, join-small, joins}
@@ -28,7 +28,7 @@ module _ (s : Exp) (t : T (safe w64 H s)) where
   fits : (c : Told) → Fine w64 (at (halves (start c .args .e) (start c .args .o))) s
   fits c = join-fits (start c .args .e) (start c .args .o) (start c .pre .1) s t
 
-  low : T (leb (size H s) (2 ^ 57)) → (c : Told) → natAbs (toZ w64 (bitsOf w64 (at (halves (start c .args .e) (start c .args .o))) s)) ≤ 2 ^ 57
+  low : T (leb (size H s) (2 ^ 57)) → (c : Told) → natAbs (toZ w64 (machineBits w64 (at (halves (start c .args .e) (start c .args .o))) s)) ≤ 2 ^ 57
   low b c = join-small (start c .args .e) (start c .args .o) (start c .pre .1) s t b
 
 inside : (c : Told) → start c .args .x < 8

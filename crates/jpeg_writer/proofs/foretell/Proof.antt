@@ -6,7 +6,7 @@ use native.Mathlib.Omega.{arith}
 use lib.ListN.{length}
 use borrow.Author.Needs.{needs}
 use borrow.Author.Tests.{not-true, not-false}
-use Rattle.reading.specs.Settled.{settledOf}
+use Rattle.reading.specs.Code.Scans.{settledOf}
 use Rattle.jpeg_plan.specs.declared.Plan.{Plan}
 use Rattle.jpeg_plan.proofs.Standing.{Ready, ready}
 use Rattle.jpeg_codes.specs.Sheets.{sure}

@@ -12,7 +12,7 @@ use mir.Facts.{toZ-ofZ}
 use borrow.Author.Needs.{needs}
 use Rattle.reading.specs.declared.Bits.{Bits}
 use Rattle.reading.specs.Reader.{Read}
-use Rattle.reading.specs.Answers.{said, levelsOf}
+use Rattle.reading.specs.Code.Answers.{said, levelsOf}
 use Rattle.reading.specs.Settled.{onto}
 use Rattle.jpeg_scan.proofs.Onward.{blockBy}
 use Rattle.jpeg_scan.proofs.OneMcu.{head, below}

@@ -1,5 +1,7 @@
 -- What the code's answers say, as readings. Each map is by cases and loses nothing, so that a contract through it still fixes
 -- the answer.
+-- It is here for the code: a contract of an inner function cites it, and nothing in it needs to be believed by someone who reads
+-- the theorems of the calls.
 use Prim.Native.Nat.{ℕ}
 use mathlib.Core.List.{List}
 use lib.IntN.{ℤ, pos}
@@ -16,7 +18,8 @@ use Rattle.reading.specs.declared.BlockRead.the-variants as block
 use Rattle.reading.specs.declared.ScanRead.{ScanRead}
 use Rattle.reading.specs.declared.ScanRead.the-variants as scan
 use Rattle.reading.specs.Reader.{Read, got, fault}
-use Rattle.reading.specs.Block.{zeros, places}
+use Rattle.reading.specs.Block.{zeros}
+use Rattle.reading.specs.Code.Places.{places}
 
 abbrev pub bitRead : BitRead → Read Bits ℕ
 bitRead (bit.Got x b) = got x b

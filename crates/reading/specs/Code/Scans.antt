@@ -1,0 +1,56 @@
+-- A scan as the code reads and settles it: the cursor before its first block, and what is answered for a record that no header
+-- gives.
+-- It is here for the code: a contract of an inner function cites it, and nothing in it needs to be believed by someone who reads
+-- the theorems of the calls.
+use Prim.Native.Nat.{ℕ, _^_}
+use mathlib.Core.Bool.{Bool, cond}
+use mathlib.Core.List.{List}
+use mathlib.Core.Option.{Option, none, some}
+use lib.Dec.{leb, ltb}
+use lib.ListN.{length}
+use lib.IntN.{ℤ}
+use Rattle.reading.specs.declared.Bits.{Bits}
+use Rattle.reading.specs.declared.Fault.the-variants.{Broken}
+use Rattle.reading.specs.declared.Record.{Record}
+use Rattle.reading.specs.declared.ScanCursor.{ScanCursor}
+use Rattle.reading.specs.declared.ScanSettled.{ScanSettled}
+use Rattle.reading.specs.declared.ScanSettled.the-variants as answer
+use Rattle.reading.specs.Tests.{_and_, within, over}
+use Rattle.reading.specs.Reader.{Read, got, fault}
+use Rattle.reading.specs.Scan.{Plan, planOf, noPredictors, firstBit, levels}
+use Rattle.reading.specs.Settled.{settledScan}
+
+-- a scan before its first block: the bit place, three predictors and the count of blocks done
+abbrev pub atStart : ℕ → ScanCursor
+atStart at = record { bits = firstBit at; predictors = noPredictors; done = 0 }
+
+-- a record's numbers by which a scan can be read: the first coded byte lies within the file, factors 1 to 4, 1 to 3 channels
+unfoldable pub readable : List ℕ → Record → Bool
+readable s r = leb (r .start) (length s) and within 1 4 (r .hs) and within 1 4 (r .vs) and within 1 3 (r .channels)
+
+-- the scan as the code reads it: a record with other numbers, which no header gives, is Broken
+unfoldable pub scanOf : List ℕ → Record → Read Bits (List (List ℤ))
+unfolding readable levels
+scanOf s r = cond (readable s r) (levels s r) (fault Broken)
+
+-- a scan that was read, settled; none for want of a code
+abbrev pub settledRead : Plan → Read Bits (List (List ℤ)) → Read Bits (Option (List ℕ))
+settledRead p (got ls b) = got (settledScan p ls) b
+settledRead p (fault f) = fault f
+
+-- a record's scan, read and settled as the code does it: a record with 2^32 blocks or more, which no header gives, is Broken
+unfoldable pub settledOf : List ℕ → Record → Read Bits (Option (List ℕ))
+unfolding scanOf settledScan
+settledOf s r = cond (ltb (r .blocks) (2 ^ 32)) (settledRead (planOf s r) (scanOf s r)) (fault Broken)
+
+-- what is answered of it
+unfoldable pub scanSettled : Read Bits (Option (List ℕ)) → ScanSettled
+scanSettled (got none b) = answer.NoCode
+scanSettled (got (some t) b) = answer.Done (length t)
+scanSettled (fault f) = answer.Stop f
+
+-- what lies in the buffer then: the settled scan over the old bytes where there is room for it, else the old bytes
+unfoldable pub laidOver : Read Bits (Option (List ℕ)) → List ℕ → List ℕ
+laidOver (got none b) old = old
+laidOver (got (some t) b) old = cond (ltb (length old) (length t)) old (over t old)
+laidOver (fault f) old = old
