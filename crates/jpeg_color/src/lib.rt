@@ -9,14 +9,15 @@ ghost use lib.IntN.{pos, natAbs, _+ℤ_, _-ℤ_};
 ghost use lib.Signed.{ltZ};
 ghost use Rattle.reading.specs.Colour.{toByte, red, green, blue, floored};
 ghost use Rattle.jpeg_color.specs.Parts.{redPart, greenPart, bluePart};
+use reading::Sample;
 
 // The larger of a number and 0. `to_byte` is this and the next one after the other, and not one choice of three: so loops that clamp are
 // compiled to vector code.
 fn at_least(v: i32) -> i32
     ensures { λ r. ⌜ r ≡ cond (ltZ v (pos 0)) (pos 0) v ⌝ }
 {
-    if v < 0 {
-        return 0;
+    if v < Sample::LEAST as i32 {
+        return Sample::LEAST as i32;
     }
     v
 }
@@ -25,8 +26,8 @@ fn at_least(v: i32) -> i32
 fn at_most(v: i32) -> i32
     ensures { λ r. ⌜ r ≡ cond (ltZ (pos 255) v) (pos 255) v ⌝ }
 {
-    if v > 255 {
-        return 255;
+    if v > Sample::MOST as i32 {
+        return Sample::MOST as i32;
     }
     v
 }
@@ -42,8 +43,8 @@ pub fn to_byte(v: i32) -> u8
 fn short_at_least(short: i16) -> i16
     ensures { λ r. ⌜ r ≡ cond (ltZ short (pos 0)) (pos 0) short ⌝ }
 {
-    if short < 0 {
-        return 0;
+    if short < Sample::LEAST {
+        return Sample::LEAST;
     }
     short
 }
@@ -51,8 +52,8 @@ fn short_at_least(short: i16) -> i16
 fn short_at_most(short: i16) -> i16
     ensures { λ r. ⌜ r ≡ cond (ltZ (pos 255) short) (pos 255) short ⌝ }
 {
-    if short > 255 {
-        return 255;
+    if short > Sample::MOST {
+        return Sample::MOST;
     }
     short
 }

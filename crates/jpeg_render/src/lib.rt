@@ -8,6 +8,7 @@ ghost use Rattle.jpeg_render.specs.Rendered.{framed, fits, rendered};
 mod layout;
 mod render;
 
+use reading::Limits;
 use reading::Record;
 
 // A sampling factor.
@@ -46,10 +47,10 @@ fn framed(found: Record) -> bool
     if !factor(found.vs) {
         return false;
     }
-    if 65535 < found.width {
+    if Limits::SIDE < found.width {
         return false;
     }
-    found.height <= 65535
+    found.height <= Limits::SIDE
 }
 
 // Whether a record can be drawn from so many samples into so many bytes.

@@ -15,6 +15,7 @@ use reading::Budget;
 use reading::Case;
 use reading::Frame;
 use reading::Header;
+use reading::Limits;
 use reading::Record;
 use reading::Refusal;
 
@@ -216,10 +217,10 @@ fn most_of(channels: usize) -> usize
 fn numbers_fit(frame: Frame) -> bool
     ensures { λ r. ⌜ r ≡ numbersFit frame ⌝ }
 {
-    if !within(1, 65535, frame.width) {
+    if !within(1, Limits::SIDE, frame.width) {
         return false;
     }
-    if !within(1, 65535, frame.height) {
+    if !within(1, Limits::SIDE, frame.height) {
         return false;
     }
     if !within(1, 4, frame.hs) {

@@ -128,7 +128,7 @@ fn in_steps(v: i64) -> i32
     requires { ⌜ natAbs v ≤ 2 ^ 57 ⌝ }
     ensures { λ r. ⌜ r ≡ inSteps v ⌝ }
 {
-    ((v + Sample::MIDDLE) >> 30) as i32
+    ((v + Sample::MIDDLE) >> Sample::STEP_BITS) as i32
 }
 
 // The quantizer's entry at a zigzag place; 0 behind its end.

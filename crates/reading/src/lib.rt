@@ -297,16 +297,19 @@ impl Budget {
     }
 }
 
-// What turns a block's double sum v into a sample: MIDDLE is added; 0 and below is 0, TOP and above is 255, else one step of
-// the sample is STEP.
+// What turns a block's double sum into a sample: MIDDLE is added, the sum is divided by a step and rounded down, and what lies outside
+// LEAST and MOST becomes the nearer of the two. A step is 2 to the STEP_BITS, 1073741824; so 273804165120, from which on the rules have
+// 255, is 255 steps.
 pub struct Sample;
 
 impl Sample {
     pub const MIDDLE: i64 = 137975824384;
 
-    pub const TOP: i64 = 273804165120;
+    pub const STEP_BITS: i64 = 30;
 
-    pub const STEP: i64 = 1073741824;
+    pub const LEAST: i16 = 0;
+
+    pub const MOST: i16 = 255;
 }
 
 // A level of a block; the first lies between these two.

@@ -3,6 +3,7 @@
 use libc::STDERR_FILENO;
 use libc::STDOUT_FILENO;
 use reading::Budget;
+use reading::Limits;
 use reading::Verdict;
 use streams::Filled;
 
@@ -21,7 +22,7 @@ fn convert(s: &[u8], output: &mut [u8]) -> bool {
 
 // The first n bytes that were read. A settled file can be longer than the file, so its buffer has four times the room.
 fn answer(buffer: &[u8], n: usize) -> bool {
-    let mut output = [0u8; 262144];
+    let mut output = [0u8; 4 * Limits::BUFFER];
     if buffer.len() < n {
         return false;
     }
@@ -30,7 +31,7 @@ fn answer(buffer: &[u8], n: usize) -> bool {
 
 // One byte more than the input limit is looked at, so that a longer file is seen to be longer.
 fn main() {
-    let mut input = [0u8; 65537];
+    let mut input = [0u8; Limits::BUFFER + 1];
     match streams::fill(&mut input) {
         Filled::Failed => {
             io::write_all(STDERR_FILENO, &streams::UNREAD);
