@@ -1,11 +1,12 @@
 -- Demand 3 of the code, as a caller in Rattle cites it: the premises are the contracts of the calls it made (`c .. .settle .ensures` and so on) and
 -- what they answered; what follows is about the bytes that settle left in its buffer, where limits, budget and room are enough.
-use Prim.Native.Nat.{ℕ, _+_, _≤_}
+use Prim.Native.Nat.{ℕ, _+_, _<_, _≤_}
 use mathlib.Core.Path.{_≡_, sym, ap, _∙_, subst⁻¹}
 use mathlib.Core.Bool.{Bool}
 use mathlib.Core.List.{List}
 use mathlib.Core.Logic.{_↔_}
 use mathlib.Core.Option.{some}
+use lib.Dec.{T}
 use lib.ListN.{length, take, drop}
 use lib.Seq.{take-append-seam}
 use Rattle.reading.specs.declared.Budget.{Budget}
@@ -14,11 +15,15 @@ use Rattle.reading.specs.declared.Inspection.{Inspection}
 use Rattle.reading.specs.declared.Limits.{Limits}
 use Rattle.reading.specs.declared.Record.{Record}
 use Rattle.reading.specs.declared.Settling.{Settling}
-use Rattle.reading.specs.declared.Verdict.the-variants.{Accepted}
+use Rattle.reading.specs.declared.Refusal.the-variants.{NoEndCode}
+use Rattle.reading.specs.declared.Verdict.the-variants.{Accepted, Refused}
+use Rattle.reading.specs.Header.{byte}
 use Rattle.reading.specs.Reading.{reading}
 use Rattle.reading.specs.Calls.{headerPrice, inspect, Decoded, decode, Rewritten, settle}
-use Rattle.reading.specs.Files.{headIn, coefficientsIn, settledIn}
-use Rattle.reading.specs.Words.{Enough}
+use Rattle.reading.specs.Files.{headIn, coefficientsIn, settledIn, lacksEndIn}
+use Rattle.reading.specs.Words.{Enough, Inspects}
+use Rattle.reading.proofs.FileBytes.{all-bytes}
+use Rattle.reading.proofs.Theorems.{settle-nine}
 use Rattle.reading.proofs.Judgement.{inspect-accepts}
 use Rattle.reading.proofs.SettledCalls.{SettledBy, settled-by, settledBytes, bytes-are, bytes-settled, settled-reads, settled-again, settled-decodes, one-picture-one-file}
 use Rattle.jpeg_rewrite.specs.Refiled.{remade}
@@ -105,3 +110,15 @@ code-one-picture s s′ l l′ budget budget′ out out′ answer answer′ left
     let here = same s l budget out answer left c in
     let there = same s′ l′ budget′ out′ answer′ left′ c′ in
     (λ x. w .0 (here ∙ x ∙ sym there), λ x. sym here ∙ w .1 x ∙ there)
+
+-- 9 of the code, exactly. `known` is what the language knows of every slice of bytes, so a caller always has it (`.shared-slice-known .given`)
+pub code-nine :
+    (s : List ℕ) (colour : Bool) (l : Limits) (budget : Budget) (out : List ℕ) {answer : Settling} {left : List ℕ}
+    → (known : (i : ℕ) → byte s i < 256)
+    → remade answer left ≡ settle s l budget out
+    → answer .verdict ≡ Refused NoEndCode
+    ↔ Inspects s colour l budget × T (lacksEndIn s)
+code-nine s colour l budget out known c =
+    let e = ap (λ (w : Rewritten). w .answer .verdict) c in
+    let w = settle-nine s colour l budget out (all-bytes s known) in
+    (λ v. w .0 (sym e ∙ v), λ k. e ∙ w .1 k)
