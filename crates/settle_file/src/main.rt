@@ -1,32 +1,51 @@
 // The program behind `--settle`: a file from standard input, its settled file to standard output, or `refused N` and a newline and
 // nothing else. What matters is in the libraries; here are two buffers and the call.
+ghost use mathlib.Core.Path.{_≡_};
+ghost use Rattle.reading.specs.Calls.{settle};
+ghost use Rattle.streams.specs.Answers.{ownLimits, ample};
+ghost use Rattle.settle_file.specs.Answer.{reply, left, answered};
 use libc::STDERR_FILENO;
-use libc::STDOUT_FILENO;
 use reading::Budget;
 use reading::Limits;
 use reading::Verdict;
+use streams::Answer;
 use streams::Filled;
+use streams::Line;
 
-// The limits are those of the other program; the budget always suffices.
-fn convert(s: &[u8], output: &mut [u8]) -> bool {
-    let settling = jpeg::settle(s, streams::limits(), Budget::fresh(u64::MAX), output);
-    let verdict = settling.verdict;
+// So many bytes of a settled file with no line before them, or the refusal.
+fn reply(length: usize, verdict: Verdict) -> Answer
+    ensures { λ r. ⌜ r ≡ reply length verdict ⌝ }
+{
     match verdict {
-        Verdict::Refused(x) => {
-            let line = streams::refusal(x.number());
-            io::write_all(STDOUT_FILENO, &line)
+        Verdict::Refused(x) => Answer::refused(x),
+        Verdict::Accepted => {
+            let line = Line::empty();
+            Answer {
+                line: line,
+                follow: length,
+            }
         }
-        Verdict::Accepted => streams::write_first(output, settling.length),
     }
 }
 
-// The first n bytes that were read. A settled file can be longer than the file, so its buffer has four times the room.
+// The limits are those of the other program; the budget always suffices.
+fn convert(s: &[u8], output: &mut [u8]) -> Answer
+    ensures { λ r. ⌜ left r (now (output .exit)) ≡ answered (settle (now (s .entry)) ownLimits ample (now (output .entry))) ⌝ }
+{
+    let settling = jpeg::settle(s, streams::limits(), Budget::fresh(u64::MAX), output);
+    let verdict = settling.verdict;
+    reply(settling.length, verdict)
+}
+
+// Writes the answer to the first n bytes that were read. A settled file can be longer than the file, so its buffer has four times the
+// room.
 fn answer(buffer: &[u8], n: usize) -> bool {
     let mut output = [0u8; 4 * Limits::BUFFER];
     if buffer.len() < n {
         return false;
     }
-    convert(&buffer[..n], &mut output)
+    let made = convert(&buffer[..n], &mut output);
+    streams::write(made, &output)
 }
 
 // One byte more than the input limit is looked at, so that a longer file is seen to be longer.

@@ -1,16 +1,19 @@
-// What the programs share: standard input read whole, the start of a buffer written, the line of a refusal, a text put into a line, a
-// record as its numbers, a byte as a number, and the limits that they run with.
+// What the programs share: standard input read whole, an answer written, the lines of a refusal and of a picture's head, a text put into
+// a line, a record as its numbers, a byte as a number, and the limits that they run with.
 ghost use Prim.Native.Nat.{_+_, _<_, _≤_};
 ghost use mathlib.Core.Path.{_≡_};
 ghost use mathlib.Core.Bool.{true};
+ghost use mathlib.Core.List.{[]};
 ghost use lib.ListN.{length};
 ghost use Rattle.streams.specs.Read.{Fills};
-ghost use Rattle.streams.specs.Lines.{refused, fitting, placed};
+ghost use Rattle.streams.specs.Lines.{decimal, refused, kindOf, pictureHead, lineOf, fitting, placed, lineWith};
+ghost use Rattle.streams.specs.Answers.{ownLimits, refusing};
 ghost use Rattle.streams.specs.Numbers.{threeAt, fourAt, numbersOf};
 use libc::STDIN_FILENO;
 use libc::STDOUT_FILENO;
 use reading::Limits;
 use reading::Record;
+use reading::Refusal;
 
 // What a program says on standard error where it cannot go on.
 pub const UNREAD: [u8; 38] = *b"tillsparrow: the input cannot be read\n";
@@ -54,24 +57,6 @@ pub fn write_first(bytes: &[u8], n: usize) -> bool
     io::write_all(STDOUT_FILENO, &bytes[..n])
 }
 
-// `refused N` and a newline, for a number of one digit.
-pub fn refusal(number: u8) -> [u8; 10]
-    ensures { λ r. ⌜ r ≡ refused number ⌝ }
-{
-    [
-        b'r',
-        b'e',
-        b'f',
-        b'u',
-        b's',
-        b'e',
-        b'd',
-        b' ',
-        b'0' + number % 10,
-        b'\n',
-    ]
-}
-
 // Puts a text into a line from a place on, as much of it as there is room for; answers the place behind it.
 pub fn put(line: &mut [u8], at: usize, text: &[u8]) -> usize
     ensures { λ r. ⌜ r ≡ at + fitting (now (line .entry)) at (now (text .entry)) ⌝ }
@@ -90,6 +75,106 @@ pub fn put(line: &mut [u8], at: usize, text: &[u8]) -> usize
     next
 }
 
+// A text with zeros behind it, and how long it is.
+pub struct Line {
+    pub bytes: [u8; Line::ROOM],
+    pub length: usize,
+}
+
+impl Line {
+    // the head of a picture has at most 49 bytes, whatever its record
+    const ROOM: usize = 64;
+
+    // no text
+    pub fn empty() -> Self
+        ensures { λ r. ⌜ r ≡ lineOf [] ⌝ }
+    {
+        Self {
+            bytes: [0; Self::ROOM],
+            length: 0,
+        }
+    }
+
+    // a text behind this one, as much of it as there is room for
+    fn with_text(self, text: &[u8]) -> Self
+        ensures { λ r. ⌜ r ≡ lineWith self (now (text .entry)) ⌝ }
+    {
+        let mut bytes = self.bytes;
+        let length = put(&mut bytes, self.length, text);
+        Self {
+            bytes: bytes,
+            length: length,
+        }
+    }
+
+    // a number's digits behind it
+    fn with_number(self, n: u64) -> Self
+        ensures { λ r. ⌜ r ≡ lineWith self (decimal n) ⌝ }
+    {
+        let mut digits = [0u8; 20];
+        let k = io::decimal(n, &mut digits);
+        self.with_text(&digits[..k])
+    }
+}
+
+// `refused N` and a newline.
+fn refusal(number: u8) -> Line
+    ensures { λ r. ⌜ r ≡ lineOf (refused number) ⌝ }
+{
+    let word = Line::empty().with_text(b"refused ");
+    word.with_number(number as u64).with_text(b"\n")
+}
+
+// P5 for one channel, else P6.
+fn kind(channels: usize) -> Line
+    ensures { λ r. ⌜ r ≡ lineOf (kindOf channels) ⌝ }
+{
+    if channels == 1 {
+        return Line::empty().with_text(b"P5\n");
+    }
+    Line::empty().with_text(b"P6\n")
+}
+
+// What stands before the bytes of a picture: its kind, its sides, and 255, the largest sample.
+pub fn picture_head(found: Record) -> Line
+    ensures { λ r. ⌜ r ≡ lineOf (pictureHead found) ⌝ }
+{
+    let wide = kind(found.channels).with_number(found.width as u64);
+    let high = wide.with_text(b" ").with_number(found.height as u64);
+    high.with_text(b"\n255\n")
+}
+
+// What a program answers: a line, and how many bytes of its output follow it.
+pub struct Answer {
+    pub line: Line,
+    pub follow: usize,
+}
+
+impl Answer {
+    // a refusal's line and nothing behind it
+    pub fn refused(x: Refusal) -> Self
+        ensures { λ r. ⌜ r ≡ refusing x ⌝ }
+    {
+        let line = refusal(x.number());
+        Self {
+            line: line,
+            follow: 0,
+        }
+    }
+}
+
+// Writes an answer to standard output: whether its bytes are there and could be written.
+pub fn write(answer: Answer, output: &[u8]) -> bool
+    ensures { λ r. ⌜ (r ≡ true → answer .follow ≤ length (now (output .entry))) ⌝ }
+{
+    let line = answer.line;
+    let bytes = line.bytes;
+    if !write_first(&bytes, line.length) {
+        return false;
+    }
+    write_first(output, answer.follow)
+}
+
 // A byte as a number.
 pub fn wide(x: u8) -> u64
     ensures { λ r. ⌜ (r ≡ x) × (r < 256) ⌝ }
@@ -99,7 +184,7 @@ pub fn wide(x: u8) -> u64
 
 // The limits of a program with buffers of 65,536 bytes.
 pub fn limits() -> Limits
-    ensures { λ r. ⌜ r ≡ record { input = 65536; side = 65535; output = 65536 } ⌝ }
+    ensures { λ r. ⌜ r ≡ ownLimits ⌝ }
 {
     Limits {
         input: Limits::BUFFER,

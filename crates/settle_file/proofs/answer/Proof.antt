@@ -16,10 +16,23 @@ slice-aggregate-convert-2 c = search needs
 convert-requires : tie.Need-convert-requires
 convert-requires c κs = search needs
 
+slice-aggregate-write : tie.Need-slice-aggregate-write
+slice-aggregate-write c = search needs
+
+write-requires : tie.Need-write-requires
+write-requires c κs = search needs
+
 returns-2 : tie.Need-returns-2
 returns-2 c = search needs
 
 pub answer-spec : {M : Type 1} → statement M
 answer-spec =
     tie.close
-    (tie.spec returns slice-aggregate-convert slice-aggregate-convert-2 convert-requires returns-2)
+    (tie.spec
+    returns
+    slice-aggregate-convert
+    slice-aggregate-convert-2
+    convert-requires
+    slice-aggregate-write
+    write-requires
+    returns-2)

@@ -19,6 +19,12 @@ slice-aggregate-convert-3 c = search needs
 convert-requires : tie.Need-convert-requires
 convert-requires c κs = search needs
 
+slice-aggregate-write : tie.Need-slice-aggregate-write
+slice-aggregate-write c = search needs
+
+write-requires : tie.Need-write-requires
+write-requires c κs = search needs
+
 returns-2 : tie.Need-returns-2
 returns-2 c = search needs
 
@@ -31,4 +37,6 @@ answer-spec =
     slice-aggregate-convert-2
     slice-aggregate-convert-3
     convert-requires
+    slice-aggregate-write
+    write-requires
     returns-2)

@@ -1,0 +1,2 @@
+-- What the program says to a file.
+pub mod Answer

@@ -1,0 +1,61 @@
+use Rattle.tillsparrow.proofs.Answers.{refused, decoded}
+use borrow.Author.Needs.{needs}
+use Rattle.tillsparrow.proofs.convert.Statement.{statement}
+use Rattle.tillsparrow.proofs.convert.Tie as tie
+
+limits-requires : tie.Need-limits-requires
+limits-requires c κs = search needs
+
+fresh-requires : tie.Need-fresh-requires
+fresh-requires c κs = search needs
+
+inspect-requires : tie.Need-inspect-requires
+inspect-requires c κs = search needs
+
+enum-known-seen : tie.Need-enum-known-seen
+enum-known-seen c = search needs
+
+refused-requires : tie.Need-refused-requires
+refused-requires c κs = search needs
+
+enum-told : tie.Need-enum-told
+enum-told c = search needs
+
+fresh-requires-2 : tie.Need-fresh-requires-2
+fresh-requires-2 c κs = search needs
+
+decode-requires : tie.Need-decode-requires
+decode-requires c κs = search needs
+
+reply-requires : tie.Need-reply-requires
+reply-requires c κs = search needs
+
+returns : tie.Need-returns
+returns c = refused (c .before .before .before .before .before .before .before .before .before .before .before .args .s .now) (c .before .before .before .before .before .before .before .before .before .before .before .args .output .now) (c .before .before .before .before .before .before .before .before .before .before .before .args .scratch .now) (c .before .before .before .before .before .before .before .limits .ensures) (c .before .before .before .before .before .before .fresh .ensures) (c .before .before .before .before .before .inspect .ensures) (c .before .before .seen .given .1) (c .refused .ensures)
+
+same-length : tie.Need-same-length
+same-length c = search needs
+
+same-length-2 : tie.Need-same-length-2
+same-length-2 c = search needs
+
+returns-2 : tie.Need-returns-2
+returns-2 c = decoded (c .before .before .before .before .before .before .before .before .before .before .before .before .before .before .before .before .before .before .args .s .now) (c .before .before .before .before .before .before .before .before .before .before .before .before .before .before .before .before .before .before .args .output .now) (c .before .before .before .before .before .before .before .before .before .before .before .before .before .before .before .before .before .before .args .scratch .now) (c .before .before .before .before .before .before .before .before .before .before .before .before .before .before .limits .ensures) (c .before .before .before .before .before .before .before .before .before .before .before .before .before .fresh .ensures) (c .before .before .before .before .before .before .before .before .before .before .before .before .inspect .ensures) (c .before .before .before .before .before .before .before .before .before .enum-told .given .1) (c .before .before .before .before .before .before .fresh2 .ensures) (c .before .before .before .before .before .decode .ensures) (c .reply .ensures)
+
+pub convert-spec : {M : Type 1} → statement M
+convert-spec =
+    tie.close
+    (tie.spec
+    limits-requires
+    fresh-requires
+    inspect-requires
+    enum-known-seen
+    refused-requires
+    enum-told
+    fresh-requires-2
+    decode-requires
+    reply-requires
+    returns
+    same-length
+    same-length-2
+    returns-2)

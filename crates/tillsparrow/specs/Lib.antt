@@ -1,0 +1,3 @@
+-- What the program says to a file.
+pub mod Answer
+pub mod Pieces
