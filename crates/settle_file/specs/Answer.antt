@@ -13,8 +13,8 @@ pub record Answered : Type 0 where
   pub answer : Answer
   pub output : List ℕ
 
-abbrev pub left : Answer → List ℕ → Answered
-left answer out = record { answer = answer; output = out }
+abbrev pub leaving : Answer → List ℕ → Answered
+leaving answer out = record { answer = answer; output = out }
 
 -- accepted: the settled file, which stands at the start of the output, with no line before it
 abbrev pub reply : ℕ → Verdict → Answer
@@ -22,4 +22,4 @@ reply n Accepted = record { line = lineOf []; follow = n }
 reply n (Refused x) = refusing x
 
 abbrev pub answered : Rewritten → Answered
-answered w = left (reply (w .answer .length) (w .answer .verdict)) (w .output)
+answered w = leaving (reply (w .answer .length) (w .answer .verdict)) (w .output)

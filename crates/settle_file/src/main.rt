@@ -3,7 +3,7 @@
 ghost use mathlib.Core.Path.{_≡_};
 ghost use Rattle.reading.specs.Calls.{settle};
 ghost use Rattle.streams.specs.Answers.{ownLimits, ample};
-ghost use Rattle.settle_file.specs.Answer.{reply, left, answered};
+ghost use Rattle.settle_file.specs.Answer.{reply, leaving, answered};
 use libc::STDERR_FILENO;
 use reading::Budget;
 use reading::Limits;
@@ -30,7 +30,7 @@ fn reply(length: usize, verdict: Verdict) -> Answer
 
 // The limits are those of the other program; the budget always suffices.
 fn convert(s: &[u8], output: &mut [u8]) -> Answer
-    ensures { λ r. ⌜ left r (now (output .exit)) ≡ answered (settle (now (s .entry)) ownLimits ample (now (output .entry))) ⌝ }
+    ensures { λ r. ⌜ leaving r (now (output .exit)) ≡ answered (settle (now (s .entry)) ownLimits ample (now (output .entry))) ⌝ }
 {
     let settling = jpeg::settle(s, streams::limits(), Budget::fresh(u64::MAX), output);
     let verdict = settling.verdict;

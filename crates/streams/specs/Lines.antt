@@ -11,7 +11,7 @@ use Rattle.streams.specs.declared.Line.{Line}
 
 -- ---- texts
 
--- the last k digits of a number, the highest first, with no zero in front
+-- the digits of a number that has at most k, the highest first and no zero in front; of a longer one the last k
 unfoldable pub digitsIn : ℕ → ℕ → List ℕ
 digitsIn zero n = []
 digitsIn (suc k) n = cond (ltb n 10) ((48 + n) ∷ []) (digitsIn k (n / 10) ++ (48 + n % 10) ∷ [])

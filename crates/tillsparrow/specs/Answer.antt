@@ -17,8 +17,8 @@ pub record Answered : Type 0 where
   pub output : List ℕ
   pub scratch : List ℕ
 
-abbrev pub left : Answer → List ℕ → List ℕ → Answered
-left answer out scratch = record { answer = answer; output = out; scratch = scratch }
+abbrev pub leaving : Answer → List ℕ → List ℕ → Answered
+leaving answer out scratch = record { answer = answer; output = out; scratch = scratch }
 
 -- accepted: the head of the picture, which stands at the start of the output
 abbrev pub reply : Record → Verdict → Answer
@@ -26,12 +26,12 @@ reply r Accepted = record { line = lineOf (pictureHead r); follow = r .output }
 reply r (Refused x) = refusing x
 
 abbrev pub drawn : Record → Decoded → Answered
-drawn r d = left (reply r (d .answer .verdict)) (d .output) (d .scratch)
+drawn r d = leaving (reply r (d .answer .verdict)) (d .output) (d .scratch)
 
 -- what inspect accepts is decoded
 abbrev pub viewed : List ℕ → List ℕ → List ℕ → Record → Verdict → Answered
 viewed s out scratch r Accepted = drawn r (decode s r out scratch ample)
-viewed s out scratch r (Refused x) = left (refusing x) out scratch
+viewed s out scratch r (Refused x) = leaving (refusing x) out scratch
 
 -- colour is chosen, the limits are the buffers', and the budget always suffices
 unfoldable pub answered : List ℕ → List ℕ → List ℕ → Answered

@@ -1,7 +1,7 @@
 // The program: a file from standard input, its picture as PPM or PGM to standard output, or `refused N` and a newline and nothing
 // else. What matters is in the libraries; here are three buffers and the two calls.
 ghost use mathlib.Core.Path.{_≡_};
-ghost use Rattle.tillsparrow.specs.Answer.{reply, left, answered};
+ghost use Rattle.tillsparrow.specs.Answer.{reply, leaving, answered};
 use libc::STDERR_FILENO;
 use reading::Budget;
 use reading::Limits;
@@ -28,7 +28,7 @@ fn reply(found: Record, verdict: Verdict) -> Answer
 
 // The limits are the buffers'; colour is chosen, and the budget always suffices.
 fn convert(s: &[u8], output: &mut [u8], scratch: &mut [u8]) -> Answer
-    ensures { λ r. ⌜ left r (now (output .exit)) (now (scratch .exit)) ≡ answered (now (s .entry)) (now (output .entry)) (now (scratch .entry)) ⌝ }
+    ensures { λ r. ⌜ leaving r (now (output .exit)) (now (scratch .exit)) ≡ answered (now (s .entry)) (now (output .entry)) (now (scratch .entry)) ⌝ }
 {
     let inspection = jpeg::inspect(s, true, streams::limits(), Budget::fresh(u64::MAX));
     let seen = inspection.verdict;
