@@ -3,11 +3,12 @@
 --     decode-refused    both buffers are as they came
 --     decode-lengths    both buffers keep their lengths
 --     decode-taken      the whole price was taken, or nothing
---     decode-accepts, decode-eight   exactly when it is accepted, and exactly when it is refused 8
+--     decode-accepts, decode-seven, decode-two, decode-eight   exactly when it is accepted, and exactly when each number comes
+--     inspected-decodes   what inspect accepts is accepted with the record that it gave
 use Prim.Native.Nat.{ℕ, _+_, _/_, _%_, _<_, _≤_}
 use mathlib.Core.Path.{_≡_, refl, sym, ap, _∙_, subst, subst⁻¹}
 use mathlib.Core.Logic.{_⊎_, inl, inr, _↔_}
-use mathlib.Core.Bool.{true, false, not, cond}
+use mathlib.Core.Bool.{Bool, true, false, not, cond}
 use mathlib.Core.List.{List}
 use native.Mathlib.Omega.{arith}
 use lib.Dec.{T, ltb, eqb}
@@ -16,6 +17,7 @@ use lib.ListN.{length, drop, length-append, length-drop}
 use borrow.Author.Tests.{le-ltb, ltb-false}
 use Rattle.whole.specs.Lists.{length-from}
 use Rattle.reading.specs.declared.Budget.{Budget}
+use Rattle.reading.specs.declared.Limits.{Limits}
 use Rattle.reading.specs.declared.Record.{Record}
 use Rattle.reading.specs.declared.Refusal.{Refusal}
 use Rattle.reading.specs.declared.Refusal.the-variants.{OverBudget, ShortRoom, NotItsRecord}
@@ -24,13 +26,14 @@ use Rattle.reading.specs.declared.Verdict.the-variants.{Accepted, Refuse
 use Rattle.reading.specs.Tests.{_or_, over}
 use Rattle.reading.specs.Reading.{Reading, accepted, refused, reading, allSamples, pixel, picture}
 use Rattle.reading.specs.Judging.{Judged, accepts, refuses, give, remaining}
-use Rattle.reading.specs.Calls.{number, headerPrice, same, shortRoom, itsLevels, decoding, Decoded, decodedWith, decoded, decode}
+use Rattle.reading.specs.Calls.{number, headerPrice, same, shortRoom, itsLevels, decoding, Decoded, decodedWith, decoded, decode, inspect}
 use Rattle.reading.specs.Words.{Not, ReadsAs, Roomy}
 use Rattle.reading.proofs.HeaderEnds.{or-left, or-right, is-so}
 use Rattle.reading.proofs.FileBytes.{AllBytes}
 use Rattle.reading.proofs.Equal.{records-equal, same-self}
 use Rattle.reading.proofs.Demand3.{taken-apart, accepted-record}
-use Rattle.reading.proofs.Judgement.{tested, charged}
+use Rattle.reading.proofs.Judgement.{tested, charged, inspect-accepts}
+use Rattle.reading.proofs.Choice.{recolour, reread, reading-choice}
 use Rattle.reading.proofs.Counted.{samples-counted}
 use Rattle.reading.proofs.States.{header-fits}
 
@@ -230,3 +233,22 @@ module _ (s : List ℕ) (r : Record) (out scratch : List ℕ) (budget : Budget) 
         ap length (w .samples-are) ∙ over-length (allSamples s r (w .blocks)) scratch (omega (arith, drawn-counted y (w .blocks) (w .read), w .room .1)),
       )
       go d (Refused x) w = (ap length (w .output), ap length (w .scratch-is))
+
+-- ---- behind inspect
+
+-- the record that a reading accepts with has its colour choice
+pub choice-is : (s : List ℕ) (colour : Bool) (r : Record) → ReadsAs s colour r → r .colour ≡ colour
+choice-is s colour r (ls, e) =
+    ap (λ (q : Record). q .colour)
+    (accepted-record r (recolour colour r) ls ls (sym e ∙ reading-choice colour colour s ∙ ap (reread colour) e))
+
+-- what inspect accepts decode accepts with the record that inspect gave
+pub inspected-decodes :
+    (s : List ℕ) (colour : Bool) (l : Limits) (budget : Budget) (r : Record) (out scratch : List ℕ) (budget′ : Budget)
+    → (inspect s colour l budget .verdict ≡ Accepted) × (inspect s colour l budget .found ≡ r)
+    → Roomy r out scratch
+    → headerPrice s + r .work ≤ budget′ .left
+    → decode s r out scratch budget′ .answer .verdict ≡ Accepted
+inspected-decodes s colour l budget r out scratch budget′ v room paid =
+    let reads = inspect-accepts s colour l budget r .0 v .0 in
+    decode-accepts s r out scratch budget′ .1 (room, paid, subst⁻¹ (λ c. ReadsAs s c r) (choice-is s colour r reads) reads)

@@ -206,6 +206,16 @@ module _ (s : List ℕ) (r : Record) (out scratch : List ℕ) (budget : Budget) 
       → (decode s r out scratch budget .output ≡ out) × (decode s r out scratch budget .scratch ≡ scratch)
   decode-leaves x e = let d = D.decode-refused s r out scratch budget x e in (d .output, d .scratch-is)
 
+-- what inspect accepts, decode accepts with the record that inspect gave, where room and budget suffice
+pub inspected-decodes :
+    (s : List ℕ) (colour : Bool) (l : Limits) (budget : Budget) (r : Record) (out scratch : List ℕ) (budget′ : Budget)
+    → (inspect s colour l budget .verdict ≡ Accepted) × (inspect s colour l budget .found ≡ r)
+    → Roomy r out scratch
+    → headerPrice s + r .work ≤ budget′ .left
+    → decode s r out scratch budget′ .answer .verdict ≡ Accepted
+inspected-decodes s colour l budget r out scratch budget′ v room paid =
+    D.inspected-decodes s colour l budget r out scratch budget′ v room paid
+
 -- ---- Samples (`DoubleSum`)
 
 -- the sample at row y and column x of a block is that of the double sum over its 64 coefficients
