@@ -49,8 +49,9 @@ bself false = refl
 pub same-self : (r : Record) → same r r ≡ true
 unfolding same
 same-self r =
-    rw (self (r .width), self (r .height), self (r .channels), self (r .hs), self (r .vs), lself (r .ids), lself (r .qids), lself (r .dcids), lself (r .acids), lself (r .quants), lself (r .dcs), lself (r .acs), self (r .interval), self (r .start), self (r .blocks), self (r .scratch), self (r .output), self (r .work), bself (r .colour))
-    refl
+    rw (self (r .width), self (r .height), self (r .channels), self (r .hs), self (r .vs))
+    (rw (lself (r .ids), lself (r .qids), lself (r .dcids), lself (r .acids), lself (r .quants), lself (r .dcs), lself (r .acs))
+    (rw (self (r .interval), self (r .start), self (r .blocks), self (r .scratch), self (r .output), self (r .work), bself (r .colour)) refl))
 
 -- the two parts of a test
 both : (a b : Bool) → T (a and b) → T a × T b

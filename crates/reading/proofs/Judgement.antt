@@ -173,8 +173,9 @@ module _ (s : List ℕ) (colour : Bool) (l : Limits) (budget : Budget) where
     where
       go : admission s colour l budget ≡ accepts r (remaining behindHeader (r .work))
       go =
-          rw (short-enough s l (h .input) (h .counted), le-ltb (budget .left) (headerPrice s) (omega (arith, h .price)), e, small-enough l r (h .sizes), le-ltb (budget .left - headerPrice s) (r .work) (omega (arith, h .price)))
-          refl
+          let read = le-ltb (budget .left) (headerPrice s) (omega (arith, h .price)) in
+          let worked = le-ltb (budget .left - headerPrice s) (r .work) (omega (arith, h .price)) in
+          rw (short-enough s l (h .input) (h .counted), read, e, small-enough l r (h .sizes), worked) refl
 
   abbrev isRefused : Verdict → Type 0
   isRefused Accepted = ⊥

@@ -295,7 +295,8 @@ module _ (s : List ℕ) (l : Limits) (budget : Budget) (out : List ℕ) where
   -- 7 exactly when inspect would accept and there is a settled file that is too long; its length is named
   pub settle-seven :
       (n : ℕ)
-      → (settle s l budget out .answer .verdict ≡ Refused ShortRoom) × (settle s l budget out .answer .length ≡ n) ↔ Inspects × ((t : List ℕ) × (settledIn s ≡ some t) × (length t ≡ n) × (length out < n))
+      → (settle s l budget out .answer .verdict ≡ Refused ShortRoom) × (settle s l budget out .answer .length ≡ n)
+      ↔ Inspects × ((t : List ℕ) × (settledIn s ≡ some t) × (length t ≡ n) × (length out < n))
   settle-seven n = go (settle s l budget out) settle-way
     where
       go :

@@ -78,7 +78,9 @@ module _ (s t : List ℕ) (h : settledIn s ≡ some t) where
   head-alike = alike (a .found) (a .blocks) (a .does) (λ r ls. some (take (r .start) t)) (λ r ls. some (take (r .start) s)) none (ap some (D.same-head s (a .found) (a .blocks) t (a .does)))
 
   pub coefficients-alike : coefficientsIn t ≡ coefficientsIn s
-  coefficients-alike = alike (a .found) (a .blocks) (a .does) (λ r ls. some (dequantized (planOf t r) 0 ls)) (λ r ls. some (dequantized (planOf s r) 0 ls)) none (ap some (D.settled-coefficients s (a .found) (a .blocks) t (a .does)))
+  coefficients-alike =
+      alike (a .found) (a .blocks) (a .does) (λ r ls. some (dequantized (planOf t r) 0 ls)) (λ r ls. some (dequantized (planOf s r) 0 ls)) none
+      (ap some (D.settled-coefficients s (a .found) (a .blocks) t (a .does)))
 
   pub samples-alike : samplesIn t ≡ samplesIn s
   samples-alike = alike (a .found) (a .blocks) (a .does) (λ r ls. some (allSamples t r ls)) (λ r ls. some (allSamples s r ls)) none (ap some (samples-so (a .found) (a .blocks) (a .does)))

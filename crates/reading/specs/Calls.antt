@@ -1,4 +1,4 @@
--- What the three calls answer.
+-- What inspect, decode and settle answer: each is a list of tests and payments in the order of the rules ('Refusal numbers'), one a line.
 use Prim.Native.Nat.{ℕ, _+_, _*_, _^_}
 use mathlib.Core.Bool.{Bool, true, false, not, cond}
 use mathlib.Core.List.{List, [], _∷_}
@@ -45,6 +45,7 @@ abbrev pub number : Verdict → ℕ
 number Accepted = 0
 number (Refused x) = numberOf x
 
+-- 2n+1: what reading a header costs
 abbrev pub headerPrice : List ℕ → ℕ
 headerPrice s = 2 * length s + 1
 

@@ -22,8 +22,13 @@ same-length c = search needs
 
 returns : tie.Need-returns
 returns c =
-    ap (λ a. leaving a (c .before .before .before .settle .last .1 .1 .1 .0)) (c .reply .ensures)
-    ∙ ap answered (c .before .before .before .settle .ensures ∙ ap₂ (λ l b. settle (c .before .before .before .before .before .before .before .before .before .args .s .now) l b (c .before .before .before .before .before .before .before .before .before .args .output .now)) (c .before .before .before .before .before .before .limits .ensures) (c .before .before .before .before .before .fresh .ensures))
+    let settled = c .before .before .before in
+    let limited = settled .before .before .before in
+    let start = limited .before .before .before in
+    ap (λ a. leaving a (settled .settle .last .1 .1 .1 .0)) (c .reply .ensures)
+    ∙ ap answered
+    (settled .settle .ensures
+    ∙ ap₂ (λ l b. settle (start .args .s .now) l b (start .args .output .now)) (limited .limits .ensures) (settled .before .before .fresh .ensures))
 
 pub convert-spec : {M : Type 1} → statement M
 convert-spec =

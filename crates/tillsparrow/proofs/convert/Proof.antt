@@ -31,7 +31,11 @@ reply-requires : tie.Need-reply-requires
 reply-requires c κs = search needs
 
 returns : tie.Need-returns
-returns c = refused (c .before .before .before .before .before .before .before .before .before .before .before .args .s .now) (c .before .before .before .before .before .before .before .before .before .before .before .args .output .now) (c .before .before .before .before .before .before .before .before .before .before .before .args .scratch .now) (c .before .before .before .before .before .before .before .limits .ensures) (c .before .before .before .before .before .before .fresh .ensures) (c .before .before .before .before .before .inspect .ensures) (c .before .before .seen .given .1) (c .refused .ensures)
+returns c =
+    let inspected = c .before .before .before .before .before in
+    let start = inspected .before .before .before .before .before .before in
+    refused (start .args .s .now) (start .args .output .now) (start .args .scratch .now) (inspected .before .before .limits .ensures)
+    (inspected .before .fresh .ensures) (inspected .inspect .ensures) (c .before .before .seen .given .1) (c .refused .ensures)
 
 same-length : tie.Need-same-length
 same-length c = search needs
@@ -40,7 +44,13 @@ same-length-2 : tie.Need-same-length-2
 same-length-2 c = search needs
 
 returns-2 : tie.Need-returns-2
-returns-2 c = decoded (c .before .before .before .before .before .before .before .before .before .before .before .before .before .before .before .before .before .before .args .s .now) (c .before .before .before .before .before .before .before .before .before .before .before .before .before .before .before .before .before .before .args .output .now) (c .before .before .before .before .before .before .before .before .before .before .before .before .before .before .before .before .before .before .args .scratch .now) (c .before .before .before .before .before .before .before .before .before .before .before .before .before .before .limits .ensures) (c .before .before .before .before .before .before .before .before .before .before .before .before .before .fresh .ensures) (c .before .before .before .before .before .before .before .before .before .before .before .before .inspect .ensures) (c .before .before .before .before .before .before .before .before .before .enum-told .given .1) (c .before .before .before .before .before .before .fresh2 .ensures) (c .before .before .before .before .before .decode .ensures) (c .reply .ensures)
+returns-2 c =
+    let drawn = c .before .before .before .before .before in
+    let inspected = drawn .before .before .before .before .before .before .before in
+    let start = inspected .before .before .before .before .before .before in
+    decoded (start .args .s .now) (start .args .output .now) (start .args .scratch .now) (inspected .before .before .limits .ensures)
+    (inspected .before .fresh .ensures) (inspected .inspect .ensures) (drawn .before .before .before .before .enum-told .given .1)
+    (drawn .before .fresh2 .ensures) (drawn .decode .ensures) (c .reply .ensures)
 
 pub convert-spec : {M : Type 1} → statement M
 convert-spec =
