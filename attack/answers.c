@@ -1,5 +1,5 @@
 /* Answers the reference's cases (tests/reference/README.md) through the archive, a line for each case, so that the calls from C are
- * compared like the program `answers` is. */
+ * compared like the program `test_answers` is. */
 #include "tillsparrow.h"
 
 #include <stdio.h>

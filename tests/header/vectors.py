@@ -1,7 +1,7 @@
 #!/usr/bin/env python3
 """Header vectors: files, and what the rules answer for each.
 
-Makes the two files of the program `header_vectors`: `stdin`, the list of vectors that it runs, and `stdout`, the lines that it
+Makes the two files of the program `test_header`: `stdin`, the list of vectors that it runs, and `stdout`, the lines that it
 must write. Nothing here comes from the library. A vector's number is written down beside it, or follows from a formula that
 stands beside its group; `read_header` below reads the rules once more, gives the record of an accepted file, and must agree with
 each number.
@@ -20,7 +20,7 @@ import sys
 from pathlib import Path
 
 CUT, MALFORMED, UNSUPPORTED = 3, 4, 5
-FOLDER = Path(__file__).resolve().parents[2] / "crates" / "header_vectors"
+FOLDER = Path(__file__).resolve().parents[2] / "crates" / "test_header"
 
 
 # ---- the rules, read once more

@@ -25,7 +25,7 @@ use Rattle.reading.specs.Calls.{headerPrice, same, shortRoom, itsLevels, undeco
 use Rattle.reading.proofs.Equal.{records-equal}
 use Rattle.reading.proofs.HeaderEnds.{or-left, or-right}
 use Rattle.jpeg.specs.Steps.{drawnAs}
-use Rattle.jpeg_admission.proofs.Admitted.{isRefused}
+use Rattle.jpeg_price.proofs.Admitted.{isRefused}
 
 module _ (s : List ℕ) (r : Record) (out scratch : List ℕ) (budget : Budget) where
   abbrev pub short : Bool

@@ -25,7 +25,7 @@ use Rattle.reading.proofs.ScanAnswers as E
 use Rattle.reading.proofs.Counted.{scan-is}
 use Rattle.reading.proofs.States.{header-readable}
 use Rattle.reading.proofs.Judgement.{scanBehind, foundIn}
-use Rattle.jpeg_admission.proofs.Admitted.{Goes}
+use Rattle.jpeg_price.proofs.Admitted.{Goes}
 
 -- the answer behind the tests before the scan, and behind the scan
 abbrev answer : List ℕ → Judged Record → Inspection

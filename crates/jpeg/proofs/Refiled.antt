@@ -23,11 +23,11 @@ use Rattle.reading.proofs.FileBytes.{AllBytes}
 use Rattle.reading.proofs.Accepted as H
 use Rattle.reading.proofs.Counted.{scan-is}
 use Rattle.reading.proofs.States.{header-readable}
-use Rattle.jpeg_rewrite.specs.Refiled.{remade, refiledBy, refiled}
-use Rattle.jpeg_rewrite.proofs.Refiling.{refiled-is}
+use Rattle.jpeg_settle.specs.Refiled.{remade, refiledBy, refiled}
+use Rattle.jpeg_settle.proofs.Refiling.{refiled-is}
 use Rattle.reading.proofs.Judgement.{scanBehind}
 use Rattle.reading.proofs.SettledCalls.{fileOf}
-use Rattle.jpeg_admission.proofs.Admitted.{Goes}
+use Rattle.jpeg_price.proofs.Admitted.{Goes}
 
 -- ---- the settled scan of a record that the header gave
 

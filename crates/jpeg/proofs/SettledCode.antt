@@ -26,7 +26,7 @@ use Rattle.reading.proofs.FileBytes.{all-bytes}
 use Rattle.reading.proofs.Theorems.{settle-nine}
 use Rattle.reading.proofs.Judgement.{inspect-accepts}
 use Rattle.reading.proofs.SettledCalls.{SettledBy, settled-by, settledBytes, bytes-are, bytes-settled, settled-reads, settled-again, settled-decodes, one-picture-one-file}
-use Rattle.jpeg_rewrite.specs.Refiled.{remade}
+use Rattle.jpeg_settle.specs.Refiled.{remade}
 use Rattle.jpeg.specs.Steps as steps
 
 -- a call of settle that answered Accepted, and the buffer as it left it

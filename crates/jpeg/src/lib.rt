@@ -5,7 +5,7 @@ ghost use Rattle.reading.specs.Tests.{_or_};
 ghost use Rattle.reading.specs.declared.Verdict.the-variants.{Refused};
 ghost use Rattle.reading.specs.Calls.{inspect, decode, settle};
 ghost use Rattle.jpeg.specs.Meets.{Meets};
-ghost use Rattle.jpeg_rewrite.specs.Refiled.{remade};
+ghost use Rattle.jpeg_settle.specs.Refiled.{remade};
 ghost use Rattle.jpeg.specs.Steps.{drawnAs, leaving};
 use reading::Budget;
 use reading::Decoding;
@@ -21,14 +21,14 @@ use reading::Verdict;
 pub fn inspect(s: &[u8], colour: bool, limits: Limits, budget: Budget) -> Inspection
     ensures { λ r. ⌜ r ≡ inspect (now (s .entry)) colour limits budget ⌝ }
 {
-    let seen = jpeg_admission::admit(s, colour, limits, budget);
+    let seen = jpeg_price::admit(s, colour, limits, budget);
     let verdict = seen.verdict;
     let rest = seen.budget;
     let found = seen.found;
     match verdict {
-        Verdict::Refused(x) => jpeg_admission::refused(x, rest),
+        Verdict::Refused(x) => jpeg_price::refused(x, rest),
         Verdict::Accepted => match jpeg_scan::validate(s, found) {
-            ScanRead::Stop(f) => jpeg_admission::refused(Refusal::Scan(f), rest),
+            ScanRead::Stop(f) => jpeg_price::refused(Refusal::Scan(f), rest),
             ScanRead::Done => Inspection {
                 verdict: Verdict::Accepted,
                 budget: rest,
@@ -70,7 +70,7 @@ fn draw(
     requires { ⌜ Meets (now s) read found (now out) (now scratch) ⌝ }
     ensures { λ r. ⌜ leaving r (now (out .exit)) (now (scratch .exit)) ≡ drawnAs (now (s .entry)) read found (now (out .entry)) (now (scratch .entry)) rest ⌝ }
 {
-    if !jpeg_equal::same(read, found) {
+    if !jpeg_record::same(read, found) {
         return undecoded(Refusal::NotItsRecord, rest);
     }
     match jpeg_scan::draw(s, found, scratch) {
@@ -100,10 +100,10 @@ pub fn decode(
         return undecoded(Refusal::ShortRoom, budget);
     }
     let n = s.len();
-    if jpeg_admission::past_counting(n) {
+    if jpeg_price::past_counting(n) {
         return undecoded(Refusal::OverBudget, budget);
     }
-    let price = jpeg_admission::header_price(n);
+    let price = jpeg_price::header_price(n);
     if !budget.covers(price) {
         return undecoded(Refusal::OverBudget, budget);
     }
@@ -127,12 +127,12 @@ pub fn decode(
 pub fn settle(s: &[u8], limits: Limits, budget: Budget, out: &mut [u8]) -> Settling
     ensures { λ r. ⌜ remade r (now (out .exit)) ≡ settle (now (s .entry)) limits budget (now (out .entry)) ⌝ }
 {
-    let seen = jpeg_admission::admit(s, false, limits, budget);
+    let seen = jpeg_price::admit(s, false, limits, budget);
     let verdict = seen.verdict;
     let rest = seen.budget;
     let found = seen.found;
     match verdict {
-        Verdict::Refused(x) => jpeg_rewrite::unsettled(x, rest, 0),
-        Verdict::Accepted => jpeg_rewrite::file(s, found, rest, out),
+        Verdict::Refused(x) => jpeg_settle::unsettled(x, rest, 0),
+        Verdict::Accepted => jpeg_settle::file(s, found, rest, out),
     }
 }

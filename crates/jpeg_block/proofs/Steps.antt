@@ -27,7 +27,7 @@ use Rattle.jpeg_block.specs.declared.Asked.{Asked}
 use Rattle.jpeg_block.specs.declared.Asked.the-variants as asked
 use Rattle.jpeg_block.specs.declared.StepRead.{StepRead}
 use Rattle.jpeg_block.specs.Step.{askAt, askedFor, Step, ends, skips, puts, stepRead, levelAt, valueAt, stepFor, stepped}
-use Rattle.jpeg_value.proofs.Meanings.{amplitude-short, Meant, amplitude-meant}
+use Rattle.jpeg_block_value.proofs.Meanings.{amplitude-short, Meant, amplitude-meant}
 
 -- ---- what a symbol can ask for at a place
 

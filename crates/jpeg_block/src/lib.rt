@@ -74,14 +74,14 @@ fn value(s: &[u8], b: Bits, at: usize, size: usize, pred: i32) -> StepRead
     requires { ⌜ size ≤ 11 ⌝ }
     ensures { λ r. ⌜ stepRead r ≡ valueAt (one (now (s .entry))) at size pred b ⌝ }
 {
-    match jpeg_value::amplitude(s, b, size) {
+    match jpeg_block_value::amplitude(s, b, size) {
         AmplitudeRead::Stop(f) => StepRead::Stop(f),
         AmplitudeRead::Got(v, q) => {
             if at != 0 {
                 return StepRead::Put(at, v as i16, q);
             }
             let sum = pred as i64 + v as i64;
-            if jpeg_value::predictable(sum) {
+            if jpeg_block_value::predictable(sum) {
                 return StepRead::Put(at, sum as i16, q);
             }
             StepRead::Stop(Fault::Broken)

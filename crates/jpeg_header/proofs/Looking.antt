@@ -19,11 +19,11 @@ use Rattle.reading.proofs.Stages.{refuse-go, refuse-yes}
 use Rattle.reading.proofs.HeaderEnds.{left, opens-two}
 use Rattle.reading.proofs.FileBytes.{AllBytes}
 use Rattle.jpeg_header.specs.Steps.{goesOn}
-use Rattle.jpeg_state.specs.declared.Progress.{Progress}
-use Rattle.jpeg_state.specs.declared.Progress.the-variants.{More, Done, Stop}
-use Rattle.jpeg_state.specs.declared.Stepped.{Stepped}
-use Rattle.jpeg_state.specs.Segments.{stepped}
-use Rattle.jpeg_state.proofs.Segments.{stage-more, stage-done, stage-stop}
+use Rattle.jpeg_header_state.specs.declared.Progress.{Progress}
+use Rattle.jpeg_header_state.specs.declared.Progress.the-variants.{More, Done, Stop}
+use Rattle.jpeg_header_state.specs.declared.Stepped.{Stepped}
+use Rattle.jpeg_header_state.specs.Segments.{stepped}
+use Rattle.jpeg_header_state.proofs.Segments.{stage-more, stage-done, stage-stop}
 use Rattle.jpeg_header.proofs.Run.{Running, run-start, run-more, run-down}
 
 -- ---- stages are apart

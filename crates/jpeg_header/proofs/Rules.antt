@@ -16,9 +16,9 @@ use Rattle.reading.specs.Tests.{_or_, within}
 use Rattle.reading.specs.Header.{Stage, more, stop, stop-if, byte, word, moved, window, kindOf, segment, segmentEnd, marker}
 use Rattle.reading.proofs.Stages.{refuse-yes, refuse-go, chosen-or}
 use Rattle.reading.proofs.HeaderEnds.{segment-room}
-use Rattle.jpeg_state.specs.declared.Stepped.{Stepped}
-use Rattle.jpeg_state.specs.Segments.{stepped}
-use Rattle.jpeg_state.proofs.Rules.{cond-yes, cond-no}
+use Rattle.jpeg_header_state.specs.declared.Stepped.{Stepped}
+use Rattle.jpeg_header_state.specs.Segments.{stepped}
+use Rattle.jpeg_header_state.proofs.Rules.{cond-yes, cond-no}
 use Rattle.jpeg_header.specs.declared.Segment.{Segment}
 use Rattle.jpeg_header.specs.Steps.{cutAt, cutShort, segmentAt}
 

@@ -9,8 +9,8 @@ use Rattle.reading.specs.declared.Case.the-variants.{Marker, Quantizers, Huffma
 use Rattle.reading.specs.declared.Header.{Header}
 use Rattle.reading.specs.Tests.{_or_}
 use Rattle.reading.specs.Header.{word, segmentEnd}
-use Rattle.jpeg_state.specs.declared.Progress.{Progress}
-use Rattle.jpeg_state.specs.declared.Progress.the-variants.{More, Done, Stop}
+use Rattle.jpeg_header_state.specs.declared.Progress.{Progress}
+use Rattle.jpeg_header_state.specs.declared.Progress.the-variants.{More, Done, Stop}
 use Rattle.jpeg_header.specs.declared.Segment.{Segment}
 
 -- the header goes on

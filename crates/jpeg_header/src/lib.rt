@@ -1,5 +1,5 @@
 // From SOI to SOS: the marker segments before the coded bytes give a record, or a refusal. A state goes from step to step by value;
-// the case in it says what is read next, a marker or the tables of a segment; jpeg_state has what each segment makes of it. Each
+// the case in it says what is read next, a marker or the tables of a segment; jpeg_header_state has what each segment makes of it. Each
 // function equals the definition that its contract names. The steps need no allowance: what is left of the file falls with each, and
 // the proof of `header` says so.
 ghost use mathlib.Core.Path.{_≡_};
@@ -12,10 +12,10 @@ ghost use Rattle.reading.specs.Code.Heads.{headed};
 ghost use Rattle.reading.specs.Comments.{textAt, atComment, comments, sought};
 ghost use Rattle.reading.proofs.Frames.{Framed};
 ghost use Rattle.reading.proofs.HeaderEnds.{Room};
-ghost use Rattle.jpeg_state.specs.Segments.{stepped};
+ghost use Rattle.jpeg_header_state.specs.Segments.{stepped};
 ghost use Rattle.jpeg_header.specs.Steps.{goesOn, Inside, cutShort, segmentAt};
-use jpeg_state::Progress;
-use jpeg_state::Stepped;
+use jpeg_header_state::Progress;
+use jpeg_header_state::Stepped;
 use reading::Case;
 use reading::Head;
 use reading::Header;
@@ -64,7 +64,7 @@ fn segment_at(s: &[u8], at: usize) -> Segment
     if s.len() - at < 4 {
         return Segment::cut_short(); // no room for a length
     }
-    let size = jpeg_segments::word_at(s, at + 2);
+    let size = jpeg_header_rules::word_at(s, at + 2);
     if size < 2 {
         return Segment::cut_short(); // a length that leaves itself out
     }
@@ -98,12 +98,17 @@ fn marker(s: &[u8], colour: bool, state: Header) -> Stepped
     let end = segment.end;
     let body = &s[from..end];
     match code {
-        192..=193 => segment.unless_cut(jpeg_state::frame(body, state, end)),
-        196 => segment.unless_cut(jpeg_state::tables(state, from, end, Case::Huffman(end))),
+        192..=193 => segment.unless_cut(jpeg_header_state::frame(body, state, end)),
+        196 => segment.unless_cut(jpeg_header_state::tables(state, from, end, Case::Huffman(end))),
         217 => Stepped::stop(Refusal::Malformed), // the end, wherever it stands
-        218 => segment.unless_cut(jpeg_state::scan(body, colour, state, end)),
-        219 => segment.unless_cut(jpeg_state::tables(state, from, end, Case::Quantizers(end))),
-        221 => segment.unless_cut(jpeg_state::interval(body, state, end)),
+        218 => segment.unless_cut(jpeg_header_state::scan(body, colour, state, end)),
+        219 => segment.unless_cut(jpeg_header_state::tables(
+            state,
+            from,
+            end,
+            Case::Quantizers(end),
+        )),
+        221 => segment.unless_cut(jpeg_header_state::interval(body, state, end)),
         224..=239 | 254 => segment.unless_cut(Stepped::more(state.moved(end, Case::Marker))),
         255 => Stepped::more(state.moved(at + 1, Case::Marker)), // fill
         _ => segment.unless_cut(Stepped::stop(Refusal::Unsupported)),
@@ -118,8 +123,8 @@ fn step(s: &[u8], colour: bool, state: Header) -> Stepped
     let case = state.case;
     match case {
         Case::Marker => marker(s, colour, state),
-        Case::Quantizers(end) => jpeg_state::quantizer(&s[at..end], state, end),
-        Case::Huffman(end) => jpeg_state::huffman(&s[at..end], state, end),
+        Case::Quantizers(end) => jpeg_header_state::quantizer(&s[at..end], state, end),
+        Case::Huffman(end) => jpeg_header_state::huffman(&s[at..end], state, end),
     }
 }
 
@@ -189,7 +194,7 @@ fn at_comment(s: &[u8], state: Header) -> bool
     let at = state.at;
     let case = state.case;
     match case {
-        Case::Marker => jpeg_segments::byte_at(s, at + 1) == 254,
+        Case::Marker => jpeg_header_rules::byte_at(s, at + 1) == 254,
         Case::Quantizers(_) => false,
         Case::Huffman(_) => false,
     }
@@ -200,7 +205,7 @@ fn text_at(s: &[u8], at: usize) -> Part
     requires { ⌜ Room (now s) at ⌝ }
     ensures { λ r. ⌜ r ≡ textAt (now (s .entry)) at ⌝ }
 {
-    let size = jpeg_segments::word_at(s, at + 2);
+    let size = jpeg_header_rules::word_at(s, at + 2);
     Part {
         at: at + 4,
         length: size - 2,

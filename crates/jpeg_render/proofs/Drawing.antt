@@ -12,8 +12,8 @@ use lib.ListN.{length, getD, set, drop, length-drop, length-append, List·getD-a
 use lib.Seq.{getD-append-add, getD-drop, ext-getD}
 use Rattle.whole.specs.Lists.{listOf, length-from, getD-from}
 use Rattle.reading.specs.Tests.{over}
-use Rattle.jpeg_run.specs.Drawn.{written, pixels}
-use Rattle.jpeg_run.proofs.Drawing.{length-written, written-in, written-behind, written-cong, written-join}
+use Rattle.jpeg_render_row.specs.Drawn.{written, pixels}
+use Rattle.jpeg_render_row.proofs.Drawing.{length-written, written-in, written-behind, written-cong, written-join}
 use Rattle.jpeg_render.specs.Drawn.{rows}
 
 -- a list from its first place on is what was written, and then the old tail

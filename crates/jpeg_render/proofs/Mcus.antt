@@ -9,10 +9,10 @@ use lib.Dec.{eqb}
 use lib.ListN.{getD, length, take, drop, length-drop}
 use lib.Seq.{length-take-le}
 use Rattle.reading.specs.Tests.{_and_}
-use Rattle.jpeg_run.specs.Drawn.{pixels}
-use Rattle.jpeg_run.proofs.Drawing.{pixels-same}
-use Rattle.jpeg_tint.specs.Tinted.{tinted}
-use Rattle.jpeg_tint.proofs.Paired.{tinted-in-part}
+use Rattle.jpeg_render_row.specs.Drawn.{pixels}
+use Rattle.jpeg_render_row.proofs.Drawing.{pixels-same}
+use Rattle.jpeg_render_pairs.specs.Tinted.{tinted}
+use Rattle.jpeg_render_pairs.proofs.Paired.{tinted-in-part}
 use Rattle.jpeg_render.specs.Rows.{RunsFit, ColourFits, McuFits, inRuns, inMcu, Spread, Gathered}
 use Rattle.jpeg_render.proofs.Shades.{and-true, and-false, gray-in-mcu, runs-in-mcu, pairs-in-mcu}
 

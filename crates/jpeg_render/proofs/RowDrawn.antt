@@ -9,8 +9,8 @@ use lib.ListN.{length}
 use Rattle.reading.specs.declared.Record.{Record}
 use Rattle.reading.specs.Tests.{_and_, over}
 use Rattle.reading.specs.Reading.{pixel, picture}
-use Rattle.jpeg_run.specs.Drawn.{pixels}
-use Rattle.jpeg_run.proofs.Drawing.{length-pixels, DrawnTo, drawn-none, drawn-more}
+use Rattle.jpeg_render_row.specs.Drawn.{pixels}
+use Rattle.jpeg_render_row.proofs.Drawing.{length-pixels, DrawnTo, drawn-none, drawn-more}
 use Rattle.jpeg_render.specs.Drawn.{rows}
 use Rattle.jpeg_render.specs.Rows.{Drawable, McuFits, perOf, lumaOfRow, chromaOfRow, inMcu}
 use Rattle.jpeg_render.proofs.Drawing.{no-rows, row-more, rows-over}

@@ -15,7 +15,7 @@ use Rattle.reading.specs.Tests.{_and_}
 use Rattle.reading.specs.Layout.{ceiling, sampleAt}
 use Rattle.reading.specs.Tables.{shapeIn}
 use Rattle.reading.specs.Reading.{pixel}
-use Rattle.jpeg_run.specs.Runs.{three, shown}
+use Rattle.jpeg_render_row.specs.Runs.{three, shown}
 use Rattle.jpeg_render.specs.Rows.{Sized, Drawable, perOf, blocksAbove, lumaOfRow, chromaOfRow, lumaAt, inMcu}
 use Rattle.jpeg_render.proofs.Shades.{and-false, shown-one, shown-cong}
 use Rattle.reading.proofs.SamplePlaces.{first-channel-place, chroma-place, mcu-below, mod-eight, block-below, chroma-below}

@@ -7,8 +7,8 @@ use native.Mathlib.Omega.{arith}
 use lib.ListN.{getD, take, drop}
 use lib.Seq.{getD-take, getD-drop}
 use Rattle.reading.specs.Tests.{_and_}
-use Rattle.jpeg_run.specs.Runs.{three, shown, inRun}
-use Rattle.jpeg_tint.specs.Tinted.{inPairs}
+use Rattle.jpeg_render_row.specs.Runs.{three, shown, inRun}
+use Rattle.jpeg_render_pairs.specs.Tinted.{inPairs}
 use Rattle.jpeg_render.specs.Rows.{lumaAt, inRuns, inMcu, Spread, Gathered}
 
 pub and-true : (b : Bool) → b and true ≡ b

@@ -7,8 +7,8 @@ use native.Mathlib.Omega.{arith}
 use native.Mathlib.Decide.{decLt}
 use lib.Arith.{digits-div}
 use lib.ListN.{getD, length}
-use Rattle.jpeg_run.specs.Drawn.{written}
-use Rattle.jpeg_run.proofs.Drawing.{length-written, written-in, written-before}
+use Rattle.jpeg_render_row.specs.Drawn.{written}
+use Rattle.jpeg_render_row.proofs.Drawing.{length-written, written-in, written-before}
 use Rattle.jpeg_render.specs.Rows.{Spread, Gathered, lumaAt}
 
 pub record SpreadTo (s : List ℕ) (b hs j : ℕ) (u : List ℕ) : Type 0 where

@@ -1,7 +1,7 @@
 -- A buffer with a picture written into it, row by row.
 use Prim.Native.Nat.{ℕ, zero, suc, _*_}
 use mathlib.Core.List.{List}
-use Rattle.jpeg_run.specs.Drawn.{pixels}
+use Rattle.jpeg_render_row.specs.Drawn.{pixels}
 
 -- n rows of `width` pixels written from the first place on: p y x c is channel c of pixel (x, y)
 unfoldable pub rows : (ℕ → ℕ → ℕ → ℕ) → ℕ → ℕ → ℕ → List ℕ → List ℕ

@@ -9,7 +9,7 @@ use lib.ListN.{getD, length}
 use Rattle.reading.specs.declared.Record.{Record}
 use Rattle.reading.specs.Layout.{ceiling, blockCount}
 use Rattle.reading.specs.Tables.{shapeIn}
-use Rattle.jpeg_run.specs.Runs.{three, shown}
+use Rattle.jpeg_render_row.specs.Runs.{three, shown}
 
 -- the frame's numbers
 pub record Sized (r : Record) : Type 0 where

@@ -12,7 +12,7 @@ ghost use lib.Dec.{eqb};
 ghost use lib.ListN.{length, getD};
 ghost use Rattle.reading.specs.Tests.{_and_, over};
 ghost use Rattle.reading.specs.Reading.{pixel, picture};
-ghost use Rattle.jpeg_run.specs.Drawn.{written, pixels};
+ghost use Rattle.jpeg_render_row.specs.Drawn.{written, pixels};
 ghost use Rattle.jpeg_render.specs.Rows.{Drawable, RunsFit, ColourFits, McuFits, inRuns, inMcu, Spread, Gathered};
 
 // The smaller of two numbers.
@@ -95,7 +95,7 @@ fn runs(
     let mut gathered = [0u8; 32];
     gather(samples, luma, n, &mut gathered);
     let e = at + n * 3;
-    jpeg_run::run(&gathered, cb, cr, n, colour, &mut out[at..e]);
+    jpeg_render_row::run(&gathered, cb, cr, n, colour, &mut out[at..e]);
 }
 
 // An MCU of three channels in one row, sampling 1 across. This and the next are two functions, and not one with a choice in it: so
@@ -152,7 +152,7 @@ fn coloured_2(samples: &[u8], luma: usize, chroma: usize, n: usize, out: &mut [u
     let first_end = chroma + 8;
     let second_end = second + 8;
     let e = at + n * 3;
-    jpeg_tint::tinted(
+    jpeg_render_pairs::tinted(
         &gathered,
         &samples[chroma..first_end],
         &samples[second..second_end],

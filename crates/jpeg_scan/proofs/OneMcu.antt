@@ -20,10 +20,10 @@ use Rattle.reading.specs.Code.Places.{places}
 use Rattle.reading.specs.Code.Answers.{said, levelsOf}
 use Rattle.reading.specs.Code.Painted.{samplesTo}
 use Rattle.reading.specs.Scan as scan
-use Rattle.jpeg_plan.specs.declared.Plan.{Plan}
-use Rattle.jpeg_plan.specs.Plans.{chan, Stands}
+use Rattle.jpeg_scan_plan.specs.declared.Plan.{Plan}
+use Rattle.jpeg_scan_plan.specs.Plans.{chan, Stands}
 use Rattle.jpeg_scan.specs.Steps.{ahead, resumed, before, placed, inked, Passed}
-use Rattle.jpeg_plan.proofs.Standing.{chan-below}
+use Rattle.jpeg_scan_plan.proofs.Standing.{chan-below}
 use Rattle.jpeg_scan.proofs.Onward.{before-none, before-before, before-fault, ahead-none, resumed-none, inside, channel-here, blockAt, past, block-stop, block-next, block-reach}
 use Rattle.jpeg_scan.proofs.Samples.{inked-not, inked-none, inked-more, inked-one, painted-length}
 

@@ -27,12 +27,12 @@ use Rattle.reading.specs.Code.Answers.{said, levelsOf}
 use Rattle.reading.specs.Scan as scan
 use Rattle.reading.proofs.Readings.{onward-same}
 use Rattle.reading.proofs.BlockAnswers.{Taken, told}
-use Rattle.jpeg_plan.specs.declared.Plan.{Plan}
-use Rattle.jpeg_plan.specs.declared.Halt.{Halt}
-use Rattle.jpeg_plan.specs.declared.Halt.the-variants.{No, Yes}
-use Rattle.jpeg_plan.specs.declared.CursorRead.{CursorRead}
-use Rattle.jpeg_plan.specs.Plans.{chan, Stands}
-use Rattle.jpeg_plan.specs.Restart.{marked, onTo, behindMarker, restarted}
+use Rattle.jpeg_scan_plan.specs.declared.Plan.{Plan}
+use Rattle.jpeg_scan_plan.specs.declared.Halt.{Halt}
+use Rattle.jpeg_scan_plan.specs.declared.Halt.the-variants.{No, Yes}
+use Rattle.jpeg_scan_plan.specs.declared.CursorRead.{CursorRead}
+use Rattle.jpeg_scan_plan.specs.Plans.{chan, Stands}
+use Rattle.jpeg_scan_plan.specs.Restart.{marked, onTo, behindMarker, restarted}
 use Rattle.jpeg_scan.specs.Steps.{begun, ahead, resumed, before}
 
 -- ---- blocks put before a reading

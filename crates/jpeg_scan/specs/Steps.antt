@@ -16,11 +16,11 @@ use Rattle.reading.specs.Layout.{channelOf}
 use Rattle.reading.specs.Scan as scan
 use Rattle.reading.specs.Code.Scans.{scanOf}
 use Rattle.reading.specs.Reading.{dequantized, blockSamples, allSamples}
-use Rattle.jpeg_plan.specs.declared.Plan.{Plan}
-use Rattle.jpeg_plan.specs.declared.Halt.{Halt}
-use Rattle.jpeg_plan.specs.declared.Halt.the-variants.{No, Yes}
-use Rattle.jpeg_plan.specs.declared.CursorRead.{CursorRead}
-use Rattle.jpeg_plan.specs.Plans.{Stands}
+use Rattle.jpeg_scan_plan.specs.declared.Plan.{Plan}
+use Rattle.jpeg_scan_plan.specs.declared.Halt.{Halt}
+use Rattle.jpeg_scan_plan.specs.declared.Halt.the-variants.{No, Yes}
+use Rattle.jpeg_scan_plan.specs.declared.CursorRead.{CursorRead}
+use Rattle.jpeg_scan_plan.specs.Plans.{Stands}
 
 -- ---- the blocks from a cursor on
 

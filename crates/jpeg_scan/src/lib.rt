@@ -8,9 +8,9 @@ ghost use Rattle.reading.specs.Code.Painted.{samplesTo, drawn};
 ghost use Rattle.reading.specs.Code.Scans.{scanOf};
 ghost use Rattle.reading.specs.Code.Answers.{scanRead};
 ghost use Rattle.jpeg_scan.specs.Steps.{placed, Went, Left};
-use jpeg_plan::CursorRead;
-use jpeg_plan::Halt;
-use jpeg_plan::Plan;
+use jpeg_scan_plan::CursorRead;
+use jpeg_scan_plan::Halt;
+use jpeg_scan_plan::Plan;
 use reading::BlockRead;
 use reading::Fault;
 use reading::Record;
@@ -37,7 +37,7 @@ fn paint(
     let e = a + 64;
     jpeg_transform::samples(
         levels,
-        jpeg_plan::quantizer(t, at),
+        jpeg_scan_plan::quantizer(t, at),
         reach,
         &mut scratch[a..e],
     );
@@ -65,7 +65,7 @@ fn mcu(s: &[u8], plan: Plan, from: ScanCursor, write: bool, scratch: &mut [u8]) 
         if plan.blocks <= done {
             break 'walk Halt::No;
         }
-        let c = jpeg_plan::channel(j, plan.lumas);
+        let c = jpeg_scan_plan::channel(j, plan.lumas);
         let dc = dcs[c];
         let ac = acs[c];
         let prediction = predictors[c];
@@ -107,12 +107,12 @@ fn run(s: &[u8], found: Record, write: bool, scratch: &mut [u8]) -> ScanRead
     let mut m = 0usize;
     'mcus: loop {
         if blocks <= cursor.done {
-            if jpeg_plan::at_end(s, cursor.bits) {
+            if jpeg_scan_plan::at_end(s, cursor.bits) {
                 break 'mcus ScanRead::Done;
             }
             break 'mcus ScanRead::Stop(Fault::Broken);
         }
-        let a = jpeg_plan::restart(s, cursor, m, interval);
+        let a = jpeg_scan_plan::restart(s, cursor, m, interval);
         let h = a.halt;
         match h {
             Halt::Yes(f) => {

@@ -10,8 +10,8 @@ use Rattle.reading.specs.declared.Limits.{Limits}
 use Rattle.reading.specs.declared.Refusal.{Refusal}
 use Rattle.reading.specs.declared.Verdict.the-variants.{Accepted, Refused}
 use Rattle.reading.specs.Calls.{inspect, Decoded, decode}
-use Rattle.streams.specs.declared.Answer.{Answer}
-use Rattle.streams.specs.Answers.{ownLimits, ample, refusing}
+use Rattle.tillsparrow_streams.specs.declared.Answer.{Answer}
+use Rattle.tillsparrow_streams.specs.Answers.{ownLimits, ample, refusing}
 use Rattle.tillsparrow.specs.Answer.{leaving, reply, drawn, viewed, answered}
 
 module _ (s out scratch : List ℕ) {l : Limits} {b : Budget} {seen : Inspection} (own : l ≡ ownLimits) (full : b ≡ ample) (e : seen ≡ inspect s true l b) where

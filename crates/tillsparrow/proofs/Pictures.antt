@@ -13,8 +13,8 @@ use Rattle.reading.specs.declared.Verdict.the-variants.{Accepted, Refused}
 use Rattle.reading.specs.Calls.{inspect, Decoded, decode}
 use Rattle.reading.specs.Words.{Enough}
 use Rattle.reading.proofs.Theorems.{inspect-accepts, inspected-decodes}
-use Rattle.streams.specs.Lines.{lineOf, pictureHead}
-use Rattle.streams.specs.Answers.{ownLimits, ample, refusing}
+use Rattle.tillsparrow_streams.specs.Lines.{lineOf, pictureHead}
+use Rattle.tillsparrow_streams.specs.Answers.{ownLimits, ample, refusing}
 use Rattle.tillsparrow.specs.Answer.{Answered, leaving, reply, drawn, viewed, answered}
 
 module _ (s out scratch : List ℕ) where

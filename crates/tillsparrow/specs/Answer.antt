@@ -7,9 +7,9 @@ use Rattle.reading.specs.declared.Verdict.{Verdict}
 use Rattle.reading.specs.declared.Verdict.the-variants.{Accepted, Refused}
 use Rattle.reading.specs.declared.Inspection.{Inspection}
 use Rattle.reading.specs.Calls.{inspect, Decoded, decode}
-use Rattle.streams.specs.declared.Answer.{Answer}
-use Rattle.streams.specs.Lines.{lineOf, pictureHead}
-use Rattle.streams.specs.Answers.{ownLimits, ample, refusing}
+use Rattle.tillsparrow_streams.specs.declared.Answer.{Answer}
+use Rattle.tillsparrow_streams.specs.Lines.{lineOf, pictureHead}
+use Rattle.tillsparrow_streams.specs.Answers.{ownLimits, ample, refusing}
 
 -- the answer with the two buffers
 pub record Answered : Type 0 where

@@ -7,7 +7,7 @@ use Rattle.reading.specs.Calls.{inspect, decode, eqList}
 use Rattle.reading.specs.Layout.{blockCount, outputLength, workOf}
 use Rattle.reading.specs.Transform.{coefficients, samples, clamped}
 use Rattle.reading.specs.Tests.{_and_}
-use Rattle.streams.specs.Lines.{digitsIn, refused, pictureHead}
+use Rattle.tillsparrow_streams.specs.Lines.{digitsIn, refused, pictureHead}
 use Rattle.tillsparrow.specs.Answer.{Answered, answered}
 
 -- what is written: the line, and the bytes that follow it

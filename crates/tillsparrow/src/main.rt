@@ -7,8 +7,8 @@ use reading::Budget;
 use reading::Limits;
 use reading::Record;
 use reading::Verdict;
-use streams::Answer;
-use streams::Filled;
+use tillsparrow_streams::Answer;
+use tillsparrow_streams::Filled;
 
 // The picture of a record behind its head, or the refusal.
 fn reply(found: Record, verdict: Verdict) -> Answer
@@ -17,7 +17,7 @@ fn reply(found: Record, verdict: Verdict) -> Answer
     match verdict {
         Verdict::Refused(x) => Answer::refused(x),
         Verdict::Accepted => {
-            let head = streams::picture_head(found);
+            let head = tillsparrow_streams::picture_head(found);
             Answer {
                 line: head,
                 follow: found.output,
@@ -30,7 +30,12 @@ fn reply(found: Record, verdict: Verdict) -> Answer
 fn convert(s: &[u8], output: &mut [u8], scratch: &mut [u8]) -> Answer
     ensures { λ r. ⌜ leaving r (now (output .exit)) (now (scratch .exit)) ≡ answered (now (s .entry)) (now (output .entry)) (now (scratch .entry)) ⌝ }
 {
-    let inspection = jpeg::inspect(s, true, streams::limits(), Budget::fresh(u64::MAX));
+    let inspection = jpeg::inspect(
+        s,
+        true,
+        tillsparrow_streams::limits(),
+        Budget::fresh(u64::MAX),
+    );
     let seen = inspection.verdict;
     let found = inspection.found;
     match seen {
@@ -51,19 +56,19 @@ fn answer(buffer: &[u8], n: usize) -> bool {
         return false;
     }
     let made = convert(&buffer[..n], &mut output, &mut scratch);
-    streams::write(made, &output)
+    tillsparrow_streams::write(made, &output)
 }
 
 // One byte more than the input limit is looked at, so that a longer file is seen to be longer.
 fn main() {
     let mut input = [0u8; Limits::BUFFER + 1];
-    match streams::fill(&mut input) {
+    match tillsparrow_streams::fill(&mut input) {
         Filled::Failed => {
-            io::write_all(STDERR_FILENO, &streams::UNREAD);
+            io::write_all(STDERR_FILENO, &tillsparrow_streams::UNREAD);
         }
         Filled::Bytes(n) => {
             if !answer(&input, n) {
-                io::write_all(STDERR_FILENO, &streams::UNWRITTEN);
+                io::write_all(STDERR_FILENO, &tillsparrow_streams::UNWRITTEN);
             }
         }
     }

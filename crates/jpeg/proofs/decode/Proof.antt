@@ -10,7 +10,7 @@ use Rattle.reading.specs.Judging.{remaining}
 use Rattle.reading.specs.Calls.{headerPrice}
 use Rattle.reading.proofs.Judgement.{paid-twice}
 use Rattle.jpeg.specs.Steps.{leaving, drawnAs}
-use Rattle.jpeg_admission.proofs.Admitted.{price-fits, poor, rich, done-found, stop-verdict}
+use Rattle.jpeg_price.proofs.Admitted.{price-fits, poor, rich, done-found, stop-verdict}
 use Rattle.jpeg.proofs.Decodes.{roomy-out, roomy-scratch, decode-room, decode-poor, decode-head, decode-drawn}
 use borrow.Author.Needs.{needs}
 use Rattle.jpeg.proofs.decode.Statement.{statement}

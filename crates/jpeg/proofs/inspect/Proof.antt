@@ -1,7 +1,7 @@
 use mathlib.Core.Path.{_∙_}
 use native.Mathlib.Omega.{arith}
 use Rattle.reading.proofs.FileBytes.{all-bytes}
-use Rattle.jpeg_admission.proofs.Admitted.{stops, goes}
+use Rattle.jpeg_price.proofs.Admitted.{stops, goes}
 use Rattle.jpeg.proofs.Inspected.{inspect-stops, inspect-fault, inspect-done}
 use borrow.Author.Needs.{needs}
 use Rattle.jpeg.proofs.inspect.Statement.{statement}

@@ -2,7 +2,7 @@ use mathlib.Core.Path.{_∙_}
 use mathlib.Core.Bool.{false}
 use native.Mathlib.Omega.{arith}
 use Rattle.reading.proofs.FileBytes.{all-bytes}
-use Rattle.jpeg_admission.proofs.Admitted.{stops, goes}
+use Rattle.jpeg_price.proofs.Admitted.{stops, goes}
 use Rattle.jpeg.proofs.Refiled.{settle-stops, settle-goes}
 use borrow.Author.Needs.{needs}
 use Rattle.jpeg.proofs.settle.Statement.{statement}

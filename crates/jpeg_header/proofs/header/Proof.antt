@@ -9,7 +9,7 @@ use Rattle.reading.proofs.FileBytes.{AllBytes, all-bytes}
 use borrow.Author.Tests.{not-true, not-false}
 use Rattle.reading.proofs.HeaderEnds.{opens-two}
 use Rattle.jpeg_header.proofs.Run.{Running, run-start, run-closed, run-more, run-down, run-done, run-stop, run-inside}
-use Rattle.jpeg_state.proofs.Segments.{stage-more, stage-done, stage-stop}
+use Rattle.jpeg_header_state.proofs.Segments.{stage-more, stage-done, stage-stop}
 use borrow.Author.Needs.{needs}
 use Rattle.jpeg_header.proofs.header.Statement.{statement}
 use Rattle.jpeg_header.proofs.header.Tie as tie

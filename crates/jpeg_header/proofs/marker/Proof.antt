@@ -10,9 +10,9 @@ use Rattle.reading.specs.declared.Kind.{Kind}
 use Rattle.reading.specs.declared.Kind.the-variants.{Quants, Tables, Frames, Scans, Intervals, Skips, Others}
 use Rattle.reading.specs.declared.Header.{Header}
 use Rattle.reading.specs.Header.{Stage, more, stop, byte, moved, window, segment, marker}
-use Rattle.jpeg_state.specs.declared.Stepped.{Stepped}
-use Rattle.jpeg_state.specs.Segments.{stepped}
-use Rattle.jpeg_state.proofs.Segments.{behind-framed}
+use Rattle.jpeg_header_state.specs.declared.Stepped.{Stepped}
+use Rattle.jpeg_header_state.specs.Segments.{stepped}
+use Rattle.jpeg_header_state.proofs.Segments.{behind-framed}
 use Rattle.jpeg_header.specs.declared.Segment.{Segment}
 use Rattle.jpeg_header.proofs.Rules.{Asks, asks-one, asks-frames, asks-skips, asks-others, segment-inside}
 use Rattle.jpeg_header.proofs.Rules.{marker-short, marker-first, marker-fill, marker-end, marker-segment}

@@ -6,8 +6,8 @@ use Rattle.reading.specs.Header.{window, stepIn}
 use Rattle.jpeg_header.specs.Steps.{InsideCase}
 use Rattle.jpeg_header.proofs.Run.{window-room}
 use borrow.Author.Needs.{needs}
-use Rattle.jpeg_state.specs.Segments.{stepped}
-use Rattle.jpeg_state.proofs.Segments.{in-segment}
+use Rattle.jpeg_header_state.specs.Segments.{stepped}
+use Rattle.jpeg_header_state.proofs.Segments.{in-segment}
 use Rattle.jpeg_header.proofs.step.Statement.{statement}
 use Rattle.jpeg_header.proofs.step.Tie as tie
 

@@ -13,9 +13,9 @@ use Rattle.reading.specs.declared.ScanCursor.{ScanCursor}
 use Rattle.reading.specs.Reader.{Read}
 use Rattle.reading.specs.Scan.{planOf}
 use Rattle.reading.specs.Code.Scans.{atStart}
-use Rattle.jpeg_plan.specs.declared.Plan.{Plan}
+use Rattle.jpeg_scan_plan.specs.declared.Plan.{Plan}
 use Rattle.jpeg_scan.specs.Steps.{ahead}
-use Rattle.jpeg_plan.proofs.Standing.{Ready, ready, unready}
+use Rattle.jpeg_scan_plan.proofs.Standing.{Ready, ready, unready}
 use Rattle.jpeg_scan.proofs.AllMcus.{Walk, begin, all-read, unchanged, at-mcu, stopped, broken, gained, further}
 use Rattle.reading.proofs.ScanAnswers.{answer-done, answer-stop}
 use Rattle.jpeg_scan.proofs.Ends.{scan-stop, scan-done, scan-open, left-done, left-stop}

@@ -1,7 +1,7 @@
 use Prim.Native.Nat.{ℕ}
 use mathlib.Core.Path.{sym, ap, _∙_}
-use Rattle.streams.specs.declared.Answer.{Answer}
-use Rattle.streams.specs.declared.Line.{Line}
+use Rattle.tillsparrow_streams.specs.declared.Answer.{Answer}
+use Rattle.tillsparrow_streams.specs.declared.Line.{Line}
 use Rattle.tillsparrow.specs.Answer.{reply}
 use borrow.Author.Needs.{needs}
 use Rattle.tillsparrow.proofs.reply.Statement.{statement}

@@ -1,8 +1,8 @@
 use mathlib.Core.Path.{_∙_}
 use Rattle.reading.specs.declared.Refusal.the-variants.{CutShort}
 use Rattle.reading.specs.Header.{stop}
-use Rattle.jpeg_state.specs.Segments.{stepped}
-use Rattle.jpeg_state.proofs.Rules.{cond-yes, cond-no}
+use Rattle.jpeg_header_state.specs.Segments.{stepped}
+use Rattle.jpeg_header_state.proofs.Rules.{cond-yes, cond-no}
 use Rattle.jpeg_header.proofs.Segment.unless_cut.Statement.{statement}
 use Rattle.jpeg_header.proofs.Segment.unless_cut.Tie as tie
 

@@ -4,7 +4,7 @@ use mathlib.Core.Path.{ap, _∙_}
 use native.Mathlib.Omega.{arith}
 use borrow.Author.Needs.{needs}
 use lib.ListN.{length}
-use Rattle.jpeg_run.proofs.Drawing.{length-pixels}
+use Rattle.jpeg_render_row.proofs.Drawing.{length-pixels}
 use Rattle.jpeg_render.proofs.Mcus.{pairs-mcu}
 use Rattle.jpeg_render.proofs.render.coloured_2.Statement.{statement}
 use Rattle.jpeg_render.proofs.render.coloured_2.Tie as tie

@@ -3,8 +3,8 @@ use Prim.Native.Nat.{_+_, _-_, _≤_}
 use mathlib.Core.Path.{_≡_, refl, ap, _∙_}
 use native.Mathlib.Omega.{arith}
 use lib.ListN.{length, getD, set, length-set}
-use Rattle.jpeg_run.specs.Drawn.{written}
-use Rattle.jpeg_run.proofs.Drawing.{written-next}
+use Rattle.jpeg_render_row.specs.Drawn.{written}
+use Rattle.jpeg_render_row.proofs.Drawing.{written-next}
 use Rattle.jpeg_render.proofs.render.gather_8.Statement.{statement}
 use Rattle.jpeg_render.proofs.render.gather_8.Tie as tie
 

@@ -2,7 +2,7 @@
 use Prim.Native.Nat.{_+_, _-_}
 use native.Mathlib.Omega.{arith}
 use lib.ListN.{getD}
-use Rattle.jpeg_run.proofs.Drawing.{DrawnTo, drawn-none, drawn-next, drawn-all}
+use Rattle.jpeg_render_row.proofs.Drawing.{DrawnTo, drawn-none, drawn-next, drawn-all}
 use Rattle.jpeg_render.proofs.Drawing.{one-channel}
 use Rattle.jpeg_render.proofs.render.gray.Statement.{statement}
 use Rattle.jpeg_render.proofs.render.gray.Tie as tie

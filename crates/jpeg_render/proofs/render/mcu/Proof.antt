@@ -2,7 +2,7 @@
 use mathlib.Core.Path.{refl, ap, _∙_}
 use borrow.Author.Tests.{eqb-true}
 use lib.ListN.{length}
-use Rattle.jpeg_run.proofs.Drawing.{length-pixels}
+use Rattle.jpeg_render_row.proofs.Drawing.{length-pixels}
 use Rattle.jpeg_render.proofs.Mcus.{gray-fits, gray-mcu, colour-fits, colour-mcu}
 use Rattle.jpeg_render.proofs.render.mcu.Statement.{statement}
 use Rattle.jpeg_render.proofs.render.mcu.Tie as tie

@@ -2,7 +2,7 @@
 use mathlib.Core.Path.{refl, ap, _∙_}
 use native.Mathlib.Omega.{arith}
 use lib.ListN.{length}
-use Rattle.jpeg_run.proofs.Drawing.{length-pixels}
+use Rattle.jpeg_render_row.proofs.Drawing.{length-pixels}
 use Rattle.jpeg_render.proofs.Mcus.{runs-fit, spread-mcu}
 use Rattle.jpeg_render.proofs.render.mcu_wide.Statement.{statement}
 use Rattle.jpeg_render.proofs.render.mcu_wide.Tie as tie

@@ -4,7 +4,7 @@ use Prim.Native.Nat.{_*_, _-_, _≤_}
 use mathlib.Core.Path.{ap}
 use native.Mathlib.Omega.{arith}
 use native.Mathlib.Nat.{mul-le-mul, mul-le-mul-right}
-use Rattle.jpeg_run.proofs.Drawing.{drawn-all}
+use Rattle.jpeg_render_row.proofs.Drawing.{drawn-all}
 use Rattle.jpeg_render.proofs.RowPlaces.{channels-in, per-most, row-room}
 use Rattle.jpeg_render.proofs.RowDrawn.{RowTo, row-none, luma-most, chroma-counted, next-fits, row-next}
 use Rattle.jpeg_render.proofs.render.row.Statement.{statement}

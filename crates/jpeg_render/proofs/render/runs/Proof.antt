@@ -5,8 +5,8 @@ use mathlib.Core.Path.{refl, ap, _∙_}
 use native.Mathlib.Omega.{arith}
 use borrow.Author.Needs.{needs}
 use lib.ListN.{length}
-use Rattle.jpeg_run.proofs.Drawing.{length-pixels, pixels-same}
-use Rattle.jpeg_run.proofs.Running.{run-in-part}
+use Rattle.jpeg_render_row.proofs.Drawing.{length-pixels, pixels-same}
+use Rattle.jpeg_render_row.proofs.Running.{run-in-part}
 use Rattle.jpeg_render.proofs.Shades.{run-in-runs}
 use Rattle.jpeg_render.proofs.render.runs.Statement.{statement}
 use Rattle.jpeg_render.proofs.render.runs.Tie as tie

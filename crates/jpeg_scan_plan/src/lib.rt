@@ -1,0 +1,260 @@
+// The numbers that a scan is read by, and what stands between its blocks (the rules' 'MCUs, restarts, end'): the channel of a block, the
+// restart before an MCU, the end. Every reader of a scan goes by these; none of them reads a block.
+ghost use mathlib.Core.Path.{_≡_};
+ghost use lib.ListN.{getD, take, drop};
+ghost use Rattle.reading.specs.Tests.{within};
+ghost use Rattle.reading.specs.Bits.{padded, ended};
+ghost use Rattle.reading.specs.Layout.{dueBefore, restartBefore};
+ghost use Rattle.reading.specs.Tables.{chosen};
+ghost use Rattle.reading.specs.Code.Scans.{readable};
+ghost use Rattle.jpeg_scan_plan.specs.Plans.{three, noPlan, planFor, chan};
+ghost use Rattle.jpeg_scan_plan.specs.Restart.{marked, restarted};
+use reading::Bits;
+use reading::Fault;
+use reading::Record;
+use reading::ScanCursor;
+
+// The numbers that a scan is read by, gathered once from the record: the first coded byte, where each channel's tables stand, how
+// many blocks of an MCU are the first channel's, how many an MCU has, the restart interval, and how many blocks there are.
+pub struct Plan {
+    pub start: usize,
+    pub dcs: [usize; 3],
+    pub acs: [usize; 3],
+    pub quants: [usize; 3],
+    pub lumas: usize,
+    pub per: usize,
+    pub interval: usize,
+    pub blocks: usize,
+}
+
+// Whether a scan can be read on.
+pub enum Halt {
+    No,
+    Yes(Fault),
+}
+
+// What reading on in a scan answers: the cursor behind what was read, or a fault.
+pub struct CursorRead {
+    pub halt: Halt,
+    pub cursor: ScanCursor,
+}
+
+fn within(low: usize, high: usize, n: usize) -> bool
+    ensures { λ r. ⌜ r ≡ within low high n ⌝ }
+{
+    if low <= n {
+        return n <= high;
+    }
+    false
+}
+
+// Whether a record has numbers by which a scan can be read: every record that a header gives has.
+fn readable(s: &[u8], found: Record) -> bool
+    ensures { λ r. ⌜ r ≡ readable (now (s .entry)) found ⌝ }
+{
+    if s.len() < found.start {
+        return false;
+    }
+    if !within(1, 4, found.hs) {
+        return false;
+    }
+    if !within(1, 4, found.vs) {
+        return false;
+    }
+    within(1, 3, found.channels)
+}
+
+// The place of the table with an id; 0 where there is none.
+fn place_of(places: [usize; 4], id: usize) -> usize
+    ensures { λ r. ⌜ r ≡ getD places id 0 ⌝ }
+{
+    if id < 4 {
+        return places[id];
+    }
+    0
+}
+
+// The place of each channel's table.
+fn chosen(places: [usize; 4], ids: [usize; 3]) -> [usize; 3]
+    ensures { λ r. ⌜ r ≡ three (chosen places ids) ⌝ }
+{
+    let a = place_of(places, ids[0]);
+    let b = place_of(places, ids[1]);
+    let c = place_of(places, ids[2]);
+    [a, b, c]
+}
+
+impl Plan {
+    // the plan of no scan: an MCU of no blocks
+    fn none() -> Self
+        ensures { λ r. ⌜ r ≡ noPlan ⌝ }
+    {
+        Self {
+            start: 0,
+            dcs: [0; 3],
+            acs: [0; 3],
+            quants: [0; 3],
+            lumas: 0,
+            per: 0,
+            interval: 0,
+            blocks: 0,
+        }
+    }
+
+    // the plan of a record's scan; where the record has numbers by which no scan can be read, the plan of none
+    pub fn of(s: &[u8], found: Record) -> Self
+        ensures { λ r. ⌜ r ≡ planFor (now (s .entry)) found ⌝ }
+    {
+        if !readable(s, found) {
+            return Self::none();
+        }
+        let dc_places = found.dcs;
+        let dc_ids = found.dcids;
+        let ac_places = found.acs;
+        let ac_ids = found.acids;
+        let places = found.quants;
+        let ids = found.qids;
+        let dcs = chosen(dc_places, dc_ids);
+        let acs = chosen(ac_places, ac_ids);
+        let quants = chosen(places, ids);
+        let lumas = found.hs * found.vs;
+        let per = lumas + (found.channels - 1);
+        Self {
+            start: found.start,
+            dcs: dcs,
+            acs: acs,
+            quants: quants,
+            lumas: lumas,
+            per: per,
+            interval: found.interval,
+            blocks: found.blocks,
+        }
+    }
+}
+
+// The channel of block j of an MCU: hs x vs first-channel blocks, then one per chroma channel.
+pub fn channel(j: usize, lumas: usize) -> usize
+    ensures { λ r. ⌜ r ≡ chan lumas j ⌝ }
+{
+    if j < lumas {
+        return 0;
+    }
+    if j == lumas {
+        return 1;
+    }
+    2
+}
+
+// The unread bits of the current byte are all ones.
+fn full(byte: u8, left: u8) -> bool
+    ensures { λ r. ⌜ r ≡ padded (record { at = 0; byte = byte; left = left }) ⌝ }
+{
+    if 8 < left {
+        return false;
+    }
+    let p = 1usize << (left as usize);
+    byte as usize % p == p - 1
+}
+
+// Padding, then 255 and a code.
+fn at_marker(s: &[u8], b: Bits, code: usize) -> bool
+    ensures { λ r. ⌜ r ≡ marked (now (s .entry)) b code ⌝ }
+{
+    let at = b.at;
+    if !full(b.byte, b.left) {
+        return false;
+    }
+    if s.len() <= at {
+        return false;
+    }
+    if s[at] != 255 {
+        return false;
+    }
+    if s.len() - at < 2 {
+        return false;
+    }
+    s[at + 1] as usize == code
+}
+
+// After the last block: padding, and 255 217 as the last two bytes.
+pub fn at_end(s: &[u8], b: Bits) -> bool
+    ensures { λ r. ⌜ r ≡ ended (now (s .entry)) b ⌝ }
+{
+    let at = b.at;
+    if !at_marker(s, b, 217) {
+        return false;
+    }
+    s.len() - at == 2
+}
+
+// A restart is due before MCU m > 0 with m a multiple of the interval; 0 is none.
+pub fn restart_due(m: usize, interval: usize) -> bool
+    ensures { λ r. ⌜ r ≡ dueBefore interval m ⌝ }
+{
+    if m == 0 {
+        return false;
+    }
+    if interval == 0 {
+        return false;
+    }
+    m % interval == 0
+}
+
+// The code of the restart marker before MCU m.
+pub fn restart_code(m: usize, interval: usize) -> usize
+    ensures { λ r. ⌜ r ≡ restartBefore interval m ⌝ }
+{
+    if m < interval {
+        return 208;
+    }
+    if interval == 0 {
+        return 208;
+    }
+    208 + (m / interval - 1) % 8
+}
+
+// Before MCU m: where a restart is due, padding and its marker, and the predictors become 0.
+pub fn restart(s: &[u8], from: ScanCursor, m: usize, interval: usize) -> CursorRead
+    ensures { λ r. ⌜ r ≡ restarted (now (s .entry)) interval m from ⌝ }
+{
+    if !restart_due(m, interval) {
+        return CursorRead {
+            halt: Halt::No,
+            cursor: from,
+        };
+    }
+    let bits = from.bits;
+    let at = bits.at;
+    if !at_marker(s, bits, restart_code(m, interval)) {
+        return CursorRead {
+            halt: Halt::Yes(Fault::Broken),
+            cursor: from,
+        };
+    }
+    CursorRead {
+        halt: Halt::No,
+        cursor: ScanCursor {
+            bits: Bits {
+                at: at + 2,
+                byte: 0,
+                left: 0,
+            },
+            predictors: [0; 3],
+            done: from.done,
+        },
+    }
+}
+
+// The quantizer at a place: its 64 bytes, or those that there are.
+pub fn quantizer(t: &[u8], at: usize) -> &[u8]
+    ensures { λ r. ⌜ now r ≡ take 64 (drop at (now (t .entry))) ⌝ }
+{
+    if t.len() <= at {
+        return &t[..0];
+    }
+    if t.len() - at < 64 {
+        return &t[at..];
+    }
+    let end = at + 64;
+    &t[at..end]
+}

@@ -1,0 +1,202 @@
+// Runs bench pieces of the rules through the public calls, and writes each with its answer: the
+// number, what is left of the budget, and where it says so more.
+use libc::STDOUT_FILENO;
+use reading::Budget;
+use reading::Limits;
+
+// frames: 8 x 8 and 16 x 8 in one channel, and 65,535 x 65,535 in three
+const ONE_BLOCK: [u8; 13] = *b"\xff\xc0\0\x0b\x08\0\x08\0\x08\x01\x01\x11\0";
+
+const TWO_BLOCKS: [u8; 13] = *b"\xff\xc0\0\x0b\x08\0\x08\0\x10\x01\x01\x11\0";
+
+const LARGEST: [u8; 19] = *b"\xff\xc0\0\x11\x08\xff\xff\xff\xff\x03\x01\x11\0\x02\x11\0\x03\x11\0";
+
+// DC tables: one code; two, which both mean 0; the codes 0, 10 and 110 for the categories 11, 1 and 2
+const DC: [u8; 22] = *b"\xff\xc4\0\x14\0\x01\0\0\0\0\0\0\0\0\0\0\0\0\0\0\0\0";
+
+const TWO_ZEROS: [u8; 23] = *b"\xff\xc4\0\x15\0\x01\x01\0\0\0\0\0\0\0\0\0\0\0\0\0\0\0\0";
+
+const CATEGORIES: [u8; 24] = *b"\xff\xc4\0\x16\0\x01\x01\x01\0\0\0\0\0\0\0\0\0\0\0\0\0\x0b\x01\x02";
+
+// AC tables: one code, for the end of a block; the codes 0 for the end and 10 for a run of 16 zeros
+const AC: [u8; 22] = *b"\xff\xc4\0\x14\x10\x01\0\0\0\0\0\0\0\0\0\0\0\0\0\0\0\0";
+
+const RUNS: [u8; 23] = *b"\xff\xc4\0\x15\x10\x01\x01\0\0\0\0\0\0\0\0\0\0\0\0\0\0\0\xf0";
+
+// heads of a scan: one channel and three
+const ONE_SCAN: [u8; 10] = *b"\xff\xda\0\x08\x01\x01\0\0\x3f\0";
+
+const THREE_SCAN: [u8; 14] = *b"\xff\xda\0\x0c\x03\x01\0\x02\0\x03\0\0\x3f\0";
+
+// A file into a buffer of ones: the start, a quantizer of 64 ones, which stand there already, the frame, the two tables, the scan's
+// head, its coded bytes and the end.
+fn file(s: &mut [u8], frame: &[u8], dc: &[u8], ac: &[u8], scan: &[u8], coded: &[u8]) {
+    tillsparrow_streams::put(s, 0, b"\xff\xd8\xff\xdb\0\x43\0");
+    let first = tillsparrow_streams::put(s, 71, frame);
+    let second = tillsparrow_streams::put(s, first, dc);
+    let third = tillsparrow_streams::put(s, second, ac);
+    let data = tillsparrow_streams::put(s, third, scan);
+    let end = tillsparrow_streams::put(s, data, coded);
+    tillsparrow_streams::put(s, end, b"\xff\xd9");
+}
+
+// A file of one channel, 8 x 8.
+fn block(s: &mut [u8], dc: &[u8], ac: &[u8], coded: &[u8]) {
+    file(s, &ONE_BLOCK, dc, ac, &ONE_SCAN, coded);
+}
+
+fn end_line() {
+    io::write_all(STDOUT_FILENO, b"\n");
+}
+
+fn write_number(n: u64) {
+    io::write_all(STDOUT_FILENO, b" ");
+    io::print_decimal(STDOUT_FILENO, n);
+}
+
+// a piece's name, its number and what is left of the budget
+fn inspect(name: &[u8], s: &[u8], limits: Limits, budget: u64) {
+    let answer = jpeg::inspect(s, true, limits, Budget::fresh(budget));
+    let verdict = answer.verdict;
+    let left = answer.budget;
+    io::write_all(STDOUT_FILENO, name);
+    write_number(verdict.number() as u64);
+    write_number(left.left);
+    end_line();
+}
+
+// the numbers of a record: blocks, scratch, output, work
+fn header(name: &[u8], s: &[u8]) {
+    let answer = jpeg_header::header(s, true);
+    let verdict = answer.verdict;
+    let found = answer.found;
+    io::write_all(STDOUT_FILENO, name);
+    write_number(verdict.number() as u64);
+    write_number(found.blocks as u64);
+    write_number(found.scratch as u64);
+    write_number(found.output as u64);
+    write_number(found.work);
+    end_line();
+}
+
+fn largest(s: &[u8]) {
+    header(b"largest picture, header", s);
+    inspect(
+        b"largest picture, limits",
+        s,
+        tillsparrow_streams::limits(),
+        u64::MAX,
+    );
+    inspect(
+        b"largest picture, budget 302",
+        s,
+        tillsparrow_streams::no_limits(),
+        302,
+    );
+    inspect(
+        b"largest picture, budget 303",
+        s,
+        tillsparrow_streams::no_limits(),
+        303,
+    );
+    inspect(
+        b"largest picture, one short of work",
+        s,
+        tillsparrow_streams::no_limits(),
+        644244701489,
+    );
+    inspect(
+        b"largest picture, work",
+        s,
+        tillsparrow_streams::no_limits(),
+        644244701490,
+    );
+}
+
+// a piece's name, its number, what is left of the budget, the settled length, and the byte at a place of the buffer
+fn settle(name: &[u8], s: &[u8], at: usize) {
+    let mut out = [0u8; 150];
+    let answer = jpeg::settle(
+        s,
+        tillsparrow_streams::limits(),
+        Budget::fresh(10000),
+        &mut out,
+    );
+    let verdict = answer.verdict;
+    let left = answer.budget;
+    io::write_all(STDOUT_FILENO, name);
+    write_number(verdict.number() as u64);
+    write_number(left.left);
+    write_number(answer.length as u64);
+    if at < out.len() {
+        write_number(tillsparrow_streams::wide(out[at]));
+    }
+    end_line();
+}
+
+// the settled pieces: the coded byte is 63 in each that is accepted, and nothing is written of the one that is refused
+fn settled() {
+    let mut one = [1u8; 141];
+    block(&mut one, &DC, &AC, b"\x3f");
+    settle(b"P1, byte 63", &one, 138);
+    let mut runs = [1u8; 142];
+    block(&mut runs, &DC, &RUNS, b"\x4f");
+    settle(b"P2, byte 79", &runs, 139);
+    block(&mut runs, &DC, &RUNS, b"\x54");
+    settle(b"P3, byte 84", &runs, 139);
+    let mut fourth = [1u8; 143];
+    block(&mut fourth, &DC, &RUNS, b"\x55\x7f");
+    settle(b"P4, a fourth run", &fourth, 139);
+    let mut twice = [1u8; 142];
+    block(&mut twice, &TWO_ZEROS, &AC, b"\x9f");
+    settle(b"P5, byte 159", &twice, 139);
+    settle(b"P5, the first byte", &twice, 0);
+    settle(b"P5, the last byte", &twice, 141);
+    settle(b"P5, the byte behind", &twice, 142);
+}
+
+fn main() {
+    let mut f = [1u8; 141];
+    block(&mut f, &DC, &AC, b"\x3f");
+    inspect(b"F at 3483", &f, tillsparrow_streams::limits(), 3483);
+    inspect(b"F at 3482", &f, tillsparrow_streams::limits(), 3482);
+    inspect(b"F at 283", &f, tillsparrow_streams::limits(), 283);
+    inspect(b"F at 282", &f, tillsparrow_streams::limits(), 282);
+    header(b"F, header", &f);
+    let none = [0u8; 0];
+    inspect(b"empty at 0", &none, tillsparrow_streams::limits(), 0);
+    inspect(b"empty at 1", &none, tillsparrow_streams::limits(), 1);
+    let mut falling = [1u8; 145];
+    file(
+        &mut falling,
+        &TWO_BLOCKS,
+        &CATEGORIES,
+        &AC,
+        &ONE_SCAN,
+        b"\0\x04\x7f",
+    );
+    inspect(
+        b"prediction -2048",
+        &falling,
+        tillsparrow_streams::limits(),
+        10000,
+    );
+    file(
+        &mut falling,
+        &TWO_BLOCKS,
+        &CATEGORIES,
+        &AC,
+        &ONE_SCAN,
+        b"\0\x06\x5f",
+    );
+    inspect(
+        b"prediction -2049",
+        &falling,
+        tillsparrow_streams::limits(),
+        10000,
+    );
+    let mut s = [1u8; 151];
+    file(&mut s, &LARGEST, &DC, &AC, &THREE_SCAN, b"\x3f");
+    largest(&s);
+    settled();
+}
