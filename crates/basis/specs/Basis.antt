@@ -1,4 +1,4 @@
--- The 64 numbers by which the transform weighs its inputs (the rules' 'Samples').
+-- The 64 numbers by which the transform weighs its inputs (the rules' 'Samples, places, colour').
 use Prim.Native.Nat.{ℕ}
 use mathlib.Core.List.{List, [], _∷_}
 use lib.ListN.{getD}

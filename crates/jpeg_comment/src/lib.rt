@@ -1,4 +1,5 @@
-// Camera notes: the text of a comment segment before the scan as a part of the caller's own bytes, and whether it is there.
+// Comments (the rules' 'Camera notes'): the text of a comment segment before the scan as a part of the caller's own bytes, and whether
+// it is there.
 ghost use mathlib.Core.Path.{_≡_};
 ghost use mathlib.Core.Bool.{false};
 ghost use lib.Dec.{ltb};

@@ -1,7 +1,7 @@
-// From SOI to SOS: the marker segments before the coded bytes give a record, or a refusal. A state goes from step to step by value;
-// the case in it says what is read next, a marker or the tables of a segment; jpeg_header_state has what each segment makes of it. Each
-// function equals the definition that its contract names. The steps need no allowance: what is left of the file falls with each, and
-// the proof of `header` says so.
+// The header (the rules' 'From SOI to SOS'): the marker segments before the coded bytes give a record, or a refusal. A state goes from
+// step to step by value; the case in it says what is read next, a marker or the tables of a segment; jpeg_header_state has what each
+// segment makes of it. Each function equals the definition that its contract names. The steps need no allowance: what is left of the
+// file falls with each, and the proof of `header` says so.
 ghost use mathlib.Core.Path.{_≡_};
 ghost use mathlib.Core.Bool.{cond};
 ghost use Prim.Native.Nat.{_≤_};

@@ -1,6 +1,6 @@
-// The rules on the body of a marker segment, before any state: each is a test, or a value that a body gives. A body is the bytes
-// behind the segment's length; behind its end every byte counts as 0, here as in the definitions, so a reader asks for no length.
-// The steps from SOI to SOS stand on these.
+// What is asked of the body of a marker segment (the rules' 'From SOI to SOS'), before any state: each is a test, or a value that a
+// body gives. A body is the bytes behind the segment's length; behind its end every byte counts as 0, here as in the definitions, so a
+// reader asks for no length. The header's steps stand on these.
 ghost use mathlib.Core.Path.{_≡_};
 ghost use mathlib.Core.Bool.{cond};
 ghost use mathlib.Core.List.{[], _∷_};

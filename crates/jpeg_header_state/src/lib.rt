@@ -1,6 +1,6 @@
-// What each segment before the coded bytes makes of the header's state: a table more, the frame, the restart interval, or the record
-// where the scan is met; or a refusal. Any state may come in: the tests that a state of the header itself always passes are made here,
-// once a segment or a table, so that no place and no size wraps.
+// What each segment before the coded bytes makes of the header's state (the rules' 'From SOI to SOS'): a table more, the frame, the
+// restart interval, or the record where the scan is met; or a refusal. Any state may come in: the tests that a state of the header
+// itself always passes are made here, once a segment or a table, so that no place and no size wraps.
 ghost use mathlib.Core.Path.{_≡_};
 ghost use mathlib.Core.Bool.{true};
 ghost use Prim.Native.Nat.{_+_, _≤_, _<_};

@@ -1,4 +1,4 @@
-// Whether two records are equal in every field: what number 8 turns on.
+// Whether two records are equal in every field: what number 8 turns on (the rules' 'Refusal numbers').
 ghost use mathlib.Core.Path.{_≡_};
 ghost use Rattle.reading.specs.Calls.{eqList, same, sameFrame, sameIds, sameTables, sameSizes};
 use reading::Record;

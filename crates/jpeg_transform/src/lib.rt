@@ -1,6 +1,7 @@
-// From the levels of one block to its 64 samples (the rules' 'Samples'): coefficients in natural order, the double sum over the basis
-// in two passes, each line in an even and an odd half, and the clamp. A level is an `i16` and a quantizer's entry a byte, so a
-// coefficient lies within 2^23 and, each pass adding at most 17 bits, every sum within 2^58: `i64` holds them for every input.
+// From the levels of one block to its 64 samples (the rules' 'Samples, places, colour'): coefficients in natural order, the double sum
+// over the basis in two passes, each line in an even and an odd half, and the clamp. A level is an `i16` and a quantizer's entry a
+// byte, so a coefficient lies within 2^23 and, each pass adding at most 17 bits, every sum within 2^58: `i64` holds them for every
+// input.
 ghost use mathlib.Core.Path.{_≡_};
 ghost use mathlib.Core.List.{[], _∷_};
 ghost use Prim.Native.Nat.{_+_, _≤_, _<_, _^_};

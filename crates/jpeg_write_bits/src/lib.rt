@@ -1,6 +1,6 @@
-// Bits into bytes: a pen puts codes and their fields, pads its last byte with ones and puts markers. It carries the rules' part on
-// the bytes of a settled scan. A byte is stored where the lent buffer has room and is counted in any case, so that one path both
-// measures and writes.
+// Bits into the bytes of a settled scan (the rules' 'The settled scan'): a pen puts codes and their fields, pads its last byte with
+// ones and puts markers. A byte is stored where the lent buffer has room and is counted in any case, so that one path both measures
+// and writes.
 ghost use mathlib.Core.Path.{_≡_};
 ghost use mathlib.Core.List.{[], _∷_};
 ghost use Prim.Native.Nat.{_≤_, _^_};

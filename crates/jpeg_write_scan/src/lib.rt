@@ -1,6 +1,5 @@
-// A record's scan, read and written settled: blocks, restarts and the end, and the pass over a whole scan. It carries the rules'
-// part on the settled scan. A pen stores a byte where the lent buffer has room and counts it in any case, so that one path both
-// measures and writes.
+// A record's scan, read and written settled (the rules' 'The settled scan'): blocks, restarts and the end, and the pass over a whole
+// scan. A pen stores a byte where the lent buffer has room and counts it in any case, so that one path both measures and writes.
 ghost use mathlib.Core.Path.{_≡_};
 ghost use mathlib.Core.Option.{some};
 ghost use Prim.Native.Nat.{_+_, _*_, _-_, _≤_, _<_, _^_};

@@ -1,4 +1,5 @@
-// What is written next of a block of levels: a symbol and a field behind it, by the zeros that wait and the level that ends them.
+// What is written next of a block of levels (the rules' 'The settled scan'): a symbol and a field behind it, by the zeros that wait
+// and the level that ends them.
 ghost use mathlib.Core.Path.{_≡_};
 ghost use Prim.Native.Nat.{_≤_, _<_, _^_};
 ghost use lib.IntN.{natAbs};

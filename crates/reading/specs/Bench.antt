@@ -1,4 +1,4 @@
--- The bench pieces of the rules, as one table that is computed: what is found, and what the rules say.
+-- Worked pieces (the rules' 'Bench pieces'), as one table that is computed: what is found, and what the rules say.
 use Prim.Native.Nat.{ℕ, _+_, _-_}
 use mathlib.Core.Bool.{Bool, true, false}
 use mathlib.Core.List.{List, [], _∷_, _++_}

@@ -1,4 +1,4 @@
--- What inspect, decode and settle answer: each is a list of tests and payments in the order of the rules ('Refusal numbers'), one a line.
+-- What inspect, decode and settle answer: each is a list of tests and payments in the order of the rules' 'Refusal numbers', one a line.
 use Prim.Native.Nat.{ℕ, _+_, _*_, _^_}
 use mathlib.Core.Bool.{Bool, true, false, not, cond}
 use mathlib.Core.List.{List, [], _∷_}

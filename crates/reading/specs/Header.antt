@@ -1,4 +1,4 @@
--- From SOI to SOS.
+-- The header (the rules' 'From SOI to SOS').
 use Prim.Native.Nat.{ℕ, zero, suc, _+_, _*_, _-_, _/_, _%_}
 use mathlib.Core.Bool.{Bool, true, false, not, cond}
 use mathlib.Core.List.{List, [], _∷_}

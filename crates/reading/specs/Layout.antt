@@ -1,5 +1,6 @@
 -- MCUs, blocks, restarts, and where each sample stands, stated over the sampling factors of each channel. The pictures that are
--- read today have the factors hs x vs and then 1 x 1 (`factorsOf`); the laws in proofs/Places say what that instance is.
+-- read today have the factors hs x vs and then 1 x 1 (`factorsOf`); the laws in proofs/Places and
+-- proofs/SamplePlaces say what that instance is.
 use Prim.Native.Nat.{ℕ, zero, suc, _+_, _*_, _-_, _/_, _%_, max}
 use mathlib.Core.Bool.{Bool, cond}
 use mathlib.Core.List.{List, [], _∷_}

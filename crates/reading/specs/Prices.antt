@@ -1,5 +1,5 @@
--- What each call takes from the budget, by its answer: the table of the rules. `none` stands for a refusal that the call never
--- gives. n is the file's length, and 2n+1 is `headerPrice`.
+-- What each call takes from the budget, by its answer: the table of the rules' 'Refusal numbers'. `none` stands for a refusal that the
+-- call never gives. n is the file's length, and 2n+1 is `headerPrice`.
 use Prim.Native.Nat.{ℕ, _+_}
 use mathlib.Core.Bool.{false}
 use mathlib.Core.List.{List}

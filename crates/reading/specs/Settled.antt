@@ -1,4 +1,4 @@
--- The settled scan.
+-- A scan settled (the rules' 'The settled scan').
 use Prim.Native.Nat.{ℕ, zero, suc, _+_, _*_, _-_, _/_, _%_, _^_}
 use mathlib.Core.Bool.{Bool, true, false, cond}
 use mathlib.Core.List.{List, [], _∷_, _++_}

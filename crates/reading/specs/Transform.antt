@@ -1,4 +1,4 @@
--- From levels to samples (the rules' 'Samples'): coefficients in natural order, the double sum over the basis, the clamp.
+-- From levels to samples (the rules' 'Samples, places, colour'): coefficients in natural order, the double sum over the basis, the clamp.
 use Prim.Native.Nat.{ℕ, _+_, _*_, _/_, _%_}
 use mathlib.Core.Bool.{cond}
 use mathlib.Core.List.{List, [], _∷_}
