@@ -1,5 +1,6 @@
-/* Answers the reference's cases (tests/reference/README.md) through the archive, a line for each case, so that the calls from C are
- * compared like the program `test_answers` is. */
+/* Answers a run of cases (tests/reference/README.md) through the archive, a line for each case, so that the calls from C are compared
+ * like the program `test_answers` is. tests/answers builds and runs it. Exit status: 0 where the input ended behind a case, 1 for a bad
+ * case, 2 where a stream failed. */
 #include "tillsparrow.h"
 
 #include <stdio.h>
@@ -86,6 +87,7 @@ static tillsparrow_record own_record(const struct request *r) {
     return tillsparrow_inspect(file, r->length, r->colour == 1, SIZE_MAX, SIZE_MAX, SIZE_MAX, UINT64_MAX).found;
 }
 
+/* False where the record that job 4 wants is cut, or has a colour that is none. */
 static bool answer(const struct request *r) {
     tillsparrow_record given;
     uint64_t list[NUMBERS];
@@ -96,11 +98,16 @@ static bool answer(const struct request *r) {
     case 3: settle(r); return true;
     default: break;
     }
-    if (!numbers(list, NUMBERS, &ended))
+    if (!numbers(list, NUMBERS, &ended) || list[NUMBERS - 1] > 1)
         return false;
     memcpy(&given, list, sizeof given);
     decode(r, given);
     return true;
+}
+
+/* A job that is known, and no number above the rooms that are here. */
+static bool sound(const struct request *r) {
+    return r->job >= 1 && r->job <= 4 && r->colour <= 1 && r->length <= MOST && r->room <= MOST && r->scratch_room <= MOST;
 }
 
 int main(void) {
@@ -109,14 +116,14 @@ int main(void) {
     bool ended;
     while (numbers(head, HEAD, &ended)) {
         memcpy(&request, head, sizeof request);
-        bool sound = request.job >= 1 && request.job <= 4 && request.colour <= 1 && request.length <= MOST && request.room <= MOST &&
-                     request.scratch_room <= MOST;
-        if (!sound || fread(file, 1, request.length, stdin) != request.length || !answer(&request)) {
-            printf("bad case\n");
-            return 1;
-        }
+        if (!sound(&request) || fread(file, 1, request.length, stdin) != request.length || !answer(&request))
+            break;
     }
     if (!ended)
         printf("bad case\n");
+    if (ferror(stdin) || fflush(stdout) != 0 || ferror(stdout)) {
+        fprintf(stderr, "answers: standard input or output failed\n");
+        return 2;
+    }
     return ended ? 0 : 1;
 }

@@ -1,6 +1,5 @@
 """The files that the tests for C run on, made here by libjpeg-turbo's tools and by hand; and the tools themselves."""
 import os
-import shutil
 import subprocess
 import sys
 
@@ -10,28 +9,18 @@ sys.path.insert(0, os.path.join(ROOT, "tests"))
 import expected  # noqa: E402
 import unsettled  # noqa: E402
 
-# tool: the Debian package that has it
-ENCODERS = {"cjpeg": "libjpeg-turbo-progs", "djpeg": "libjpeg-turbo-progs", "wrjpgcom": "libjpeg-turbo-progs"}
-COMPILERS = {"gcc": "gcc", "g++": "g++", "nm": "binutils", "pkg-config": "pkg-config"}
+# the distribution's packages that these tests use
+PACKAGES = ["libjpeg-turbo-progs", "gcc", "g++", "binutils", "pkg-config"]
 
 
 class Off(Exception):
     """What does not hold, as one line."""
 
 
-def need_tools(name, tools):
-    """The distribution's packages for these tools, installed where one is absent."""
-    missing = [tool for tool in tools if not shutil.which(tool)]
-    if not missing:
-        return
-    packages = sorted({tools[tool] for tool in missing})
-    print(f"{name}: installing {' '.join(packages)}", file=sys.stderr)
-    install = ["apt-get", "-qq", "-y", "-o", "DPkg::Lock::Timeout=300", "install", *packages]
-    for command in (["apt-get", "-qq", "update"], install):
-        subprocess.run(command, stdout=subprocess.DEVNULL, stderr=subprocess.DEVNULL, check=False)
-    missing = [tool for tool in tools if not shutil.which(tool)]
-    if missing:
-        raise Off(f"cannot be run without {', '.join(missing)} (packages {' '.join(packages)})")
+def need(*packages):
+    """The distribution's packages, installed where one is absent."""
+    if subprocess.run([os.path.join(ROOT, "scripts", "need"), *packages], check=False).returncode:
+        raise Off("cannot be run without what could not be installed")
 
 
 def run(command, data=b"", ok=(0,), env=None):

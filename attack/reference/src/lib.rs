@@ -60,7 +60,11 @@ fn told(answer: Answer, length: u64) -> Told {
 /// # Safety
 /// Every pointer points to as many bytes as its length says; `found` to 36 numbers.
 #[no_mangle]
-pub unsafe extern "C" fn reference_inspect(asked: &Asked, colour: u64, found: &mut [u64; NUMBERS]) -> Told {
+pub unsafe extern "C" fn reference_inspect(
+    asked: &Asked,
+    colour: u64,
+    found: &mut [u64; NUMBERS],
+) -> Told {
     let (answer, record) = calls::inspect(asked.file(), colour, &asked.limits(), asked.budget);
     *found = record.numbers();
     told(answer, 0)
@@ -86,7 +90,11 @@ pub unsafe extern "C" fn reference_decode(
 /// # Safety
 /// As `reference_inspect`.
 #[no_mangle]
-pub unsafe extern "C" fn reference_settle(asked: &Asked, output: *mut u8, output_length: usize) -> Told {
+pub unsafe extern "C" fn reference_settle(
+    asked: &Asked,
+    output: *mut u8,
+    output_length: usize,
+) -> Told {
     let output = from_raw_parts_mut(output, output_length);
     let (answer, length) = calls::settle(asked.file(), &asked.limits(), asked.budget, output);
     told(answer, length)

@@ -16,7 +16,12 @@ fn copied(pixels: Option<Vec<u8>>, output: *mut u8, room: usize) -> usize {
 /// # Safety
 /// `bytes` points to `length` bytes, `output` to `room` bytes.
 #[no_mangle]
-pub unsafe extern "C" fn crate_with_vectors(bytes: *const u8, length: usize, output: *mut u8, room: usize) -> usize {
+pub unsafe extern "C" fn crate_with_vectors(
+    bytes: *const u8,
+    length: usize,
+    output: *mut u8,
+    room: usize,
+) -> usize {
     let file = Cursor::new(slice::from_raw_parts(bytes, length));
     copied(decoder_with_vectors::Decoder::new(file).decode().ok(), output, room)
 }
@@ -24,7 +29,12 @@ pub unsafe extern "C" fn crate_with_vectors(bytes: *const u8, length: usize, out
 /// # Safety
 /// As `crate_with_vectors`.
 #[no_mangle]
-pub unsafe extern "C" fn crate_without_vectors(bytes: *const u8, length: usize, output: *mut u8, room: usize) -> usize {
+pub unsafe extern "C" fn crate_without_vectors(
+    bytes: *const u8,
+    length: usize,
+    output: *mut u8,
+    room: usize,
+) -> usize {
     let file = Cursor::new(slice::from_raw_parts(bytes, length));
     copied(decoder_without_vectors::Decoder::new(file).decode().ok(), output, room)
 }

@@ -1,5 +1,6 @@
 """Worked pieces of the rules on small files made by hand: records, prices and the order of refusals, all known in advance."""
 import dataclasses
+import pathlib
 import re
 import unittest
 
@@ -14,6 +15,10 @@ OWN = Record(width=8, height=8, channels=1, hs=1, vs=1, ids=(1, 0, 0), quants=(7
 
 
 class Rules(unittest.TestCase):
+    def test_the_version_is_that_of_the_repository(self):
+        told = pathlib.Path(__file__).resolve().parents[3] / "VERSION"
+        self.assertEqual(tillsparrow.__version__ + "\n", told.read_text(encoding="ascii"))
+
     def test_the_record_is_known(self):
         self.assertEqual(len(SMALL), 141)
         self.assertEqual(tillsparrow.inspect(SMALL, budget=3483), Inspected(OWN, 0))

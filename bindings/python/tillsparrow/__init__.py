@@ -10,9 +10,14 @@ The calls of the library are ``inspect``, ``decode``, ``settle``, ``comment`` an
 ``comments`` are built on them. What is refused raises ``Refused``, with the number of the refusal, its meaning and what is left of
 the budget; every lent buffer is then as it was. A wrong argument raises ``TypeError`` or ``ValueError`` before the library is called.
 """
+from pathlib import Path
+
 from ._calls import Decoded, Inspected, Presence, Settled, comment, decode, has_comment, inspect, settle
 from ._own import Picture, comments, read, settled
 from ._values import MEANINGS, MOST, NO_LIMITS, Limits, Record, Refused
+
+#: The version of the repository; the file is a link to its own.
+__version__ = Path(__file__).with_name("VERSION").read_text(encoding="ascii").strip()
 
 __all__ = [
     "Decoded", "Inspected", "Limits", "MEANINGS", "MOST", "NO_LIMITS", "Picture", "Presence", "Record", "Refused", "Settled",

@@ -271,7 +271,7 @@ fn cuts_of_f() {
     let whole = f();
     let ends = [2, 71, 84, 106, 128, 138];
     let four = |length: usize| {
-        length < 2 || length >= 138 || ends.iter().any(|&end| length == end || length == end + 1)
+        !(2..138).contains(&length) || ends.iter().any(|&end| length == end || length == end + 1)
     };
     for length in 0..141 {
         let wanted = if four(length) { 4 } else { 3 };

@@ -28,7 +28,7 @@ impl Random {
     pub fn between(&mut self, low: u64, high: u64) -> u64 {
         assert!(low <= high);
         let span = u128::from(high - low) + 1;
-        low + (u128::from(self.next()) * span >> 64) as u64
+        low + ((u128::from(self.next()) * span) >> 64) as u64
     }
 
     /// A number from 0 to `count` - 1.

@@ -124,11 +124,11 @@ mod tests {
             let block: [i64; 64] =
                 std::array::from_fn(|_| random.between(0, 2 * bound) as i64 - bound as i64);
             let quick = samples(&table, &block);
-            for place in 0..64 {
+            for (place, &seen) in quick.iter().enumerate() {
                 let (x, y) = (place % 8, place / 8);
                 let term = |at: usize| block[at] * table[x][at % 8] * table[y][at / 8];
                 let sum: i64 = (0..64).map(term).sum();
-                assert_eq!(quick[place], sample(sum + HALF));
+                assert_eq!(seen, sample(sum + HALF));
             }
         }
     }

@@ -87,10 +87,10 @@ fn every_number_comes_up_in_its_jobs() {
     let expected: [&[usize]; 5] =
         [&[], &[0, 1, 2, 3, 4, 5, 6], &[0, 2, 7, 8], &[0, 1, 2, 3, 4, 5, 6, 7, 9], &[0, 2, 7, 8]];
     for job in 1..5 {
-        for number in 0..10 {
+        for (number, &times) in seen[job].iter().enumerate() {
             let wanted = expected[job].contains(&number);
-            let enough = if wanted { seen[job][number] >= 50 } else { seen[job][number] == 0 };
-            assert!(enough, "job {job} number {number}: {}", seen[job][number]);
+            let enough = if wanted { times >= 50 } else { times == 0 };
+            assert!(enough, "job {job} number {number}: {times}");
         }
     }
 }
