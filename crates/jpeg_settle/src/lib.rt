@@ -74,7 +74,7 @@ pub fn file(s: &[u8], found: Record, rest: Budget, out: &mut [u8]) -> Settling
     }
     match scan(s, found, out) {
         ScanSettled::Stop(f) => unsettled(Refusal::Scan(f), rest, 0),
-        ScanSettled::NoCode => unsettled(Refusal::NoEndCode, rest, 0),
+        ScanSettled::Lacking => unsettled(Refusal::NoEndCode, rest, 0),
         ScanSettled::Done(n) => join(s, found.start, n, rest, out),
     }
 }
