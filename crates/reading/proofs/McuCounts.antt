@@ -67,3 +67,13 @@ module _ (hs vs channels : ℕ) where
 
   pub blocks-are : 1 ≤ hs → hs ≤ 4 → 1 ≤ vs → vs ≤ 4 → 1 ≤ channels → channels ≤ 3 → hs * vs + (channels - 1) ≡ blocksOf hs vs channels
   blocks-are a b c d e f = blocks-by-tests (between 1 4 hs a b) (between 1 4 vs c d) (between 1 3 channels e f)
+
+-- ---- a count that was asked for, in the rules' words
+
+module _ (side factor : ℕ) {n : ℕ} (e : n ≡ mcusOf side factor) where
+  pub mcus-asked : side ≤ 65535 → 1 ≤ factor → factor ≤ 4 → n ≡ ceiling side (8 * factor)
+  mcus-asked a b c = e ∙ sym (mcus-are side factor a b c)
+
+module _ (hs vs channels : ℕ) {n : ℕ} (e : n ≡ blocksOf hs vs channels) where
+  pub blocks-asked : 1 ≤ hs → hs ≤ 4 → 1 ≤ vs → vs ≤ 4 → 1 ≤ channels → channels ≤ 3 → n ≡ hs * vs + (channels - 1)
+  blocks-asked a b c d f g = e ∙ sym (blocks-are hs vs channels a b c d f g)
