@@ -1,6 +1,6 @@
 -- One turn of a walk over a list, over the counts of a table, and over the channels.
 use Prim.Native.Nat.{ℕ, zero, suc, _+_, _-_, _<_, _≤_}
-use mathlib.Core.Path.{_≡_, refl, sym}
+use mathlib.Core.Path.{_≡_, refl}
 use mathlib.Core.Bool.{Bool, true, false}
 use mathlib.Core.List.{List, [], _∷_}
 use native.Mathlib.Omega.{arith}
@@ -11,10 +11,7 @@ use Rattle.reading.specs.Tests.{all, allFrom}
 use Rattle.reading.specs.Huffman.{sum}
 use Rattle.reading.specs.Header.{byte, word, eachChannel}
 
--- ---- bytes behind the end
-
-pub byte-out : (b : List ℕ) (i : ℕ) → length b ≤ i → 0 ≡ byte b i
-byte-out b i h = sym (List·getD-eq-default b 0 h)
+-- ---- a word behind the end
 
 pub word-out : (b : List ℕ) (i : ℕ) → length b ≤ i → 0 ≡ word b i
 word-out b i h = let k : length b ≤ i + 1 = omega arith in rw (List·getD-eq-default b 0 h, List·getD-eq-default b 0 k)

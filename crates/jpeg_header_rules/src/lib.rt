@@ -6,29 +6,19 @@ ghost use mathlib.Core.Bool.{cond};
 ghost use mathlib.Core.List.{[], _∷_};
 ghost use lib.Dec.{ltb, eqb};
 ghost use lib.ListN.{getD};
-ghost use Rattle.reading.specs.Tests.{all, within};
+ghost use Rattle.reading.specs.Tests.{all};
 ghost use Rattle.reading.specs.Huffman.{sum};
 ghost use Rattle.reading.specs.Tables.{chosen};
 ghost use Rattle.reading.specs.Header.{byte, word, each, quantizerFits, countsOf, tableFits, frameKnown, frameOf, quantsFit, threeFit, frameFits, scanKnown, inOrder, selected, complete};
 use reading::Frame;
 use reading::Record;
 
-// ---- bytes and entries; 0 behind the end
-
-fn wide(x: u8) -> usize
-    ensures { λ r. ⌜ r ≡ x ⌝ }
-{
-    x as usize
-}
+// ---- bytes; 0 behind the end
 
 pub fn byte_at(body: &[u8], place: usize) -> usize
     ensures { λ r. ⌜ r ≡ byte (now (body .entry)) place ⌝ }
 {
-    if place < body.len() {
-        wide(body[place])
-    } else {
-        0
-    }
+    reading::byte_at(body, place) as usize
 }
 
 // two bytes, high byte first
@@ -42,12 +32,6 @@ pub fn word_at(body: &[u8], place: usize) -> usize
     } else {
         0
     }
-}
-
-fn entry_at(list: &[usize], place: usize) -> usize
-    ensures { λ r. ⌜ r ≡ getD (now (list .entry)) place 0 ⌝ }
-{
-    if place < list.len() { list[place] } else { 0 }
 }
 
 // ---- what a frame and a scan say of each channel
@@ -194,15 +178,6 @@ pub fn frame_of(body: &[u8]) -> Frame
     }
 }
 
-fn sampling_fits(n: usize) -> bool
-    ensures { λ r. ⌜ r ≡ within 1 4 n ⌝ }
-{
-    if n < 1 {
-        return false;
-    }
-    n <= 4
-}
-
 // quantizer ids 0..3, for every channel
 fn quants_fit(frame: Frame) -> bool
     ensures { λ r. ⌜ r ≡ quantsFit frame ⌝ }
@@ -255,10 +230,10 @@ pub fn frame_fits(body: &[u8], frame: Frame) -> bool
         return false;
     }
     let sampling = byte_at(body, 7);
-    if !sampling_fits(sampling / 16) {
+    if !reading::within(1, 4, sampling / 16) {
         return false;
     }
-    if !sampling_fits(sampling % 16) {
+    if !reading::within(1, 4, sampling % 16) {
         return false;
     }
     if !quants_fit(frame) {
@@ -299,7 +274,7 @@ pub fn in_order(body: &[u8], ids: &[usize]) -> bool
     let mut c: usize = 0;
     while c < channels {
         let id = byte_at(body, 1 + 2 * c);
-        if id != entry_at(ids, c) {
+        if id != reading::entry_at(ids, c) {
             return false;
         }
         c += 1;
@@ -330,8 +305,8 @@ pub fn selected(body: &[u8]) -> bool
 fn place_of(places: &[usize], ids: &[usize], channel: usize) -> usize
     ensures { λ r. ⌜ r ≡ chosen (now (places .entry)) (now (ids .entry)) channel ⌝ }
 {
-    let id = entry_at(ids, channel);
-    entry_at(places, id)
+    let id = reading::entry_at(ids, channel);
+    reading::entry_at(places, id)
 }
 
 // every channel has its quantizer and its two Huffman tables

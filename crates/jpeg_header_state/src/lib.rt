@@ -3,12 +3,11 @@
 // itself always passes are made here, once a segment or a table, so that no place and no size wraps.
 ghost use mathlib.Core.Path.{_≡_};
 ghost use mathlib.Core.Bool.{true};
-ghost use Prim.Native.Nat.{_+_, _≤_, _<_};
+ghost use Prim.Native.Nat.{_+_, _<_};
 ghost use lib.Dec.{leb, eqb};
 ghost use lib.ListN.{length, set};
 ghost use Rattle.reading.specs.declared.Refusal.the-variants.{Malformed};
-ghost use Rattle.reading.specs.Tests.{within};
-ghost use Rattle.reading.specs.Layout.{ceiling, blockCount, outputLength};
+ghost use Rattle.reading.specs.Layout.{blockCount, outputLength};
 ghost use Rattle.reading.specs.Header.{more, done, stop, stop-if, moved, quantizer, huffman, frame, interval, shapeOf, recordOf, scanSegment};
 ghost use Rattle.jpeg_header_state.specs.Segments.{stepped, inSegment, mostOf, numbersFit, behindFrame};
 use reading::Budget;
@@ -191,15 +190,6 @@ pub fn interval(body: &[u8], state: Header, end: usize) -> Stepped
 
 // ---- the scan, and the record that it gives
 
-fn within(least: usize, most: usize, n: usize) -> bool
-    ensures { λ r. ⌜ r ≡ within least most n ⌝ }
-{
-    if n < least {
-        return false;
-    }
-    n <= most
-}
-
 // the most blocks that the first channel has in an MCU
 fn most_of(channels: usize) -> usize
     ensures { λ r. ⌜ r ≡ mostOf channels ⌝ }
@@ -217,26 +207,19 @@ fn most_of(channels: usize) -> usize
 fn numbers_fit(frame: Frame) -> bool
     ensures { λ r. ⌜ r ≡ numbersFit frame ⌝ }
 {
-    if !within(1, Limits::SIDE, frame.width) {
+    if !reading::within(1, Limits::SIDE, frame.width) {
         return false;
     }
-    if !within(1, Limits::SIDE, frame.height) {
+    if !reading::within(1, Limits::SIDE, frame.height) {
         return false;
     }
-    if !within(1, 4, frame.hs) {
+    if !reading::within(1, 4, frame.hs) {
         return false;
     }
-    if !within(1, 4, frame.vs) {
+    if !reading::within(1, 4, frame.vs) {
         return false;
     }
     frame.hs * frame.vs <= most_of(frame.channels)
-}
-
-fn ceiling(a: usize, b: usize) -> usize
-    requires { ⌜ (a < 65536) × (0 < b) × (b ≤ 32) ⌝ }
-    ensures { λ r. ⌜ r ≡ ceiling a b ⌝ }
-{
-    (a + (b - 1)) / b
 }
 
 // the blocks of a picture: its MCUs across, times those down, times the blocks of one
@@ -244,9 +227,9 @@ fn block_count(frame: Frame) -> usize
     requires { ⌜ numbersFit frame ≡ true ⌝ }
     ensures { λ r. ⌜ r ≡ blockCount (shapeOf frame) ⌝ }
 {
-    let across = ceiling(frame.width, 8 * frame.hs);
-    let down = ceiling(frame.height, 8 * frame.vs);
-    across * down * (frame.hs * frame.vs + (frame.channels - 1))
+    let across = reading::mcus(frame.width, frame.hs);
+    let down = reading::mcus(frame.height, frame.vs);
+    across * down * reading::mcu_blocks(frame.hs, frame.vs, frame.channels)
 }
 
 // the bytes of a picture

@@ -2,7 +2,6 @@
 // and the symbol of the code that stands next in a scan.
 ghost use mathlib.Core.Path.{_≡_};
 ghost use Prim.Native.Nat.{min};
-ghost use lib.ListN.{getD};
 ghost use Rattle.reading.specs.Bits.{one};
 ghost use Rattle.reading.specs.Huffman.{symbol, tableAt, countsFit};
 ghost use Rattle.reading.specs.Code.Answers.{numberRead};
@@ -43,20 +42,10 @@ fn lengths(room: usize) -> usize
     16
 }
 
-// The symbol at a place; 0 past the end.
-fn symbol_at(t: &[u8], place: usize) -> usize
-    ensures { λ r. ⌜ r ≡ getD (now (t .entry)) place 0 ⌝ }
-{
-    if place < t.len() {
-        return t[place] as usize;
-    }
-    0
-}
-
 // The symbol of the next code in s (T.81 F.2.2.3, DECODE). The table's counts stand at `base` of t, its symbols behind them; a
-// count past the end of t is not there. `past` is how far the code so far lies past the last one of the lengths before, and `place`
-// that of the first symbol of this length. It is never below 0, whatever the table: a code that is none of its length is as far past
-// the first as there are codes of it, or farther.
+// count past the end of t is not there, and a symbol past it is 0. `past` is how far the code so far lies past the last one of the
+// lengths before, and `place` that of the first symbol of this length. It is never below 0, whatever the table: a code that is none
+// of its length is as far past the first as there are codes of it, or farther.
 pub fn symbol(t: &[u8], base: usize, s: &[u8], b: Bits) -> NumberRead
     ensures { λ r. ⌜ numberRead r ≡ symbol (one (now (s .entry))) (tableAt (now (t .entry)) base) b ⌝ }
 {
@@ -80,7 +69,8 @@ pub fn symbol(t: &[u8], base: usize, s: &[u8], b: Bits) -> NumberRead
                 let count = t[at] as usize;
                 let code = 2 * past + x as usize;
                 if code < count {
-                    break 'walk NumberRead::Got(symbol_at(t, place + code), after);
+                    let found = reading::byte_at(t, place + code) as usize;
+                    break 'walk NumberRead::Got(found, after);
                 }
                 here = after;
                 past = code - count;

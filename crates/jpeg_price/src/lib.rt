@@ -18,7 +18,7 @@ use reading::Verdict;
 pub fn past_counting(n: usize) -> bool
     ensures { λ r. ⌜ r ≡ leb (2 ^ 64) (2 * n + 1) ⌝ }
 {
-    9223372036854775808 <= n
+    Limits::UNCOUNTED <= n
 }
 
 // Number 1.

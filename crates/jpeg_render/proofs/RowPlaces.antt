@@ -15,6 +15,8 @@ use Rattle.reading.specs.Tests.{_and_}
 use Rattle.reading.specs.Layout.{ceiling, sampleAt}
 use Rattle.reading.specs.Tables.{shapeIn}
 use Rattle.reading.specs.Reading.{pixel}
+use Rattle.reading.specs.Code.Mcus.{mcusOf, blocksOf}
+use Rattle.reading.proofs.McuCounts.{mcus-asked, blocks-asked}
 use Rattle.jpeg_render_row.specs.Runs.{three, shown}
 use Rattle.jpeg_render.specs.Rows.{Sized, Drawable, perOf, blocksAbove, lumaOfRow, chromaOfRow, lumaAt, inMcu}
 use Rattle.jpeg_render.proofs.Shades.{and-false, shown-one, shown-cong}
@@ -28,6 +30,16 @@ module _ (r : Record) (ok : Sized r) where
 
   pub area-most : r .hs * r .vs ≤ 16
   area-most = mul-le-mul (ok .hs-most) (ok .vs-most)
+
+  -- what was asked of these numbers is the rules' count
+  pub per-asked : {n : ℕ} → n ≡ blocksOf (r .hs) (r .vs) (r .channels) → n ≡ perOf r
+  per-asked e = blocks-asked _ _ _ e (ok .hs-least) (ok .hs-most) (ok .vs-least) (ok .vs-most) (channels-in .0) (channels-in .1)
+
+  pub across-asked : {n : ℕ} → n ≡ mcusOf (r .width) (r .hs) → n ≡ ceiling (r .width) (8 * r .hs)
+  across-asked e = mcus-asked _ _ e (ok .width-most) (ok .hs-least) (ok .hs-most)
+
+  pub down-asked : {n : ℕ} → n ≡ mcusOf (r .height) (r .vs) → n ≡ ceiling (r .height) (8 * r .vs)
+  down-asked e = mcus-asked _ _ e (ok .height-most) (ok .vs-least) (ok .vs-most)
 
   pub per-most : perOf r ≤ 18
   per-most = omega (arith, channels-in, area-most)

@@ -1,28 +1,20 @@
 // Where a row of pixels begins among the block samples (the rules' 'MCUs, restarts, end' and 'Samples, places, colour'), and how many
-// there are. All divisions of a row stand here: behind them places are counted on.
+// there are. All divisions of a row are made for these: behind them places are counted on.
 use reading::Record;
 ghost use mathlib.Core.Path.{_≡_};
 ghost use Prim.Native.Nat.{_*_, _<_};
 ghost use Rattle.reading.specs.Layout.{blockCount};
 ghost use Rattle.reading.specs.Tables.{shapeIn};
-ghost use Rattle.jpeg_render.specs.Rows.{Sized, perOf, blocksAbove, lumaOfRow, chromaOfRow};
-
-// The blocks of an MCU: hs x vs of the first channel, then one for each chroma channel.
-pub(crate) fn per_mcu(found: Record) -> usize
-    requires { ⌜ Sized found ⌝ }
-    ensures { λ r. ⌜ r ≡ perOf found ⌝ }
-{
-    found.hs * found.vs + (found.channels - 1)
-}
+ghost use Rattle.jpeg_render.specs.Rows.{Sized, blocksAbove, lumaOfRow, chromaOfRow};
 
 // The blocks of the MCUs above those that have row y.
 fn blocks_above(found: Record, y: usize) -> usize
     requires { ⌜ Sized found × (y < found .height) ⌝ }
     ensures { λ r. ⌜ r ≡ blocksAbove found y ⌝ }
 {
-    let wide = 8 * found.hs;
-    let across = (found.width + (wide - 1)) / wide;
-    y / (8 * found.vs) * across * per_mcu(found)
+    let across = reading::mcus(found.width, found.hs);
+    let per = reading::mcu_blocks(found.hs, found.vs, found.channels);
+    y / (8 * found.vs) * across * per
 }
 
 // The place of the first channel's sample (0, y).
@@ -48,9 +40,7 @@ pub(crate) fn all_samples(found: Record) -> usize
     requires { ⌜ Sized found ⌝ }
     ensures { λ r. ⌜ r ≡ 64 * blockCount (shapeIn found) ⌝ }
 {
-    let wide = 8 * found.hs;
-    let high = 8 * found.vs;
-    let across = (found.width + (wide - 1)) / wide;
-    let down = (found.height + (high - 1)) / high;
-    64 * (across * down * per_mcu(found))
+    let across = reading::mcus(found.width, found.hs);
+    let down = reading::mcus(found.height, found.vs);
+    64 * (across * down * reading::mcu_blocks(found.hs, found.vs, found.channels))
 }

@@ -2,7 +2,7 @@
 // numbers do not fit each other or the two buffers is not drawn, and the output stays as it was. The test is made once a picture.
 ghost use mathlib.Core.Path.{_≡_};
 ghost use lib.Dec.{eqb};
-ghost use Rattle.reading.specs.Tests.{_and_, _or_, within};
+ghost use Rattle.reading.specs.Tests.{_and_, _or_};
 ghost use Rattle.jpeg_render.specs.Rendered.{framed, fits, rendered};
 
 mod layout;
@@ -10,16 +10,6 @@ mod render;
 
 use reading::Limits;
 use reading::Record;
-
-// A sampling factor.
-fn factor(n: usize) -> bool
-    ensures { λ r. ⌜ r ≡ within 1 4 n ⌝ }
-{
-    if 1 <= n {
-        return n <= 4;
-    }
-    false
-}
 
 // Three channels, or one that is one block wide in an MCU.
 fn channels(n: usize, hs: usize) -> bool
@@ -41,10 +31,10 @@ fn framed(found: Record) -> bool
     if !channels(found.channels, found.hs) {
         return false;
     }
-    if !factor(found.hs) {
+    if !reading::within(1, 4, found.hs) {
         return false;
     }
-    if !factor(found.vs) {
+    if !reading::within(1, 4, found.vs) {
         return false;
     }
     if Limits::SIDE < found.width {

@@ -205,7 +205,7 @@ fn row(found: Record, y: usize, samples: &[u8], out: &mut [u8])
     ensures { λ _. ⌜ now (out .exit) ≡ pixels (λ x. pixel found (now (samples .entry)) x y) (found .channels) (y * (found .width * found .channels)) (found .width) (now (out .entry)) ⌝ }
 {
     let start = y * (found.width * found.channels);
-    let step = 64 * layout::per_mcu(found);
+    let step = 64 * reading::mcu_blocks(found.hs, found.vs, found.channels);
     let mut luma = layout::luma_of_row(found, y);
     let mut chroma = layout::chroma_of_row(found, y);
     let mut x = 0usize;

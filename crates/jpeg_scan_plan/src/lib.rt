@@ -1,8 +1,7 @@
 // The numbers that a scan is read by, and what stands between its blocks (the rules' 'MCUs, restarts, end'): the channel of a block, the
 // restart before an MCU, the end. Every reader of a scan goes by these; none of them reads a block.
 ghost use mathlib.Core.Path.{_≡_};
-ghost use lib.ListN.{getD, take, drop};
-ghost use Rattle.reading.specs.Tests.{within};
+ghost use lib.ListN.{take, drop};
 ghost use Rattle.reading.specs.Bits.{padded, ended};
 ghost use Rattle.reading.specs.Layout.{dueBefore, restartBefore};
 ghost use Rattle.reading.specs.Tables.{chosen};
@@ -39,15 +38,6 @@ pub struct CursorRead {
     pub cursor: ScanCursor,
 }
 
-fn within(low: usize, high: usize, n: usize) -> bool
-    ensures { λ r. ⌜ r ≡ within low high n ⌝ }
-{
-    if low <= n {
-        return n <= high;
-    }
-    false
-}
-
 // Whether a record has numbers by which a scan can be read: every record that a header gives has.
 fn readable(s: &[u8], found: Record) -> bool
     ensures { λ r. ⌜ r ≡ readable (now (s .entry)) found ⌝ }
@@ -55,32 +45,22 @@ fn readable(s: &[u8], found: Record) -> bool
     if s.len() < found.start {
         return false;
     }
-    if !within(1, 4, found.hs) {
+    if !reading::within(1, 4, found.hs) {
         return false;
     }
-    if !within(1, 4, found.vs) {
+    if !reading::within(1, 4, found.vs) {
         return false;
     }
-    within(1, 3, found.channels)
+    reading::within(1, 3, found.channels)
 }
 
-// The place of the table with an id; 0 where there is none.
-fn place_of(places: [usize; 4], id: usize) -> usize
-    ensures { λ r. ⌜ r ≡ getD places id 0 ⌝ }
-{
-    if id < 4 {
-        return places[id];
-    }
-    0
-}
-
-// The place of each channel's table.
+// The place of each channel's table; 0 where there is none.
 fn chosen(places: [usize; 4], ids: [usize; 3]) -> [usize; 3]
     ensures { λ r. ⌜ r ≡ three (chosen places ids) ⌝ }
 {
-    let a = place_of(places, ids[0]);
-    let b = place_of(places, ids[1]);
-    let c = place_of(places, ids[2]);
+    let a = reading::entry_at(&places, ids[0]);
+    let b = reading::entry_at(&places, ids[1]);
+    let c = reading::entry_at(&places, ids[2]);
     [a, b, c]
 }
 
@@ -118,7 +98,7 @@ impl Plan {
         let acs = chosen(ac_places, ac_ids);
         let quants = chosen(places, ids);
         let lumas = found.hs * found.vs;
-        let per = lumas + (found.channels - 1);
+        let per = reading::mcu_blocks(found.hs, found.vs, found.channels);
         Self {
             start: found.start,
             dcs: dcs,

@@ -17,7 +17,7 @@ use Rattle.reading.specs.declared.Fault.the-variants.{Broken}
 use Rattle.reading.specs.declared.Record.{Record}
 use Rattle.reading.specs.declared.Refusal.the-variants.{TooLong, ShortRoom, NoEndCode, Scan}
 use Rattle.reading.specs.declared.ScanSettled.{ScanSettled}
-use Rattle.reading.specs.declared.ScanSettled.the-variants.{Done, NoCode, Stop}
+use Rattle.reading.specs.declared.ScanSettled.the-variants.{Done, Lacking, Stop}
 use Rattle.reading.specs.declared.Settling.{Settling}
 use Rattle.reading.specs.declared.Verdict.the-variants.{Accepted, Refused}
 use Rattle.reading.specs.Tests.{_and_, over}
@@ -170,12 +170,12 @@ join-is s start t b rest out h = go (ltb (length out) (start + length t)) refl
 
 abbrev IsDone : ScanSettled → Type 0
 IsDone (Done n) = Unit {0}
-IsDone NoCode = ⊥
+IsDone Lacking = ⊥
 IsDone (Stop f) = ⊥
 
 abbrev IsStop : ScanSettled → Type 0
 IsStop (Done n) = ⊥
-IsStop NoCode = ⊥
+IsStop Lacking = ⊥
 IsStop (Stop f) = Unit {0}
 
 -- a scan that was settled to n bytes
@@ -199,10 +199,10 @@ stop-laid (fault h) g e = let same : g ≡ h = cc in ap fault (sym same)
 
 abbrev IsNone : ScanSettled → Type 0
 IsNone (Done n) = ⊥
-IsNone NoCode = Unit {0}
+IsNone Lacking = Unit {0}
 IsNone (Stop f) = ⊥
 
-none-laid-of : (o : Read Bits (Option (List ℕ))) → NoCode ≡ scanSettled o → (b : Bits) × (o ≡ got none b)
+none-laid-of : (o : Read Bits (Option (List ℕ))) → Lacking ≡ scanSettled o → (b : Bits) × (o ≡ got none b)
 unfolding scanSettled
 none-laid-of (got none b) e = (b, refl)
 none-laid-of (got (some t) b) e = absurd (subst IsNone e tt)
@@ -251,7 +251,7 @@ module _ (s : List ℕ) (r : Record) (few : length s < 2 ^ 63) where
         let o = stop-laid (settledOf s r) g (sym p ∙ e) in
         ap₂ remade a (w ∙ ap (λ x. scanLaid (r .start) x out) o ∙ laid-stop (r .start) g out) ∙ sym (by-scan o)
 
-    pub file-none : v ≡ NoCode → {answer : Settling} → answer ≡ record { verdict = Refused NoEndCode; budget = rest; length = 0 } → remade answer out′ ≡ refiled s r rest out
+    pub file-none : v ≡ Lacking → {answer : Settling} → answer ≡ record { verdict = Refused NoEndCode; budget = rest; length = 0 } → remade answer out′ ≡ refiled s r rest out
     file-none p {answer} a =
         let o = none-laid-of (settledOf s r) (sym p ∙ e) in
         ap₂ remade a (w ∙ ap (λ x. scanLaid (r .start) x out) (o .1) ∙ laid-none (r .start) (o .0) out) ∙ sym (by-scan (o .1))

@@ -8,6 +8,7 @@ ghost use Rattle.reading.specs.declared.Verdict.the-variants.{Refused};
 ghost use Rattle.reading.specs.Code.Scans.{settledOf, scanSettled};
 ghost use Rattle.jpeg_settle.specs.Refiled.{remade, scanLaid, joined, refiled};
 use reading::Budget;
+use reading::Limits;
 use reading::Record;
 use reading::Refusal;
 use reading::ScanSettled;
@@ -69,12 +70,12 @@ fn join(s: &[u8], start: usize, n: usize, rest: Budget, out: &mut [u8]) -> Settl
 pub fn file(s: &[u8], found: Record, rest: Budget, out: &mut [u8]) -> Settling
     ensures { λ r. ⌜ remade r (now (out .exit)) ≡ refiled (now (s .entry)) found rest (now (out .entry)) ⌝ }
 {
-    if 9223372036854775808 <= s.len() {
+    if Limits::UNCOUNTED <= s.len() {
         return unsettled(Refusal::TooLong, rest, 0);
     }
     match scan(s, found, out) {
         ScanSettled::Stop(f) => unsettled(Refusal::Scan(f), rest, 0),
-        ScanSettled::NoCode => unsettled(Refusal::NoEndCode, rest, 0),
+        ScanSettled::Lacking => unsettled(Refusal::NoEndCode, rest, 0),
         ScanSettled::Done(n) => join(s, found.start, n, rest, out),
     }
 }

@@ -6,7 +6,7 @@ ghost use mathlib.Core.Path.{_≡_};
 ghost use mathlib.Core.List.{[], _∷_};
 ghost use Prim.Native.Nat.{_+_, _≤_, _<_, _^_};
 ghost use lib.IntN.{pos, natAbs, _*ℤ_};
-ghost use lib.ListN.{length, getD, take, replicate};
+ghost use lib.ListN.{length, take, replicate};
 ghost use Rattle.whole.specs.Expressions.{at, Within};
 ghost use Rattle.whole.specs.Lists.{listOf};
 ghost use Rattle.reading.specs.Tests.{over};
@@ -132,16 +132,6 @@ fn in_steps(v: i64) -> i32
     ((v + Sample::MIDDLE) >> Sample::STEP_BITS) as i32
 }
 
-// The quantizer's entry at a zigzag place; 0 behind its end.
-fn entry(quantizer: &[u8], k: usize) -> u8
-    ensures { λ r. ⌜ r ≡ getD (now (quantizer .entry)) k 0 ⌝ }
-{
-    if k < quantizer.len() {
-        return quantizer[k];
-    }
-    0
-}
-
 // A coefficient: level x quantizer.
 fn coefficient(level: i16, quantizer: u8) -> i64
     ensures { λ r. ⌜ (r ≡ level *ℤ pos quantizer) × (natAbs r ≤ 2 ^ 23) ⌝ }
@@ -162,7 +152,7 @@ fn dequantize(levels: &[i16; 64], quantizer: &[u8], places: usize, block: &mut [
             return;
         }
         let place = order[k] as usize;
-        block[place] = coefficient(levels[k], entry(quantizer, k));
+        block[place] = coefficient(levels[k], reading::byte_at(quantizer, k));
         k += 1;
     }
 }
@@ -320,7 +310,7 @@ pub fn samples(levels: &[i16; 64], quantizer: &[u8], places: usize, out: &mut [u
         return;
     }
     if places == 1 {
-        flat(coefficient(levels[0], entry(quantizer, 0)), out);
+        flat(coefficient(levels[0], reading::byte_at(quantizer, 0)), out);
         return;
     }
     let mut block = [0i64; 64];

@@ -15,7 +15,7 @@ use Rattle.reading.specs.Tests.{within}
 use Rattle.jpeg_write_codes.specs.Words.{wordBits, wordCode}
 use Rattle.jpeg_write_codes.proofs.Digits.{bits-append}
 use Rattle.jpeg_write_bits.specs.declared.Pen.{Pen}
-use Rattle.jpeg_write_bits.specs.declared.Outcome.the-variants.{Done, NoCode}
+use Rattle.jpeg_write_bits.specs.declared.Outcome.the-variants.{Done, Uncoded}
 use Rattle.jpeg_write_bits.specs.Page.{Page, page, putAll, proper, Proper, symbolBits, stroke, strokeOf}
 use Rattle.jpeg_write_bits.proofs.Bytes.{all-append}
 use Rattle.jpeg_write_bits.proofs.Propers.{proper-bits}
@@ -50,17 +50,17 @@ module _ (w field n : ℕ) {q : ℕ} (h : n ≤ 12) (e : q ≡ 2 ^ n) where
 
 -- ---- what is written
 
-stroke-none : {w : Written} (q : Page) → w ≡ none → stroke NoCode (q .out) ≡ strokeOf w q
+stroke-none : {w : Written} (q : Page) → w ≡ none → stroke Uncoded (q .out) ≡ strokeOf w q
 unfolding strokeOf
 stroke-none q e = rw e
 
 module _ (out : List ℕ) (p : Pen) (w field n : ℕ) where
-  pub symbol-improper : proper p ≡ false → stroke NoCode out ≡ strokeOf (symbolBits p w field n) (page out p)
+  pub symbol-improper : proper p ≡ false → stroke Uncoded out ≡ strokeOf (symbolBits p w field n) (page out p)
   unfolding symbolBits
   symbol-improper h = stroke-none (page out p) (rw h)
 
   module _ (h : Proper p) where
-    pub symbol-wide : 12 < n → stroke NoCode out ≡ strokeOf (symbolBits p w field n) (page out p)
+    pub symbol-wide : 12 < n → stroke Uncoded out ≡ strokeOf (symbolBits p w field n) (page out p)
     unfolding symbolBits
     symbol-wide l = stroke-none (page out p) (rw (h, lt-leb n 12 l))
 
@@ -69,11 +69,11 @@ module _ (out : List ℕ) (p : Pen) (w field n : ℕ) where
       unfolding symbolBits
       symbol-is = rw (h, le-leb n 12 l)
 
-      pub symbol-none : w / 65536 ≡ 0 → stroke NoCode out ≡ strokeOf (symbolBits p w field n) (page out p)
+      pub symbol-none : w / 65536 ≡ 0 → stroke Uncoded out ≡ strokeOf (symbolBits p w field n) (page out p)
       symbol-none e = stroke-none (page out p) (symbol-is ∙ code-none w field n e)
 
       module _ (a : w / 65536 ≡ 0 → ⊥) where
-        pub symbol-long : 16 < w / 65536 → stroke NoCode out ≡ strokeOf (symbolBits p w field n) (page out p)
+        pub symbol-long : 16 < w / 65536 → stroke Uncoded out ≡ strokeOf (symbolBits p w field n) (page out p)
         symbol-long g = stroke-none (page out p) (symbol-is ∙ code-long w field n a g)
 
         pub symbol-put : {q : ℕ} {new : List ℕ} {r : Pen} → w / 65536 ≤ 16 → q ≡ 2 ^ n

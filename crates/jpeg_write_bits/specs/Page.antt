@@ -11,7 +11,7 @@ use Rattle.reading.specs.Tests.{_and_, within}
 use Rattle.jpeg_write_codes.specs.Words.{wordCode}
 use Rattle.jpeg_write_bits.specs.declared.Pen.{Pen}
 use Rattle.jpeg_write_bits.specs.declared.Outcome.{Outcome}
-use Rattle.jpeg_write_bits.specs.declared.Outcome.the-variants.{Done, NoCode}
+use Rattle.jpeg_write_bits.specs.declared.Outcome.the-variants.{Done, Uncoded}
 
 -- the bytes, and where the next one goes
 pub record Spot : Type 0 where
@@ -105,5 +105,5 @@ stroke r out = record { ink = r; out = out }
 
 -- bits put to a page; for want of a code it stays as it was
 unfoldable pub strokeOf : Written → Page → Stroke
-strokeOf none q = stroke NoCode (q .out)
+strokeOf none q = stroke Uncoded (q .out)
 strokeOf (some bs) q = stroke (Done (putAll q bs .pen)) (putAll q bs .out)

@@ -30,7 +30,7 @@ impl Pen {
 // The pen behind what was written; or a code was wanting.
 pub enum Outcome {
     Done(Pen),
-    NoCode,
+    Uncoded,
 }
 
 // A byte, stored where there is room, and counted in any case.
@@ -156,17 +156,17 @@ pub fn put_symbol(out: &mut [u8], p: Pen, word: usize, field: usize, size: usize
     ensures { λ r. ⌜ stroke r (now (out .exit)) ≡ strokeOf (symbolBits p word field size) (page (now (out .entry)) p) ⌝ }
 {
     if !proper(p) {
-        return Outcome::NoCode;
+        return Outcome::Uncoded;
     }
     if 12 < size {
-        return Outcome::NoCode;
+        return Outcome::Uncoded;
     }
     let bits = word / 65536;
     if bits == 0 {
-        return Outcome::NoCode;
+        return Outcome::Uncoded;
     }
     if 16 < bits {
-        return Outcome::NoCode;
+        return Outcome::Uncoded;
     }
     let full = power(size);
     let x = (word % 65536) * full + field % full;

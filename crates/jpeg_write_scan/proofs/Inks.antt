@@ -8,7 +8,7 @@ use Rattle.reading.specs.declared.ScanSettled.the-variants as answer
 use Rattle.reading.specs.Settled.{Written, Coded, onto, cut}
 use Rattle.jpeg_write_bits.specs.declared.Pen.{Pen}
 use Rattle.jpeg_write_bits.specs.declared.Outcome.{Outcome}
-use Rattle.jpeg_write_bits.specs.declared.Outcome.the-variants.{Done, NoCode}
+use Rattle.jpeg_write_bits.specs.declared.Outcome.the-variants.{Done, Uncoded}
 use Rattle.jpeg_write_bits.specs.Page.{Spot, spot, Page, page, Proper, restarted, endAt}
 use Rattle.jpeg_write_bits.proofs.Closings.{restarted-proper}
 use Rattle.jpeg_write_scan.specs.Puts.{Told, Puts}
@@ -23,7 +23,7 @@ fit-pen e f = subst Fit e f
 
 -- ---- after the want of a code
 
-pub moves-none : (put : Option Coded → Option Coded) (old new : List ℕ) {ink : Outcome} → ink ≡ NoCode → Moves put ink old NoCode new
+pub moves-none : (put : Option Coded → Option Coded) (old new : List ℕ) {ink : Outcome} → ink ≡ Uncoded → Moves put ink old Uncoded new
 unfolding finalBy
 moves-none put old new {ink} e = record { fit = tt; same = λ rest. ap (λ (i : Outcome). finalBy i old (put rest)) e }
 
@@ -32,7 +32,7 @@ moves-none put old new {ink} e = record { fit = tt; same = λ rest. ap (λ (i : 
 block-puts : (w : Written) (p : Pen) (old new : List ℕ) (r : Outcome) → Told w (page old p) r new → Moves (onto w) (Done p) old r new
 unfolding finalBy
 block-puts w p old new (Done q) g = record { fit = g .proper; same = λ rest. final-put rest g }
-block-puts w p old new NoCode e = record { fit = tt; same = λ rest. final-lacks rest (page old p) e }
+block-puts w p old new Uncoded e = record { fit = tt; same = λ rest. final-lacks rest (page old p) e }
 
 pub moves-block : {w v : Written} {p : Pen} {old new : List ℕ} {ink r : Outcome} → ink ≡ Done p → w ≡ v → Puts w (page old p) r new → Moves (onto v) ink old r new
 moves-block {w} {v} {p} {old} {new} {ink} {r} e f h =
@@ -46,7 +46,7 @@ moves-not {due} code ink old e f = subst⁻¹ (λ (d : Bool). Moves (cut d code)
   where
     on : (i : Outcome) (rest : Option Coded) → finalBy i old (cut false code rest) ≡ finalBy i old rest
     on (Done p) rest = final-on code rest (page old p)
-    on NoCode rest = refl
+    on Uncoded rest = refl
 
 pub moves-mark : {due : Bool} {code : ℕ} {p q : Pen} (old : List ℕ) {new : List ℕ} {ink : Outcome} → due ≡ true → ink ≡ Done p → Proper p → page new q ≡ restarted (page old p) code → Moves (cut due code) ink old (Done q) new
 unfolding finalBy
@@ -60,9 +60,9 @@ moves-mark {due} {code} {p} {q} old {new} {ink} d e h g =
 
 -- ---- the end
 
-pub closes-none : {ink : Outcome} (old new : List ℕ) → ink ≡ NoCode → Closes (finalBy ink old (some lastPart)) answer.NoCode new
+pub closes-none : {ink : Outcome} (old new : List ℕ) → ink ≡ Uncoded → Closes (finalBy ink old (some lastPart)) answer.Lacking new
 unfolding finalBy
-closes-none {ink} old new e = subst⁻¹ (λ (i : Outcome). Closes (finalBy i old (some lastPart)) answer.NoCode new) e (record { told = refl })
+closes-none {ink} old new e = subst⁻¹ (λ (i : Outcome). Closes (finalBy i old (some lastPart)) answer.Lacking new) e (record { told = refl })
 
 pub closes-end : {ink : Outcome} {p : Pen} (old : List ℕ) {new : List ℕ} {n : ℕ} → ink ≡ Done p → Proper p → spot new n ≡ endAt (page old p) → Closes (finalBy ink old (some lastPart)) (answer.Done n) new
 unfolding finalBy

@@ -120,7 +120,7 @@ stays-stop (got none b) old e g = refl
 stays-stop (got (some t) b) old e g = absurd (suc-ne-zero 0 cc)
 stays-stop (fault f) old e g = refl
 
-pub stays-lacking : (o : Read Bits (Option (List ℕ))) (old : List ℕ) {x : ScanSettled} → x ≡ scanSettled o → x ≡ answer.NoCode → old ≡ laidOver o old
+pub stays-lacking : (o : Read Bits (Option (List ℕ))) (old : List ℕ) {x : ScanSettled} → x ≡ scanSettled o → x ≡ answer.Lacking → old ≡ laidOver o old
 unfolding scanSettled laidOver
 stays-lacking (got none b) old e g = refl
 stays-lacking (got (some t) b) old e g = absurd (suc-ne-zero 0 cc)

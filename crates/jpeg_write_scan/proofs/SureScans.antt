@@ -177,11 +177,11 @@ module _ (old : List ℕ) (t : Bool) (o : Read Bits (Option (List ℕ))) {x : Sc
       go true (got w b) h = absurd (suc-ne-zero 0 cc)
       go true (fault k) h = (sym g ∙ h, refl)
 
-  pub told-lacking : x ≡ answer.NoCode → (answer.NoCode ≡ scanSettled o) × (old ≡ laidOver o old)
+  pub told-lacking : x ≡ answer.Lacking → (answer.Lacking ≡ scanSettled o) × (old ≡ laidOver o old)
   unfolding foretold scanSettled laidOver
   told-lacking g = go t o e
     where
-      go : (t : Bool) (o : Read Bits (Option (List ℕ))) → x ≡ foretold t (length old) o → (answer.NoCode ≡ scanSettled o) × (old ≡ laidOver o old)
+      go : (t : Bool) (o : Read Bits (Option (List ℕ))) → x ≡ foretold t (length old) o → (answer.Lacking ≡ scanSettled o) × (old ≡ laidOver o old)
       go false o h = (sym g ∙ h, stays-lacking o old h g)
       go true (got w b) h = absurd (suc-ne-zero 0 cc)
       go true (fault k) h = absurd (suc-ne-zero 0 cc)

@@ -6,7 +6,7 @@ use mathlib.Core.Option.{none, some}
 use Rattle.reading.specs.Settled.{Written, _then_}
 use Rattle.jpeg_write_bits.specs.declared.Pen.{Pen}
 use Rattle.jpeg_write_bits.specs.declared.Outcome.{Outcome}
-use Rattle.jpeg_write_bits.specs.declared.Outcome.the-variants.{Done, NoCode}
+use Rattle.jpeg_write_bits.specs.declared.Outcome.the-variants.{Done, Uncoded}
 use Rattle.jpeg_write_bits.specs.Page.{Page, page, putAll, Proper, symbolBits, Stroke, stroke, strokeOf}
 use Rattle.jpeg_write_bits.proofs.Bytes.{all-append, all-none}
 use Rattle.jpeg_write_bits.proofs.Symbols.{symbol-is, code-proper}
@@ -38,13 +38,13 @@ module _ {w : Written} {q : Page} {out : List ℕ} where
   pub is-done : {p : Pen} → Wrote w q (page out p) → Puts w q (Done p) out
   is-done g = record { told = g }
 
-  pub is-lack : w ≡ none → Puts w q NoCode out
+  pub is-lack : w ≡ none → Puts w q Uncoded out
   is-lack e = record { told = e }
 
   pub puts-done : {r : Outcome} {p : Pen} → Puts w q r out → r ≡ Done p → Wrote w q (page out p)
   puts-done h e = subst (λ (r : Outcome). Told w q r out) e (h .told)
 
-  pub puts-lack : {r : Outcome} → Puts w q r out → r ≡ NoCode → w ≡ none
+  pub puts-lack : {r : Outcome} → Puts w q r out → r ≡ Uncoded → w ≡ none
   puts-lack h e = subst (λ (r : Outcome). Told w q r out) e (h .told)
 
 -- a symbol with a field of at most 12 bits, by a proper pen

@@ -24,7 +24,7 @@ use Rattle.jpeg_scan_plan.specs.Plans.{Stands}
 use Rattle.jpeg_scan.specs.Steps.{ahead, resumed}
 use Rattle.jpeg_write_scan.specs.declared.Moved.{Moved}
 use Rattle.jpeg_write_bits.specs.declared.Outcome.{Outcome}
-use Rattle.jpeg_write_bits.specs.declared.Outcome.the-variants.{Done, NoCode}
+use Rattle.jpeg_write_bits.specs.declared.Outcome.the-variants.{Done, Uncoded}
 use Rattle.jpeg_write_bits.specs.Page.{Spot, page, fresh, Proper}
 use Rattle.jpeg_write_scan.specs.Join.{finalAt}
 
@@ -34,11 +34,11 @@ use Rattle.jpeg_write_scan.specs.Join.{finalAt}
 unfoldable pub finalBy : Outcome → List ℕ → Option Coded → Option Spot
 unfolding finalAt
 finalBy (Done p) out r = finalAt r (page out p)
-finalBy NoCode out r = none
+finalBy Uncoded out r = none
 
 abbrev pub Fit : Outcome → Type 0
 Fit (Done p) = Proper p
-Fit NoCode = Unit {0}
+Fit Uncoded = Unit {0}
 
 -- something was put before whatever follows
 pub record Moves (put : Option Coded → Option Coded) (ink : Outcome) (old : List ℕ) (r : Outcome) (new : List ℕ) : Type 0 where
@@ -51,7 +51,7 @@ lastPart = record { bits = []; after = 255 ∷ 217 ∷ [] }
 
 -- what is answered where writing ended, with the bytes that are left
 abbrev pub endedAt : Option Spot → ScanSettled → List ℕ → Type 0
-endedAt none r new = r ≡ answer.NoCode
+endedAt none r new = r ≡ answer.Lacking
 endedAt (some t) r new = (r ≡ answer.Done (t .place)) × (new ≡ t .bytes)
 
 pub record Closes (o : Option Spot) (r : ScanSettled) (new : List ℕ) : Type 0 where

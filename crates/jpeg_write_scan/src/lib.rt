@@ -64,7 +64,7 @@ fn put_block(
     ensures { λ r. ⌜ Puts (blockBy (coderOf (now (dc .entry))) (coderOf (now (ac .entry))) pred (now (levels .entry))) (page (now (out .entry)) p) r (now (out .exit)) ⌝ }
 {
     if levels.len() == 0 {
-        return Outcome::NoCode;
+        return Outcome::Uncoded;
     }
     let mut q = p;
     let mut place = 0usize;
@@ -79,8 +79,8 @@ fn put_block(
         let turn = jpeg_write_symbols::next(levels, pred, place, run);
         let word = word_at(dc, ac, place, turn.symbol);
         match jpeg_write_bits::put_symbol(out, q, word, turn.field, turn.size) {
-            Outcome::NoCode => {
-                break 'walk Outcome::NoCode;
+            Outcome::Uncoded => {
+                break 'walk Outcome::Uncoded;
             }
             Outcome::Done(t) => {
                 q = t;
@@ -117,7 +117,7 @@ fn put_on(
     let b = a + 256;
     let e = b + 256;
     match ink {
-        Outcome::NoCode => Outcome::NoCode,
+        Outcome::Uncoded => Outcome::Uncoded,
         Outcome::Done(p) => put_block(out, p, &words[a..b], &words[b..e], levels, pred, reach),
     }
 }
@@ -131,7 +131,7 @@ fn mark(out: &mut [u8], ink: Outcome, m: usize, interval: usize) -> Outcome
         return ink;
     }
     match ink {
-        Outcome::NoCode => Outcome::NoCode,
+        Outcome::Uncoded => Outcome::Uncoded,
         Outcome::Done(p) => {
             let code = jpeg_scan_plan::restart_code(m, interval);
             Outcome::Done(jpeg_write_bits::restart(out, p, code as u8))
@@ -145,7 +145,7 @@ fn last(out: &mut [u8], ink: Outcome) -> ScanSettled
     ensures { λ r. ⌜ Closes (finalBy ink (now (out .entry)) (some lastPart)) r (now (out .exit)) ⌝ }
 {
     match ink {
-        Outcome::NoCode => ScanSettled::NoCode,
+        Outcome::Uncoded => ScanSettled::Lacking,
         Outcome::Done(p) => ScanSettled::Done(jpeg_write_bits::put_end(out, p)),
     }
 }
@@ -296,7 +296,7 @@ pub fn settled(s: &[u8], found: Record, out: &mut [u8]) -> ScanSettled
     let words = jpeg_write_codes::sheet(&s[..start], bases(plan));
     match foretell(s, found, plan, &words, out.len()) {
         ScanSettled::Stop(f) => ScanSettled::Stop(f),
-        ScanSettled::NoCode => ScanSettled::NoCode,
+        ScanSettled::Lacking => ScanSettled::Lacking,
         ScanSettled::Done(n) => {
             if out.len() < n {
                 return ScanSettled::Done(n);

@@ -12,6 +12,7 @@ pub mod Readings
 pub mod Same
 pub mod Stages
 pub mod Fits
+pub mod McuCounts
 pub mod HeaderEnds
 pub mod Unstuffed
 pub mod Packed

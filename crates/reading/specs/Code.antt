@@ -6,3 +6,4 @@ pub mod Answers
 pub mod Painted
 pub mod Scans
 pub mod Heads
+pub mod Mcus

@@ -1,13 +1,78 @@
-// What the code and the definitions of specs/ share: the types, their fresh values, and the numbers that belong to them
-// (prices, clamp bounds, limits).
+// What the code and the definitions of specs/ share: the types, their fresh values, the numbers that belong to them
+// (prices, clamp bounds, limits), and the small questions that several crates ask: whether a number lies between two others, what
+// stands at a place of a list, how many MCUs a side has and how many blocks an MCU.
 ghost use mathlib.Core.Path.{_≡_};
 ghost use Prim.Native.Nat.{_-_};
 ghost use lib.Dec.{leb};
+ghost use lib.ListN.{getD};
+ghost use Rattle.reading.specs.Tests.{within};
+ghost use Rattle.reading.specs.Code.Mcus.{mcusOf, blocksOf};
 ghost use Rattle.reading.specs.Header.{noFrame, opening, moved, withFrame, withInterval, noRecord, stop};
 ghost use Rattle.reading.specs.Code.Heads.{headed};
 ghost use Rattle.reading.specs.Scan.{firstBit};
 ghost use Rattle.reading.specs.Code.Scans.{atStart};
 ghost use Rattle.reading.specs.Calls.{numberOf, number};
+
+// Whether a number lies between two others, both included.
+pub fn within(least: usize, most: usize, n: usize) -> bool
+    ensures { λ r. ⌜ r ≡ within least most n ⌝ }
+{
+    if least <= n {
+        return n <= most;
+    }
+    false
+}
+
+// The byte at a place of a list; 0 behind its end.
+pub fn byte_at(list: &[u8], place: usize) -> u8
+    ensures { λ r. ⌜ r ≡ getD (now (list .entry)) place 0 ⌝ }
+{
+    if place < list.len() {
+        return list[place];
+    }
+    0
+}
+
+// The same of a list of numbers.
+pub fn entry_at(list: &[usize], place: usize) -> usize
+    ensures { λ r. ⌜ r ≡ getD (now (list .entry)) place 0 ⌝ }
+{
+    if place < list.len() {
+        return list[place];
+    }
+    0
+}
+
+// The MCUs across of a width and the first channel's sampling across, or down of a height and its sampling down: the ceiling of
+// side / 8 factor. 0 for a side or a factor that no frame has.
+pub fn mcus(side: usize, factor: usize) -> usize
+    ensures { λ r. ⌜ r ≡ mcusOf side factor ⌝ }
+{
+    if Limits::SIDE < side {
+        return 0;
+    }
+    if !within(1, 4, factor) {
+        return 0;
+    }
+    let wide = 8 * factor;
+    (side + (wide - 1)) / wide
+}
+
+// The blocks of an MCU: hs x vs of the first channel, then one for each other. 0 for numbers that no frame has.
+pub fn mcu_blocks(hs: usize, vs: usize, channels: usize) -> usize
+    ensures { λ r. ⌜ r ≡ blocksOf hs vs channels ⌝ }
+{
+    if !within(1, 4, hs) {
+        return 0;
+    }
+    if !within(1, 4, vs) {
+        return 0;
+    }
+    if !within(1, 3, channels) {
+        return 0;
+    }
+    hs * vs + (channels - 1)
+}
 
 // The bit place of a scan: the next byte of the file, the current byte, and how many of its low bits are unread.
 pub struct Bits {
@@ -257,6 +322,8 @@ impl Limits {
     pub const SIDE: usize = 65535;
     // the bytes of each of the program's three buffers
     pub const BUFFER: usize = 65536;
+    // the shortest input whose price, 2n + 1, does not fit 64 bits
+    pub const UNCOUNTED: usize = 9223372036854775808;
 }
 
 // What a caller lets a call take. The header's price is 2 for each byte of the file and 1; a block's is 3136 and an output byte's 1.
@@ -450,6 +517,6 @@ pub enum ScanRead {
 // What settling a whole scan answers: its length, or that a code is wanting, or the fault.
 pub enum ScanSettled {
     Done(usize),
-    NoCode,
+    Lacking,
     Stop(Fault),
 }

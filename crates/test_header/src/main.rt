@@ -5,17 +5,13 @@ ghost use Prim.Native.Nat.{_<_};
 use reading::Head;
 use reading::Refusal;
 
-fn byte(list: &[u8], place: usize) -> u8 {
-    if place < list.len() { list[place] } else { 0 }
-}
-
 // two bytes, high byte first
 fn number(list: &[u8], place: usize) -> usize
     ensures { λ r. ⌜ r < 65536 ⌝ }
 {
     if place < list.len() {
-        let high = tillsparrow_streams::wide(byte(list, place)) as usize;
-        let low = tillsparrow_streams::wide(byte(list, place + 1)) as usize;
+        let high = tillsparrow_streams::wide(reading::byte_at(list, place)) as usize;
+        let low = tillsparrow_streams::wide(reading::byte_at(list, place + 1)) as usize;
         256 * high + low
     } else {
         0
@@ -30,7 +26,7 @@ fn copied(list: &[u8], from: usize, length: usize, file: &mut [u8; 1024], to: us
     while i < length {
         let place = to + i;
         if place < 1024 {
-            file[place] = byte(list, from + i);
+            file[place] = reading::byte_at(list, from + i);
         }
         i += 1;
     }
@@ -59,7 +55,7 @@ fn patched(list: &[u8], at: usize, patches: usize, file: &mut [u8; 1024])
     while k < patches {
         let place = number(list, at + 3 * k);
         if place < 1024 {
-            file[place] = byte(list, at + 3 * k + 2);
+            file[place] = reading::byte_at(list, at + 3 * k + 2);
         }
         k += 1;
     }
@@ -109,11 +105,11 @@ fn vector(list: &[u8], at: usize, index: u64) -> usize
     ensures { λ r. ⌜ at < r ⌝ }
 {
     let mut file = [0u8; 1024];
-    let parts = tillsparrow_streams::wide(byte(list, at)) as usize;
+    let parts = tillsparrow_streams::wide(reading::byte_at(list, at)) as usize;
     let length = joined(list, at + 1, parts, &mut file);
     let behind = at + 1 + 4 * parts;
-    let colour = byte(list, behind) != 0;
-    let patches = tillsparrow_streams::wide(byte(list, behind + 1)) as usize;
+    let colour = reading::byte_at(list, behind) != 0;
+    let patches = tillsparrow_streams::wide(reading::byte_at(list, behind + 1)) as usize;
     patched(list, behind + 2, patches, &mut file);
     line(index, &file, length, colour);
     behind + 2 + 3 * patches

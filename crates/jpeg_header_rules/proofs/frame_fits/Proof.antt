@@ -7,11 +7,11 @@ use Rattle.jpeg_header_rules.proofs.Rules.{fits-wide, fits-high, fits-a
 use Rattle.jpeg_header_rules.proofs.frame_fits.Statement.{statement}
 use Rattle.jpeg_header_rules.proofs.frame_fits.Tie as tie
 
-across-is : (c : tie.After-sampling-fits) → c .sampling-fits .result ≡ within 1 4 (acrossOf (c .before .before .before .before .before .before .before .args .body .now))
-across-is c = c .sampling-fits .ensures ∙ ap (λ k. within 1 4 (k / 16)) (c .before .byte-at .ensures)
+across-is : (c : tie.After-within) → c .within .result ≡ within 1 4 (acrossOf (c .before .before .before .before .before .before .before .args .body .now))
+across-is c = c .within .ensures ∙ ap (λ k. within 1 4 (k / 16)) (c .before .byte-at .ensures)
 
-down-is : (c : tie.After-sampling-fits2) → c .sampling-fits2 .result ≡ within 1 4 (downOf (c .before .before .before .before .before .before .before .before .before .args .body .now))
-down-is c = c .sampling-fits2 .ensures ∙ ap (λ k. within 1 4 (k % 16)) (c .before .before .before .byte-at .ensures)
+down-is : (c : tie.After-within2) → c .within2 .result ≡ within 1 4 (downOf (c .before .before .before .before .before .before .before .before .before .args .body .now))
+down-is c = c .within2 .ensures ∙ ap (λ k. within 1 4 (k % 16)) (c .before .before .before .byte-at .ensures)
 
 returns : tie.Need-returns
 returns c = fits-wide (c .before .before .before .args .body .now) (c .before .before .before .args .frame) (c .if1 .taken)
@@ -22,14 +22,14 @@ returns-2 c = fits-high (c .before .before .before .before .before .args .body .
 byte-at-requires : tie.Need-byte-at-requires
 byte-at-requires c κs = tt
 
-sampling-fits-requires : tie.Need-sampling-fits-requires
-sampling-fits-requires c κs = tt
+within-requires : tie.Need-within-requires
+within-requires c κs = tt
 
 returns-3 : tie.Need-returns-3
 returns-3 c = fits-across (c .before .before .before .before .before .before .before .before .args .body .now) (c .before .before .before .before .before .before .before .before .args .frame) (c .before .before .before .before .before .if1 .left) (c .before .before .before .if2 .left) (sym (across-is (c .before)) ∙ not-true _ (c .if3 .taken))
 
-sampling-fits-requires-2 : tie.Need-sampling-fits-requires-2
-sampling-fits-requires-2 c κs = tt
+within-requires-2 : tie.Need-within-requires-2
+within-requires-2 c κs = tt
 
 returns-4 : tie.Need-returns-4
 returns-4 c = fits-down (c .before .before .before .before .before .before .before .before .before .before .args .body .now) (c .before .before .before .before .before .before .before .before .before .before .args .frame) (c .before .before .before .before .before .before .before .if1 .left) (c .before .before .before .before .before .if2 .left) (sym (across-is (c .before .before .before)) ∙ not-false _ (c .before .before .if3 .left)) (sym (down-is (c .before)) ∙ not-true _ (c .if4 .taken))
@@ -56,9 +56,9 @@ frame-fits-spec =
     returns
     returns-2
     byte-at-requires
-    sampling-fits-requires
+    within-requires
     returns-3
-    sampling-fits-requires-2
+    within-requires-2
     returns-4
     quants-fit-requires
     returns-5

@@ -1,9 +1,13 @@
+-- `block_count`: the numbers passed the test of a frame's, so each count is the rules' and their product is small.
 use Prim.Native.Nat.{ℕ, _*_, _+_, _-_}
-use mathlib.Core.Path.{_≡_, sym, ap, ap₂, _∙_}
+use mathlib.Core.Path.{_≡_, sym, ap₂, _∙_}
 use native.Mathlib.Omega.{arith}
+use borrow.Author.Needs.{needs}
+use Rattle.reading.specs.declared.Frame.{Frame}
 use Rattle.reading.specs.Layout.{ceiling}
 use Rattle.reading.proofs.Accepted.{mcus-small, count-small, blocks-are}
 use Rattle.reading.proofs.Frames.{FrameOk}
+use Rattle.reading.proofs.McuCounts.{mcus-asked, blocks-asked}
 use Rattle.jpeg_header_state.proofs.Numbers.{alike, alike-ok}
 use Rattle.jpeg_header_state.proofs.block_count.Statement.{statement}
 use Rattle.jpeg_header_state.proofs.block_count.Tie as tie
@@ -11,51 +15,46 @@ use Rattle.jpeg_header_state.proofs.block_count.Tie as tie
 ok : (c : tie.Start) → FrameOk (alike (c .args .frame))
 ok c = alike-ok (c .args .frame) (c .pre)
 
-mcus-are : (c : tie.After-ceiling2) → c .before .before .ceiling .result * c .ceiling2 .result ≡ ceiling (c .before .before .before .before .args .frame .width) (8 * c .before .before .before .before .args .frame .hs) * ceiling (c .before .before .before .before .args .frame .height) (8 * c .before .before .before .before .args .frame .vs)
-mcus-are c = ap₂ (λ (x y : ℕ). x * y) (c .before .before .ceiling .ensures) (c .ceiling2 .ensures)
+-- the MCUs of a frame, and its blocks, in the rules' words
+abbrev mcusIn : Frame → ℕ
+mcusIn f = ceiling (f .width) (8 * f .hs) * ceiling (f .height) (8 * f .vs)
 
-mul-ceiling : tie.Need-mul-ceiling
-mul-ceiling c = omega (arith, ok (c .before) .across)
+abbrev blocksIn : Frame → ℕ
+blocksIn f = mcusIn f * (f .hs * f .vs + (f .channels - 1))
 
-ceiling-requires : tie.Need-ceiling-requires
-ceiling-requires c κs = (ok (c .before) .wide .1, omega (arith, ok (c .before) .across), omega (arith, ok (c .before) .across))
+mcus-are : (c : tie.After-mcus2) → c .before .mcus .result * c .mcus2 .result ≡ mcusIn (c .before .before .args .frame)
+mcus-are c =
+    let across = c .before in
+    let fine = ok (across .before) in
+    ap₂ (λ (x y : ℕ). x * y)
+    (mcus-asked _ _ (across .mcus .ensures) (omega (arith, fine .wide)) (fine .across .0) (fine .across .1))
+    (mcus-asked _ _ (c .mcus2 .ensures) (omega (arith, fine .high)) (fine .down .0) (fine .down .1))
 
-mul-ceiling-2 : tie.Need-mul-ceiling-2
-mul-ceiling-2 c = omega (arith, ok (c .before .before .before) .down)
+product-is : (c : tie.After-mcu-blocks) → c .before .before .mcus .result * c .before .mcus2 .result * c .mcu-blocks .result ≡ blocksIn (c .before .before .before .args .frame)
+product-is c =
+    let down = c .before in
+    let fine = ok (down .before .before) in
+    ap₂ (λ (x y : ℕ). x * y)
+    (mcus-are down)
+    (blocks-asked _ _ _ (c .mcu-blocks .ensures) (fine .across .0) (fine .across .1) (fine .down .0) (fine .down .1) (fine .few .0) (fine .few .1))
 
-ceiling-requires-2 : tie.Need-ceiling-requires-2
-ceiling-requires-2 c κs = (ok (c .before .before .before) .high .1, omega (arith, ok (c .before .before .before) .down), omega (arith, ok (c .before .before .before) .down))
+mcus-requires : tie.Need-mcus-requires
+mcus-requires c κs = search needs
+
+mcus-requires-2 : tie.Need-mcus-requires-2
+mcus-requires-2 c κs = search needs
 
 mul-result : tie.Need-mul-result
-mul-result c = omega (arith, mcus-are c, mcus-small (alike (c .before .before .before .before .args .frame)) (ok (c .before .before .before .before)))
+mul-result c = let start = c .before .before in omega (arith, mcus-are c, mcus-small (alike (start .args .frame)) (ok start))
+
+mcu-blocks-requires : tie.Need-mcu-blocks-requires
+mcu-blocks-requires c κs = search needs
 
 mul-result-2 : tie.Need-mul-result-2
-mul-result-2 c = omega (arith, ok (c .before .before .before .before .before) .product)
-
-sub-result : tie.Need-sub-result
-sub-result c = omega (arith, ok (c .before .before .before .before .before .before) .few)
-
-add-result : tie.Need-add-result
-add-result c = omega (arith, ok (c .before .before .before .before .before .before) .product, ok (c .before .before .before .before .before .before) .few)
-
-mul-result-3 : tie.Need-mul-result-3
-mul-result-3 c = let e = ap (λ k. k * (c .before .before .before .before .before .before .args .frame .hs * c .before .before .before .before .before .before .args .frame .vs + (c .before .before .before .before .before .before .args .frame .channels - 1))) (mcus-are (c .before .before)) in
-    omega (arith, e, count-small (alike (c .before .before .before .before .before .before .args .frame)) (ok (c .before .before .before .before .before .before)))
+mul-result-2 c = let start = c .before .before .before in omega (arith, product-is c, count-small (alike (start .args .frame)) (ok start))
 
 returns : tie.Need-returns
-returns c = ap (λ k. k * (c .before .before .before .before .before .before .args .frame .hs * c .before .before .before .before .before .before .args .frame .vs + (c .before .before .before .before .before .before .args .frame .channels - 1))) (mcus-are (c .before .before)) ∙ sym (blocks-are (alike (c .before .before .before .before .before .before .args .frame)) (ok (c .before .before .before .before .before .before)))
+returns c = let start = c .before .before .before in product-is c ∙ sym (blocks-are (alike (start .args .frame)) (ok start))
 
 pub block-count-spec : {M : Type 1} → statement M
-block-count-spec =
-    tie.close
-    (tie.spec
-    mul-ceiling
-    ceiling-requires
-    mul-ceiling-2
-    ceiling-requires-2
-    mul-result
-    mul-result-2
-    sub-result
-    add-result
-    mul-result-3
-    returns)
+block-count-spec = tie.close (tie.spec mcus-requires mcus-requires-2 mul-result mcu-blocks-requires mul-result-2 returns)

@@ -63,11 +63,18 @@ cast-code c = search needs
 add-code : tie.Need-add-code Inv-walk μ-walk
 add-code c = omega (arith, code-fits (c .before))
 
-add-symbol-at : tie.Need-add-symbol-at Inv-walk μ-walk
-add-symbol-at c = omega (arith, code-fits (c .before .before), place-fits (c .before .before .before .before .before .before .before), c .before .before .before .before .before .before .before .before .before .if1 .left)
+add-byte-at : tie.Need-add-byte-at Inv-walk μ-walk
+add-byte-at c =
+    let told = c .before .before in
+    let here = told .before .before .before .before .before in
+    let inside = here .before .before in
+    omega (arith, code-fits told, place-fits here, inside .if1 .left)
 
-symbol-at-requires : tie.Need-symbol-at-requires Inv-walk μ-walk
-symbol-at-requires c κs = search needs
+byte-at-requires : tie.Need-byte-at-requires Inv-walk μ-walk
+byte-at-requires c κs = search needs
+
+cast-found : tie.Need-cast-found Inv-walk μ-walk
+cast-found c = search needs
 
 add-place-2 : tie.Need-add-place-2 Inv-walk μ-walk
 add-place-2 c = omega (arith, byte (c .before), place-fits (c .before .before .before .before .before .before .before), c .before .before .before .before .before .before .before .before .before .if1 .left)
@@ -92,7 +99,13 @@ returns-3 c = sym (no-bit (c .before .before .before .before .before .walk .inv 
 
 returns-4 : tie.Need-returns-4 Inv-walk μ-walk
 returns-4 c =
-    ap (λ y. got y (c .before .before .before .before .x .given .0 .1 .0)) (c .symbol-at .ensures) ∙ sym (ahead-found (c .before .before .before .before .before .before .before .before .walk .inv) (c .before .before .before .before .before .before .before .if2 .left) (c .before .before .before .before .before .before .bit .ensures) (c .before .before .before .before .x .given .1) (c .before .if3 .taken))
+    let test = c .before in
+    let bound = test .before .before .before in
+    let taken = bound .before .before in
+    let more = taken .before in
+    let here = more .before in
+    ap (λ y. got y (bound .x .given .0 .1 .0)) (c .byte-at .ensures)
+    ∙ sym (ahead-found (here .walk .inv) (more .if2 .left) (taken .bit .ensures) (bound .x .given .1) (test .if3 .taken))
 
 pub symbol-spec : {M : Type 1} → statement M
 symbol-spec =
@@ -113,8 +126,9 @@ symbol-spec =
     mul-code
     cast-code
     add-code
-    add-symbol-at
-    symbol-at-requires
+    add-byte-at
+    byte-at-requires
+    cast-found
     add-place-2
     add-at
     sub-more

@@ -12,27 +12,58 @@ returns : tie.Need-returns
 unfolding framed
 returns c = rw (sym (c .before .channels .ensures) ∙ not-true _ (c .if1 .taken))
 
-factor-requires : tie.Need-factor-requires
-factor-requires c κs = tt
+within-requires : tie.Need-within-requires
+within-requires c κs = tt
 
 returns-2 : tie.Need-returns-2
 unfolding framed
-returns-2 c = rw (sym (c .before .before .before .channels .ensures) ∙ not-false _ (c .before .before .if1 .left), sym (c .before .factor .ensures) ∙ not-true _ (c .if2 .taken))
+returns-2 c =
+    let counted = c .before .before in
+    rw (
+      sym (counted .before .channels .ensures) ∙ not-false _ (counted .if1 .left),
+      sym (c .before .within .ensures) ∙ not-true _ (c .if2 .taken),
+    )
 
-factor-requires-2 : tie.Need-factor-requires-2
-factor-requires-2 c κs = tt
+within-requires-2 : tie.Need-within-requires-2
+within-requires-2 c κs = tt
 
 returns-3 : tie.Need-returns-3
 unfolding framed
-returns-3 c = rw (sym (c .before .before .before .before .before .channels .ensures) ∙ not-false _ (c .before .before .before .before .if1 .left), sym (c .before .before .before .factor .ensures) ∙ not-false _ (c .before .before .if2 .left), sym (c .before .factor2 .ensures) ∙ not-true _ (c .if3 .taken))
+returns-3 c =
+    let across = c .before .before in
+    let counted = across .before .before in
+    rw (
+      sym (counted .before .channels .ensures) ∙ not-false _ (counted .if1 .left),
+      sym (across .before .within .ensures) ∙ not-false _ (across .if2 .left),
+      sym (c .before .within2 .ensures) ∙ not-true _ (c .if3 .taken),
+    )
 
 returns-4 : tie.Need-returns-4
 unfolding framed
-returns-4 c = rw (sym (c .before .before .before .before .before .before .before .channels .ensures) ∙ not-false _ (c .before .before .before .before .before .before .if1 .left), sym (c .before .before .before .before .before .factor .ensures) ∙ not-false _ (c .before .before .before .before .if2 .left), sym (c .before .before .before .factor2 .ensures) ∙ not-false _ (c .before .before .if3 .left), lt-leb _ _ (c .if4 .taken))
+returns-4 c =
+    let down = c .before .before in
+    let across = down .before .before in
+    let counted = across .before .before in
+    rw (
+      sym (counted .before .channels .ensures) ∙ not-false _ (counted .if1 .left),
+      sym (across .before .within .ensures) ∙ not-false _ (across .if2 .left),
+      sym (down .before .within2 .ensures) ∙ not-false _ (down .if3 .left),
+      lt-leb _ _ (c .if4 .taken),
+    )
 
 returns-5 : tie.Need-returns-5
 unfolding framed
-returns-5 c = rw (sym (c .before .before .before .before .before .before .before .before .channels .ensures) ∙ not-false _ (c .before .before .before .before .before .before .before .if1 .left), sym (c .before .before .before .before .before .before .factor .ensures) ∙ not-false _ (c .before .before .before .before .before .if2 .left), sym (c .before .before .before .before .factor2 .ensures) ∙ not-false _ (c .before .before .before .if3 .left), le-leb _ _ (c .before .if4 .left))
+returns-5 c =
+    let wide = c .before in
+    let down = wide .before .before in
+    let across = down .before .before in
+    let counted = across .before .before in
+    rw (
+      sym (counted .before .channels .ensures) ∙ not-false _ (counted .if1 .left),
+      sym (across .before .within .ensures) ∙ not-false _ (across .if2 .left),
+      sym (down .before .within2 .ensures) ∙ not-false _ (down .if3 .left),
+      le-leb _ _ (wide .if4 .left),
+    )
 
 pub framed-spec : {M : Type 1} → statement M
-framed-spec = tie.close (tie.spec channels-requires returns factor-requires returns-2 factor-requires-2 returns-3 returns-4 returns-5)
+framed-spec = tie.close (tie.spec channels-requires returns within-requires returns-2 within-requires-2 returns-3 returns-4 returns-5)

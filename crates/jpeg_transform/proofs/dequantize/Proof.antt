@@ -67,7 +67,7 @@ loop-again c =
     let read = toZ-ofZ {w = w16} {z = at l k} (sfits-of (c .before .before .coefficient-arg .given)) in
     let same = toZ-ofZ {w = w64} {z = c .coefficient .result} (fits-abs (r .1) tt) in
     next (toZ w64 (ofZ w64 (c .coefficient .result))) (a .loop .inv) (omega arith) (omega arith)
-    (same ∙ r .0 ∙ ap₂ (λ z n. z *ℤ pos n) read (c .before .entry .ensures)) (rw same (r .1))
+    (same ∙ r .0 ∙ ap₂ (λ z n. z *ℤ pos n) read (c .before .byte-at .ensures)) (rw same (r .1))
 
 pub dequantize-spec : {M : Type 1} → statement M
 dequantize-spec =

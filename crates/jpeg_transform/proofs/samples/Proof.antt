@@ -41,7 +41,7 @@ returns-2 c =
     c .before .before .flat .ensures
     ∙ ap (λ xs. over xs (s .args .out .now))
     (one-level q l (s .args .places) (toZ w64 (ofZ w64 (r .coefficient .result))) (r .before .before .before .if2 .taken)
-    (back r ∙ r .coefficient .ensures .0 ∙ ap₂ (λ z n. z *ℤ pos n) (toZ-ofZ {w = w16} {z = at l 0} (sfits-of (r .before .before .coefficient-arg .given))) (r .before .entry .ensures)))
+    (back r ∙ r .coefficient .ensures .0 ∙ ap₂ (λ z n. z *ℤ pos n) (toZ-ofZ {w = w16} {z = at l 0} (sfits-of (r .before .before .coefficient-arg .given))) (r .before .byte-at .ensures)))
     ∙ painted-long q l (s .args .places) (s .args .out .now) (r .before .before .before .before .if1 .left)
 
 -- ---- the two passes

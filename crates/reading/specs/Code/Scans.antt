@@ -45,7 +45,7 @@ settledOf s r = cond (ltb (r .blocks) (2 ^ 32)) (settledRead (planOf s r) (scanO
 
 -- what is answered of it
 unfoldable pub scanSettled : Read Bits (Option (List ℕ)) → ScanSettled
-scanSettled (got none b) = answer.NoCode
+scanSettled (got none b) = answer.Lacking
 scanSettled (got (some t) b) = answer.Done (length t)
 scanSettled (fault f) = answer.Stop f
 

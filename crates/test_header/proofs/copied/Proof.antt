@@ -15,11 +15,11 @@ loop-holds c = omega arith
 add-place : tie.Need-add-place Inv-loop μ-loop
 add-place c = omega (arith, c .before .before .before .pre, c .loop-test .taken)
 
-add-byte : tie.Need-add-byte Inv-loop μ-loop
-add-byte c = omega (arith, c .before .before .before .before .pre, c .before .loop-test .taken)
+add-byte-at : tie.Need-add-byte-at Inv-loop μ-loop
+add-byte-at c = omega (arith, c .before .before .before .before .pre, c .before .loop-test .taken)
 
-byte-requires : tie.Need-byte-requires Inv-loop μ-loop
-byte-requires c κs = tt
+byte-at-requires : tie.Need-byte-at-requires Inv-loop μ-loop
+byte-at-requires c κs = tt
 
 element-write-file : tie.Need-element-write-file Inv-loop μ-loop
 element-write-file c = omega (arith, c .before .if1 .taken)
@@ -44,8 +44,8 @@ copied-spec =
     μ-loop
     loop-holds
     add-place
-    add-byte
-    byte-requires
+    add-byte-at
+    byte-at-requires
     element-write-file
     add-i
     loop-less

@@ -21,17 +21,17 @@ add-number c = omega (arith, c .before .before .before .pre, c .loop-test .taken
 number-requires : tie.Need-number-requires Inv-loop μ-loop
 number-requires c κs = tt
 
-mul-byte : tie.Need-mul-byte Inv-loop μ-loop
-mul-byte c = omega (arith, c .before .before .before .before .before .pre, c .before .before .loop-test .taken)
+mul-byte-at : tie.Need-mul-byte-at Inv-loop μ-loop
+mul-byte-at c = omega (arith, c .before .before .before .before .before .pre, c .before .before .loop-test .taken)
 
-add-byte : tie.Need-add-byte Inv-loop μ-loop
-add-byte c = omega (arith, c .before .before .before .before .before .pre, c .before .before .loop-test .taken)
+add-byte-at : tie.Need-add-byte-at Inv-loop μ-loop
+add-byte-at c = omega (arith, c .before .before .before .before .before .pre, c .before .before .loop-test .taken)
 
-add-byte-2 : tie.Need-add-byte-2 Inv-loop μ-loop
-add-byte-2 c = omega (arith, c .before .before .before .before .before .pre, c .before .before .loop-test .taken)
+add-byte-at-2 : tie.Need-add-byte-at-2 Inv-loop μ-loop
+add-byte-at-2 c = omega (arith, c .before .before .before .before .before .pre, c .before .before .loop-test .taken)
 
-byte-requires : tie.Need-byte-requires Inv-loop μ-loop
-byte-requires c κs = tt
+byte-at-requires : tie.Need-byte-at-requires Inv-loop μ-loop
+byte-at-requires c κs = tt
 
 element-write-file : tie.Need-element-write-file Inv-loop μ-loop
 element-write-file c = omega (arith, c .before .if1 .taken)
@@ -58,10 +58,10 @@ patched-spec =
     mul-number
     add-number
     number-requires
-    mul-byte
-    add-byte
-    add-byte-2
-    byte-requires
+    mul-byte-at
+    add-byte-at
+    add-byte-at-2
+    byte-at-requires
     element-write-file
     add-k
     loop-less

@@ -1,50 +1,64 @@
 -- `jpeg_render::layout::all_samples` meets its contract: the numbers are small. Assumes nothing.
-use mathlib.Core.Path.{_≡_, sym, ap, _∙_}
-use Prim.Native.Nat.{_*_}
+use Prim.Native.Nat.{ℕ, _*_}
+use mathlib.Core.Path.{_≡_, sym, ap, ap₂, _∙_}
 use native.Mathlib.Omega.{arith}
+use borrow.Author.Needs.{needs}
+use Rattle.reading.specs.declared.Record.{Record}
+use Rattle.reading.specs.Layout.{ceiling}
+use Rattle.jpeg_render.specs.Rows.{perOf}
 use Rattle.jpeg_render.proofs.Fitting.{blocks-are}
-use Rattle.jpeg_render.proofs.RowPlaces.{mcus-most, blocks-most}
+use Rattle.jpeg_render.proofs.RowPlaces.{across-asked, down-asked, per-asked, mcus-most, blocks-most}
 use Rattle.jpeg_render.proofs.layout.all_samples.Statement.{statement}
 use Rattle.jpeg_render.proofs.layout.all_samples.Tie as tie
 
-mul-wide : tie.Need-mul-wide
-mul-wide c = omega (arith, c .before .pre)
+-- the MCUs of a picture, and its blocks, in the rules' words
+abbrev mcusIn : Record → ℕ
+mcusIn r = ceiling (r .width) (8 * r .hs) * ceiling (r .height) (8 * r .vs)
 
-mul-high : tie.Need-mul-high
-mul-high c = omega (arith, c .before .before .pre)
+abbrev blocksIn : Record → ℕ
+blocksIn r = mcusIn r * perOf r
 
-sub-across : tie.Need-sub-across
-sub-across c = omega (arith, c .before .before .pre)
+mcus-are : (c : tie.After-mcus2) → c .before .mcus .result * c .mcus2 .result ≡ mcusIn (c .before .before .args .found)
+mcus-are c =
+    let across = c .before in
+    let start = across .before in
+    ap₂ (λ (x y : ℕ). x * y) (across-asked _ (start .pre) (across .mcus .ensures)) (down-asked _ (start .pre) (c .mcus2 .ensures))
 
-add-across : tie.Need-add-across
-add-across c = omega (arith, c .before .before .before .pre)
+product-is : (c : tie.After-mcu-blocks) → c .before .before .mcus .result * c .before .mcus2 .result * c .mcu-blocks .result ≡ blocksIn (c .before .before .before .args .found)
+product-is c =
+    let down = c .before in
+    let start = down .before .before in
+    ap₂ (λ (x y : ℕ). x * y) (mcus-are down) (per-asked _ (start .pre) (c .mcu-blocks .ensures))
 
-div-across : tie.Need-div-across
-div-across c = omega (arith, c .before .before .before .pre)
+mcus-requires : tie.Need-mcus-requires
+mcus-requires c κs = search needs
 
-sub-down : tie.Need-sub-down
-sub-down c = omega (arith, c .before .before .before .pre)
-
-add-down : tie.Need-add-down
-add-down c = omega (arith, c .before .before .before .before .pre)
-
-div-down : tie.Need-div-down
-div-down c = omega (arith, c .before .before .before .before .pre)
+mcus-requires-2 : tie.Need-mcus-requires-2
+mcus-requires-2 c κs = search needs
 
 mul-result : tie.Need-mul-result
-mul-result c = omega (arith, mcus-most _ (c .before .before .before .before .pre))
+mul-result c = let start = c .before .before in omega (arith, mcus-are c, mcus-most _ (start .pre))
 
-per-mcu-requires : tie.Need-per-mcu-requires
-per-mcu-requires c κs = c .before .before .before .before .pre
+mcu-blocks-requires : tie.Need-mcu-blocks-requires
+mcu-blocks-requires c κs = search needs
 
 mul-result-2 : tie.Need-mul-result-2
-mul-result-2 c = rw (c .per-mcu .ensures) (omega (arith, blocks-most _ (c .before .before .before .before .before .pre)))
+mul-result-2 c = let start = c .before .before .before in omega (arith, product-is c, blocks-most _ (start .pre))
 
 mul-result-3 : tie.Need-mul-result-3
-mul-result-3 c = rw (c .per-mcu .ensures) (omega (arith, blocks-most _ (c .before .before .before .before .before .pre)))
+mul-result-3 c = let start = c .before .before .before in omega (arith, product-is c, blocks-most _ (start .pre))
 
 returns : tie.Need-returns
-returns c = rw (c .per-mcu .ensures) (sym (ap (λ n. 64 * n) (blocks-are _ (c .before .before .before .before .before .pre))))
+returns c = let start = c .before .before .before in ap (λ n. 64 * n) (product-is c ∙ sym (blocks-are _ (start .pre)))
 
 pub all-samples-spec : {M : Type 1} → statement M
-all-samples-spec = tie.close (tie.spec mul-wide mul-high sub-across add-across div-across sub-down add-down div-down mul-result per-mcu-requires mul-result-2 mul-result-3 returns)
+all-samples-spec =
+    tie.close
+    (tie.spec
+    mcus-requires
+    mcus-requires-2
+    mul-result
+    mcu-blocks-requires
+    mul-result-2
+    mul-result-3
+    returns)

@@ -1,11 +1,12 @@
 -- `jpeg_render::render::row` meets its contract. The loop's invariant: the pixels of some MCUs are written, and the places are those of the
 -- next one. Assumes nothing.
 use Prim.Native.Nat.{_*_, _-_, _≤_}
-use mathlib.Core.Path.{ap}
+use mathlib.Core.Path.{_≡_, ap}
 use native.Mathlib.Omega.{arith}
 use native.Mathlib.Nat.{mul-le-mul, mul-le-mul-right}
 use Rattle.jpeg_render_row.proofs.Drawing.{drawn-all}
-use Rattle.jpeg_render.proofs.RowPlaces.{channels-in, per-most, row-room}
+use Rattle.jpeg_render.specs.Rows.{perOf}
+use Rattle.jpeg_render.proofs.RowPlaces.{channels-in, per-asked, per-most, row-room}
 use Rattle.jpeg_render.proofs.RowDrawn.{RowTo, row-none, luma-most, chroma-counted, next-fits, row-next}
 use Rattle.jpeg_render.proofs.render.row.Statement.{statement}
 use Rattle.jpeg_render.proofs.render.row.Tie as tie
@@ -25,11 +26,14 @@ mul-start c = omega (arith, pixels-most (c .before .before .before))
 mul-start-2 : tie.Need-mul-start-2 Inv-loop μ-loop
 mul-start-2 c = omega (arith, row-room _ _ _ (c .before .before .before .pre .0) _ (c .before .before .before .pre .1), c .before .before .before .good)
 
-per-mcu-requires : tie.Need-per-mcu-requires Inv-loop μ-loop
-per-mcu-requires c κs = c .before .before .before .pre .0 .sized
+mcu-blocks-requires : tie.Need-mcu-blocks-requires Inv-loop μ-loop
+mcu-blocks-requires c κs = tt
+
+per-is : (c : tie.After-mcu-blocks Inv-loop μ-loop) → c .mcu-blocks .result ≡ perOf (c .before .before .before .before .args .found)
+per-is c = let start = c .before .before .before .before in per-asked _ (start .pre .0 .sized) (c .mcu-blocks .ensures)
 
 mul-step : tie.Need-mul-step Inv-loop μ-loop
-mul-step c = omega (arith, c .per-mcu .ensures, per-most _ (c .before .before .before .before .pre .0 .sized))
+mul-step c = omega (arith, per-is c, per-most _ (c .before .before .before .before .pre .0 .sized))
 
 luma-of-row-requires : tie.Need-luma-of-row-requires Inv-loop μ-loop
 luma-of-row-requires c κs = (c .before .before .before .before .pre .0 .sized, c .before .before .before .before .pre .1)
@@ -59,10 +63,32 @@ mcu-requires : tie.Need-mcu-requires Inv-loop μ-loop
 mcu-requires c κs = next-fits _ _ _ (c .before .before .before .before .before .before .before .before .before .before .before .before .before .before .pre .0) _ (c .before .before .before .before .before .before .before .before .before .before .before .before .before .before .pre .1) (c .before .before .before .before .before .before .before .loop .inv) (c .before .before .before .before .before .if1 .taken) _ (c .before .before .least .ensures) (omega arith)
 
 add-luma : tie.Need-add-luma Inv-loop μ-loop
-add-luma c = omega (arith, luma-most _ _ _ (c .before .before .before .before .before .before .before .before .before .before .before .before .before .before .before .before .before .pre .0) _ (c .before .before .before .before .before .before .before .before .before .before .before .before .before .before .before .before .before .pre .1) (c .before .before .before .before .before .before .before .before .before .before .loop .inv) (c .before .before .before .before .before .before .before .before .if1 .taken), c .before .before .before .before .before .before .before .before .before .before .before .before .before .per-mcu .ensures, per-most _ (c .before .before .before .before .before .before .before .before .before .before .before .before .before .before .before .before .before .pre .0 .sized), c .before .before .before .before .before .before .before .before .before .before .before .before .before .before .before .before .before .good)
+add-luma c =
+    let test = c .before .before .before .before .before .before .before .before in
+    let here = test .before .before in
+    let per = here .before .before .before in
+    let start = per .before .before .before .before in
+    omega (
+      arith,
+      luma-most _ _ _ (start .pre .0) _ (start .pre .1) (here .loop .inv) (test .if1 .taken),
+      per-is per,
+      per-most _ (start .pre .0 .sized),
+      start .good,
+    )
 
 add-chroma : tie.Need-add-chroma Inv-loop μ-loop
-add-chroma c = omega (arith, chroma-counted _ _ _ (c .before .before .before .before .before .before .before .before .before .before .before .before .before .before .before .before .before .pre .0) _ (c .before .before .before .before .before .before .before .before .before .before .before .before .before .before .before .before .before .pre .1) (c .before .before .before .before .before .before .before .before .before .before .loop .inv) (c .before .before .before .before .before .before .before .before .if1 .taken), c .before .before .before .before .before .before .before .before .before .before .before .before .before .per-mcu .ensures, per-most _ (c .before .before .before .before .before .before .before .before .before .before .before .before .before .before .before .before .before .pre .0 .sized), c .before .before .before .before .before .before .before .before .before .before .before .before .before .before .before .before .before .good)
+add-chroma c =
+    let test = c .before .before .before .before .before .before .before .before in
+    let here = test .before .before in
+    let per = here .before .before .before in
+    let start = per .before .before .before .before in
+    omega (
+      arith,
+      chroma-counted _ _ _ (start .pre .0) _ (start .pre .1) (here .loop .inv) (test .if1 .taken),
+      per-is per,
+      per-most _ (start .pre .0 .sized),
+      start .good,
+    )
 
 add-x : tie.Need-add-x Inv-loop μ-loop
 add-x c = omega (arith, c .before .before .before .before .before .least .ensures, c .before .before .before .before .before .before .before .before .if1 .taken, c .before .before .before .before .before .before .before .before .before .before .before .before .before .before .before .before .before .pre .0 .sized)
@@ -71,7 +97,26 @@ loop-less : tie.Need-loop-less Inv-loop μ-loop
 loop-less c = omega (arith, c .before .before .before .before .before .least .ensures, c .before .before .before .before .before .before .before .before .if1 .taken, c .before .before .before .before .before .before .before .before .before .before .before .before .before .before .before .before .before .pre .0 .sized)
 
 loop-again : tie.Need-loop-again Inv-loop μ-loop
-loop-again c = row-next _ _ _ (c .before .before .before .before .before .before .before .before .before .before .before .before .before .before .before .before .before .pre .0) _ (c .before .before .before .before .before .before .before .before .before .before .before .before .before .before .before .before .before .pre .1) (c .before .before .before .before .before .before .before .before .before .before .loop .inv) (c .before .before .before .before .before .before .before .before .if1 .taken) _ (c .before .before .before .before .before .least .ensures) (ap (λ k. 64 * k) (c .before .before .before .before .before .before .before .before .before .before .before .before .before .per-mcu .ensures)) (c .before .before .mcu .ensures)
+loop-again c =
+    let drawn = c .before .before in
+    let counted = drawn .before .before .before in
+    let test = counted .before .before .before in
+    let here = test .before .before in
+    let per = here .before .before .before in
+    let start = per .before .before .before .before in
+    row-next
+    _
+    _
+    _
+    (start .pre .0)
+    _
+    (start .pre .1)
+    (here .loop .inv)
+    (test .if1 .taken)
+    _
+    (counted .least .ensures)
+    (ap (λ k. 64 * k) (per-is per))
+    (drawn .mcu .ensures)
 
 same-length : tie.Need-same-length Inv-loop μ-loop
 same-length c = c .before .before .loop .inv .drawn .size
@@ -87,7 +132,7 @@ row-spec =
     μ-loop
     mul-start
     mul-start-2
-    per-mcu-requires
+    mcu-blocks-requires
     mul-step
     luma-of-row-requires
     chroma-of-row-requires

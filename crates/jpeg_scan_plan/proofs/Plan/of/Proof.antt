@@ -1,7 +1,8 @@
--- `Plan::of`: a readable record has numbers so small that no sum of the plan wraps.
+-- `Plan::of`: a readable record has numbers so small that no product of the plan wraps.
 use mathlib.Core.Path.{sym, _∙_}
 use native.Mathlib.Omega.{arith}
 use borrow.Author.Tests.{not-true, not-false}
+use Rattle.reading.proofs.McuCounts.{blocks-asked}
 use Rattle.jpeg_scan_plan.specs.Plans.{planFor}
 use Rattle.jpeg_scan_plan.proofs.Standing.{Readable, readable-says, lumas-few}
 use borrow.Author.Needs.{needs}
@@ -33,16 +34,24 @@ chosen-requires-3 c κs = search needs
 mul-lumas : tie.Need-mul-lumas
 mul-lumas c = omega (arith, lumas-few (fit (c .before .before .before .before .before .before .before .before .before .before)))
 
-sub-per : tie.Need-sub-per
-sub-per c = omega (arith, fit (c .before .before .before .before .before .before .before .before .before .before .before) .channels-some)
-
-add-per : tie.Need-add-per
-add-per c = omega (arith, lumas-few (fit (c .before .before .before .before .before .before .before .before .before .before .before)), fit (c .before .before .before .before .before .before .before .before .before .before .before) .channels-few)
+mcu-blocks-requires : tie.Need-mcu-blocks-requires
+mcu-blocks-requires c κs = search needs
 
 returns-2 : tie.Need-returns-2
 unfolding planFor
 returns-2 c =
-    rw (c .before .before .before .before .chosen .ensures, c .before .before .before .chosen2 .ensures, c .before .before .chosen3 .ensures, sym (c .before .before .before .before .before .before .before .before .before .before .before .before .readable .ensures) ∙ not-false _ (c .before .before .before .before .before .before .before .before .before .before .before .if1 .left))
+    let thirds = c .before .before in
+    let seconds = thirds .before in
+    let firsts = seconds .before in
+    let tested = firsts .before .before .before .before .before .before .before in
+    let f = fit tested in
+    rw (
+      firsts .chosen .ensures,
+      seconds .chosen2 .ensures,
+      thirds .chosen3 .ensures,
+      blocks-asked _ _ _ (c .mcu-blocks .ensures) (f .hs-some) (f .hs-few) (f .vs-some) (f .vs-few) (f .channels-some) (f .channels-few),
+      sym (tested .before .readable .ensures) ∙ not-false _ (tested .if1 .left),
+    )
 
 pub of-spec : {M : Type 1} → statement M
 of-spec =
@@ -55,6 +64,5 @@ of-spec =
     chosen-requires-2
     chosen-requires-3
     mul-lumas
-    sub-per
-    add-per
+    mcu-blocks-requires
     returns-2)

@@ -1,7 +1,9 @@
-use Rattle.jpeg_header_rules.proofs.Walks.{byte-out}
+-- `entry_at`: what stands at a place that there is, and 0 at one that there is not.
+use mathlib.Core.Path.{sym}
+use lib.ListN.{List·getD-eq-default}
 use borrow.Author.Needs.{needs}
-use Rattle.jpeg_header_rules.proofs.entry_at.Statement.{statement}
-use Rattle.jpeg_header_rules.proofs.entry_at.Tie as tie
+use Rattle.reading.proofs.entry_at.Statement.{statement}
+use Rattle.reading.proofs.entry_at.Tie as tie
 
 mul-result : tie.Need-mul-result
 mul-result c = search needs
@@ -13,7 +15,7 @@ returns : tie.Need-returns
 returns c = search needs
 
 returns-2 : tie.Need-returns-2
-returns-2 c = byte-out (c .before .args .list .now) _ (c .if1 .left)
+returns-2 c = sym (List·getD-eq-default (c .before .args .list .now) 0 (c .if1 .left))
 
 pub entry-at-spec : {M : Type 1} → statement M
 entry-at-spec = tie.close (tie.spec mul-result shared-slice-read-result returns returns-2)

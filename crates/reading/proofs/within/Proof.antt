@@ -1,7 +1,7 @@
 -- `within`: two comparisons in one test.
 use borrow.Author.Tests.{le-leb, lt-leb}
-use Rattle.jpeg_scan_plan.proofs.within.Statement.{statement}
-use Rattle.jpeg_scan_plan.proofs.within.Tie as tie
+use Rattle.reading.proofs.within.Statement.{statement}
+use Rattle.reading.proofs.within.Tie as tie
 
 returns : tie.Need-returns
 returns c = rw (le-leb _ _ (c .if1 .taken))
