@@ -1,9 +1,9 @@
 -- What decode answers and leaves, one law for each way through its tests, in their order.
 use mathlib.Core.Path.{_≡_, refl, sym, ap, _∙_, subst⁻¹}
-use mathlib.Core.Bool.{Bool, true, false}
+use mathlib.Core.Bool.{true, false}
 use mathlib.Core.List.{List}
-use Prim.Native.Nat.{ℕ, _+_, _<_, _≤_}
-use borrow.Author.Tests.{lt-ltb, le-ltb, ltb-false}
+use Prim.Native.Nat.{ℕ, _+_, _≤_}
+use borrow.Author.Tests.{ltb-false}
 use lib.Dec.{T, ltb}
 use lib.IntN.{ℤ}
 use lib.ListN.{length}
@@ -14,62 +14,79 @@ use Rattle.reading.specs.declared.Record.{Record}
 use Rattle.reading.specs.declared.Refusal.{Refusal}
 use Rattle.reading.specs.declared.Refusal.the-variants.{OverBudget, ShortRoom, NotItsRecord}
 use Rattle.reading.specs.declared.Verdict.the-variants.{Refused}
-use Rattle.reading.specs.Tests.{_or_}
 use Rattle.reading.specs.Reader.{Read, got, fault}
 use Rattle.reading.specs.Header.{Stage, more, done, stop, header}
 use Rattle.reading.specs.Code.Heads.{headed}
 use Rattle.reading.specs.Scan.{levels}
 use Rattle.reading.specs.Reading.{accepted, scanned, readFrom, reading, allSamples}
-use Rattle.reading.specs.Judging.{remaining}
-use Rattle.reading.specs.Calls.{headerPrice, same, shortRoom, itsLevels, undecoded, decodedWith, decoded, decode}
+use Rattle.reading.specs.Judging.{Judged, accepts, refuses, onward, pay}
+use Rattle.reading.specs.Calls.{headerPrice, same, shortRoom, itsLevels, Decoded, undecoded, decodedWith, decoded, decode}
 use Rattle.reading.proofs.Equal.{records-equal}
 use Rattle.reading.proofs.HeaderEnds.{or-left, or-right}
-use Rattle.jpeg.specs.Steps.{drawnAs}
-use Rattle.jpeg_price.proofs.Admitted.{isRefused}
+use Rattle.jpeg.specs.Steps.{drawnAs, fileDrawn}
+use Rattle.jpeg_price.proofs.Charged.{isRefused}
+
+-- ---- room
+
+module _ (r : Record) (out scratch : List ℕ) (e : shortRoom r out scratch ≡ false) where
+  pub roomy-out : r .output ≤ length out
+  roomy-out = ltb-false (length out) (r .output) (or-left (ltb (length out) (r .output)) (ltb (length scratch) (r .scratch)) e)
+
+  pub roomy-scratch : r .scratch ≤ length scratch
+  roomy-scratch = ltb-false (length scratch) (r .scratch) (or-right (ltb (length out) (r .output)) (ltb (length scratch) (r .scratch)) e)
+
+-- ---- 7 and 2
 
 module _ (s : List ℕ) (r : Record) (out scratch : List ℕ) (budget : Budget) where
-  abbrev pub short : Bool
-  short = shortRoom r out scratch
-
-  pub roomy-out : short ≡ false → r .output ≤ length out
-  roomy-out e = ltb-false (length out) (r .output) (or-left (ltb (length out) (r .output)) (ltb (length scratch) (r .scratch)) e)
-
-  pub roomy-scratch : short ≡ false → r .scratch ≤ length scratch
-  roomy-scratch e = ltb-false (length scratch) (r .scratch) (or-right (ltb (length out) (r .output)) (ltb (length scratch) (r .scratch)) e)
-
-  pub decode-room : short ≡ true → undecoded ShortRoom budget out scratch ≡ decode s r out scratch budget
+  pub decode-room : shortRoom r out scratch ≡ true → undecoded ShortRoom budget out scratch ≡ decode s r out scratch budget
   unfolding decode
   decode-room e = rw e refl
 
-  module _ (e1 : short ≡ false) where
-    pub decode-poor : budget .left < headerPrice s + r .work → undecoded OverBudget budget out scratch ≡ decode s r out scratch budget
+  module _ (e1 : shortRoom r out scratch ≡ false) where
+    -- behind the payment
+    abbrev behind : Judged (Unit {0}) → Decoded
+    behind m = decoded s r out scratch (onward m (λ _. itsLevels r (reading s (r .colour))))
+
+    decode-on : behind (pay (headerPrice s + r .work) OverBudget budget) ≡ decode s r out scratch budget
     unfolding decode
-    decode-poor h = rw (e1, lt-ltb (budget .left) (headerPrice s + r .work) h) refl
+    decode-on = rw e1 refl
 
-    module _ (e2 : headerPrice s + r .work ≤ budget .left) where
-      abbrev pub rest : Budget
-      rest = remaining budget (headerPrice s + r .work)
+    pub decode-poor :
+        (x : Refusal) (rest : Budget)
+        → pay (headerPrice s + r .work) OverBudget budget ≡ refuses x rest
+        → undecoded x rest out scratch ≡ decode s r out scratch budget
+    decode-poor x rest p = sym (ap behind p) ∙ decode-on
 
-      decode-on : decoded s r out scratch (itsLevels r (reading s (r .colour)) rest) ≡ decode s r out scratch budget
-      unfolding decode
-      decode-on = rw (e1, le-ltb (budget .left) (headerPrice s + r .work) e2) refl
+    -- what is drawn behind the price is what decode leaves
+    pub decode-paid :
+        (rest : Budget)
+        → pay (headerPrice s + r .work) OverBudget budget ≡ accepts tt rest
+        → fileDrawn s r out scratch rest ≡ decode s r out scratch budget
+    unfolding fileDrawn
+    decode-paid rest p = sym (ap behind p) ∙ decode-on
 
-      pub decode-head : (x : Refusal) → headed (header s (r .colour)) .verdict ≡ Refused x → undecoded NotItsRecord rest out scratch ≡ decode s r out scratch budget
-      decode-head x e = go (header s (r .colour)) e ∙ decode-on
-        where
-          go : (st : Stage) → headed st .verdict ≡ Refused x → undecoded NotItsRecord rest out scratch ≡ decoded s r out scratch (itsLevels r (readFrom s st) rest)
-          go (more h) q = refl
-          go (done d) q = absurd (subst⁻¹ isRefused q tt)
-          go (stop y) q = refl
+-- ---- behind the price
 
-      -- what a record leads to
-      from-record : (q : Record) → header s (r .colour) ≡ done q → decoded s r out scratch (itsLevels r (scanned q (levels s q)) rest) ≡ decode s r out scratch budget
-      from-record q e = sym (ap (λ st. decoded s r out scratch (itsLevels r (readFrom s st) rest)) e) ∙ decode-on
+module _ (s : List ℕ) (r : Record) (out scratch : List ℕ) (rest : Budget) where
+  abbrev from-stage : Stage → Decoded
+  from-stage st = decoded s r out scratch (itsLevels r (readFrom s st) rest)
 
-      -- what drawing the record leaves is what decode leaves
-      pub decode-drawn : (q : Record) → header s (r .colour) ≡ done q → drawnAs s q r out scratch rest ≡ decode s r out scratch budget
-      unfolding drawnAs
-      decode-drawn q e = from-record q e
+  pub file-headless :
+      (x : Refusal)
+      → headed (header s (r .colour)) .verdict ≡ Refused x
+      → undecoded NotItsRecord rest out scratch ≡ fileDrawn s r out scratch rest
+  unfolding fileDrawn
+  file-headless x e = go (header s (r .colour)) e
+    where
+      go : (st : Stage) → headed st .verdict ≡ Refused x → undecoded NotItsRecord rest out scratch ≡ from-stage st
+      go (more h) q = refl
+      go (done d) q = absurd (subst⁻¹ isRefused q tt)
+      go (stop y) q = refl
+
+  -- what drawing the record leaves
+  pub file-drawn : (q : Record) → header s (r .colour) ≡ done q → drawnAs s q r out scratch rest ≡ fileDrawn s r out scratch rest
+  unfolding drawnAs fileDrawn
+  file-drawn q e = sym (ap from-stage e)
 
 -- ---- behind the header
 

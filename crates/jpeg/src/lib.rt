@@ -1,12 +1,12 @@
 // The public calls (the rules' 'Refusal numbers'): inspect, decode and settle, with their prices, limits and refusals in order.
 ghost use mathlib.Core.Path.{_≡_};
+ghost use mathlib.Core.Bool.{false};
 ghost use lib.Dec.{ltb};
 ghost use Rattle.reading.specs.Tests.{_or_};
-ghost use Rattle.reading.specs.declared.Verdict.the-variants.{Refused};
-ghost use Rattle.reading.specs.Calls.{inspect, decode, settle};
+ghost use Rattle.reading.specs.Calls.{shortRoom, inspect, decode, settle};
 ghost use Rattle.jpeg.specs.Meets.{Meets};
 ghost use Rattle.jpeg_settle.specs.Refiled.{remade};
-ghost use Rattle.jpeg.specs.Steps.{drawnAs, leaving};
+ghost use Rattle.jpeg.specs.Steps.{drawnAs, fileDrawn, leaving};
 use reading::Budget;
 use reading::Decoding;
 use reading::Inspection;
@@ -48,15 +48,6 @@ fn short_room(output: usize, scratch: usize, found: Record) -> bool
     scratch < found.scratch
 }
 
-fn undecoded(x: Refusal, budget: Budget) -> Decoding
-    ensures { λ r. ⌜ r ≡ record { verdict = Refused x; budget = budget } ⌝ }
-{
-    Decoding {
-        verdict: Verdict::Refused(x),
-        budget: budget,
-    }
-}
-
 // Decode behind the header, which read one record where another was given: 8 where they differ or the scan is refused. The scan is
 // read to its end before the first sample is written, so a refusal writes nothing.
 fn draw(
@@ -71,10 +62,10 @@ fn draw(
     ensures { λ r. ⌜ leaving r (now (out .exit)) (now (scratch .exit)) ≡ drawnAs (now (s .entry)) read found (now (out .entry)) (now (scratch .entry)) rest ⌝ }
 {
     if !jpeg_record::same(read, found) {
-        return undecoded(Refusal::NotItsRecord, rest);
+        return jpeg_price::undecoded(Refusal::NotItsRecord, rest);
     }
     match jpeg_scan::draw(s, found, scratch) {
-        ScanRead::Stop(_) => undecoded(Refusal::NotItsRecord, rest),
+        ScanRead::Stop(_) => jpeg_price::undecoded(Refusal::NotItsRecord, rest),
         ScanRead::Done => {
             let n = found.scratch;
             jpeg_render::picture(found, &scratch[..n], out);
@@ -83,6 +74,20 @@ fn draw(
                 budget: rest,
             }
         }
+    }
+}
+
+// Decode behind its price: the header, by the record's colour choice, and 8 where it gives no record.
+fn draw_file(s: &[u8], found: Record, out: &mut [u8], scratch: &mut [u8], rest: Budget) -> Decoding
+    requires { ⌜ shortRoom found (now out) (now scratch) ≡ false ⌝ }
+    ensures { λ r. ⌜ leaving r (now (out .exit)) (now (scratch .exit)) ≡ fileDrawn (now (s .entry)) found (now (out .entry)) (now (scratch .entry)) rest ⌝ }
+{
+    let head = jpeg_header::header(s, found.colour);
+    let verdict = head.verdict;
+    let read = head.found;
+    match verdict {
+        Verdict::Refused(_) => jpeg_price::undecoded(Refusal::NotItsRecord, rest),
+        Verdict::Accepted => draw(s, read, found, out, scratch, rest),
     }
 }
 
@@ -97,28 +102,14 @@ pub fn decode(
     ensures { λ r. ⌜ leaving r (now (out .exit)) (now (scratch .exit)) ≡ decode (now (s .entry)) found (now (out .entry)) (now (scratch .entry)) budget ⌝ }
 {
     if short_room(out.len(), scratch.len(), found) {
-        return undecoded(Refusal::ShortRoom, budget);
+        return jpeg_price::undecoded(Refusal::ShortRoom, budget);
     }
-    let n = s.len();
-    if jpeg_price::past_counting(n) {
-        return undecoded(Refusal::OverBudget, budget);
-    }
-    let price = jpeg_price::header_price(n);
-    if !budget.covers(price) {
-        return undecoded(Refusal::OverBudget, budget);
-    }
-    let left = budget.less(price);
-    let work = found.work;
-    if !left.covers(work) {
-        return undecoded(Refusal::OverBudget, budget);
-    }
-    let rest = left.less(work);
-    let head = jpeg_header::header(s, found.colour);
-    let verdict = head.verdict;
-    let read = head.found;
+    let paid = jpeg_price::charge(s.len(), found.work, budget);
+    let verdict = paid.verdict;
+    let rest = paid.budget;
     match verdict {
-        Verdict::Refused(_) => undecoded(Refusal::NotItsRecord, rest),
-        Verdict::Accepted => draw(s, read, found, out, scratch, rest),
+        Verdict::Refused(x) => jpeg_price::undecoded(x, rest),
+        Verdict::Accepted => draw_file(s, found, out, scratch, rest),
     }
 }
 

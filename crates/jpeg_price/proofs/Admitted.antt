@@ -1,12 +1,9 @@
 -- What the tests before the scan answer, one law for each way through them, and what such an answer says of inspect's judgement: where it
 -- refuses, the judgement does; where it admits a record, its scan decides.
 use mathlib.Core.Path.{_≡_, refl, sym, ap, _∙_, subst, subst⁻¹}
-use mathlib.Core.Bool.{Bool, true, false, not}
+use mathlib.Core.Bool.{Bool, true, false}
 use mathlib.Core.List.{List}
-use Prim.Native.Nat.{ℕ, _+_, _*_, _-_, _^_, _<_, _≤_}
-use borrow.Author.Tests.{lt-ltb, le-ltb, lt-leb, leb-true, leb-false, not-true, not-false}
-use lib.Dec.{leb}
-use lib.ListN.{length}
+use Prim.Native.Nat.{ℕ, _^_, _<_}
 use Rattle.reading.specs.declared.Budget.{Budget}
 use Rattle.reading.specs.declared.Head.{Head}
 use Rattle.reading.specs.declared.Inspection.{Inspection}
@@ -18,21 +15,15 @@ use Rattle.reading.specs.declared.Verdict.{Verdict}
 use Rattle.reading.specs.declared.Verdict.the-variants.{Accepted, Refused}
 use Rattle.reading.specs.Header.{Stage, more, done, stop, header, ending}
 use Rattle.reading.specs.Code.Heads.{headed}
-use Rattle.reading.specs.Judging.{Judged, accepts, refuses, onward, give, refuse, remaining}
+use Rattle.reading.specs.Judging.{Judged, accepts, refuses, onward, give, refuse, pay}
 use Rattle.reading.specs.Calls.{headerPrice, tooLong, tooLarge, weighing, admission, inspection}
-use Rattle.reading.proofs.Judgement.{not-long, Way, long, poor-for-work, headless, large, admitted, way}
+use Rattle.reading.proofs.Judgement.{Way, long, poor-for-work, headless, large, admitted, way}
 use Rattle.reading.proofs.Judgement as judgement
 use Rattle.jpeg_price.specs.Admission as spec
-use Rattle.jpeg_price.specs.Admission.{fittedPrice, weighed}
+use Rattle.jpeg_price.specs.Admission.{weighed}
+use Rattle.jpeg_price.proofs.Charged.{stopped, isRefused}
 
 -- ---- what the header's answer says of its stage
-
-stopped : (x y : Refusal) → Refused x ≡ Refused y → x ≡ y
-stopped x y e = cc
-
-abbrev pub isRefused : Verdict → Type 0
-isRefused Accepted = ⊥
-isRefused (Refused x) = Unit {0}
 
 pub headed-done : (st : Stage) → headed st .verdict ≡ Accepted → st ≡ done (headed st .found)
 headed-done (more h) e = absurd (subst isRefused e tt)
@@ -46,26 +37,6 @@ done-found st h e v = headed-done st (sym (ap (λ (k : Head). k .verdict) e) ∙
 pub stop-verdict : (st : Stage) (h : Head) (x : Refusal) → h ≡ headed st → h .verdict ≡ Refused x → headed st .verdict ≡ Refused x
 stop-verdict st h x e v = sym (ap (λ (k : Head). k .verdict) e) ∙ v
 
--- ---- the header's price
-
-module _ (n : ℕ) {t : Bool} (e : t ≡ leb (2 ^ 64) (2 * n + 1)) where
-  pub price-past : t ≡ true → 2 ^ 64 - 1 ≡ fittedPrice n
-  unfolding fittedPrice
-  price-past p = rw (sym e ∙ p) refl
-
-  pub price-fits : t ≡ false → 2 * n + 1 ≡ fittedPrice n
-  unfolding fittedPrice
-  price-fits p = rw (sym e ∙ p) refl
-
--- ---- budgets
-
--- a price that a budget does not cover, and one that it covers
-pub poor : (p q b : ℕ) (t : Bool) → p ≡ q → t ≡ leb p b → not t ≡ true → b < q
-poor p q b t e f n = rw (sym e) (leb-false p b (sym f ∙ not-true t n))
-
-pub rich : (p q b : ℕ) (t : Bool) → p ≡ q → t ≡ leb p b → not t ≡ false → q ≤ b
-rich p q b t e f n = rw (sym e) (leb-true p b (sym f ∙ not-false t n))
-
 -- ---- the record weighed
 
 module _ (l : Limits) (left : Budget) (r : Record) (t1 : Bool) (e1 : t1 ≡ tooLarge l r) where
@@ -73,14 +44,20 @@ module _ (l : Limits) (left : Budget) (r : Record) (t1 : Bool) (e1 : t1 ≡ tooL
   unfolding weighed
   weighed-large p = rw (sym e1 ∙ p) refl
 
-  module _ (f1 : t1 ≡ false) (t2 : Bool) (e2 : t2 ≡ leb (r .work) (left .left)) where
-    pub weighed-poor : not t2 ≡ true → inspection (refuses WorkOverBudget left) ≡ weighed l left r
-    unfolding weighed
-    weighed-poor p = rw (sym e1 ∙ f1, lt-ltb (left .left) (r .work) (poor (r .work) (r .work) (left .left) t2 refl e2 p)) refl
+  module _ (f1 : t1 ≡ false) where
+    -- behind the payment for work
+    abbrev worked : Judged (Unit {0}) → Inspection
+    worked m = inspection (onward m (λ _. give r))
 
-    pub weighed-well : not t2 ≡ false → inspection (accepts r (remaining left (r .work))) ≡ weighed l left r
+    weighed-on : worked (pay (r .work) WorkOverBudget left) ≡ weighed l left r
     unfolding weighed
-    weighed-well p = rw (sym e1 ∙ f1, le-ltb (left .left) (r .work) (rich (r .work) (r .work) (left .left) t2 refl e2 p)) refl
+    weighed-on = rw (sym e1 ∙ f1) refl
+
+    pub weighed-poor : (x : Refusal) (b : Budget) → pay (r .work) WorkOverBudget left ≡ refuses x b → inspection (refuses x b) ≡ weighed l left r
+    weighed-poor x b p = sym (ap worked p) ∙ weighed-on
+
+    pub weighed-well : (b : Budget) → pay (r .work) WorkOverBudget left ≡ accepts tt b → inspection (accepts r b) ≡ weighed l left r
+    weighed-well b p = sym (ap worked p) ∙ weighed-on
 
 -- ---- the ways through the tests
 
@@ -90,34 +67,41 @@ module _ (s : List ℕ) (colour : Bool) (l : Limits) (budget : Budget) where
   admitted-long e = rw e refl
 
   module _ (e1 : tooLong s l ≡ false) where
-    pub admitted-price : fittedPrice (length s) ≡ headerPrice s
-    unfolding fittedPrice
-    admitted-price = rw (lt-leb (2 ^ 64) (headerPrice s) (not-long s l e1 .1)) refl
+    -- behind the header, and before it, behind the payment for it
+    abbrev behind : Stage → Budget → Inspection
+    behind st left = inspection (onward (ending give refuse st left) (weighing l))
 
-    pub admitted-poor : budget .left < headerPrice s → inspection (refuses OverBudget budget) ≡ spec.admitted s colour l budget
+    abbrev entered : Judged (Unit {0}) → Inspection
+    entered m = inspection (onward m (λ _ left. onward (ending give refuse (header s colour) left) (weighing l)))
+
+    admitted-on : entered (pay (headerPrice s) OverBudget budget) ≡ spec.admitted s colour l budget
     unfolding spec.admitted
-    admitted-poor h = rw (e1, lt-ltb (budget .left) (headerPrice s) h) refl
+    admitted-on = rw e1 refl
 
-    module _ (e2 : headerPrice s ≤ budget .left) where
-      -- behind the header's price
-      abbrev behind : Stage → Inspection
-      behind st = inspection (onward (ending give refuse st (remaining budget (headerPrice s))) (weighing l))
+    pub admitted-poor :
+        (x : Refusal) (b : Budget)
+        → pay (headerPrice s) OverBudget budget ≡ refuses x b
+        → inspection (refuses x b) ≡ spec.admitted s colour l budget
+    admitted-poor x b p = sym (ap entered p) ∙ admitted-on
 
-      admitted-on : behind (header s colour) ≡ spec.admitted s colour l budget
-      unfolding spec.admitted
-      admitted-on = rw (e1, le-ltb (budget .left) (headerPrice s) e2) refl
+    module _ (left : Budget) (e2 : pay (headerPrice s) OverBudget budget ≡ accepts tt left) where
+      admitted-in : behind (header s colour) left ≡ spec.admitted s colour l budget
+      admitted-in = sym (ap entered e2) ∙ admitted-on
 
-      pub admitted-head : (x : Refusal) → headed (header s colour) .verdict ≡ Refused x → inspection (refuses x (remaining budget (headerPrice s))) ≡ spec.admitted s colour l budget
-      admitted-head x e = go (header s colour) e ∙ admitted-on
+      pub admitted-head :
+          (x : Refusal)
+          → headed (header s colour) .verdict ≡ Refused x
+          → inspection (refuses x left) ≡ spec.admitted s colour l budget
+      admitted-head x e = go (header s colour) e ∙ admitted-in
         where
-          go : (st : Stage) → headed st .verdict ≡ Refused x → inspection (refuses x (remaining budget (headerPrice s))) ≡ behind st
-          go (more h) v = sym (ap (λ y. inspection (refuses y (remaining budget (headerPrice s)))) (stopped CutShort x v))
+          go : (st : Stage) → headed st .verdict ≡ Refused x → inspection (refuses x left) ≡ behind st left
+          go (more h) v = sym (ap (λ y. inspection (refuses y left)) (stopped CutShort x v))
           go (done r) v = absurd (subst⁻¹ isRefused v tt)
-          go (stop y) v = sym (ap (λ y. inspection (refuses y (remaining budget (headerPrice s)))) (stopped y x v))
+          go (stop y) v = sym (ap (λ y. inspection (refuses y left)) (stopped y x v))
 
-      pub admitted-record : (r : Record) → header s colour ≡ done r → weighed l (remaining budget (headerPrice s)) r ≡ spec.admitted s colour l budget
+      pub admitted-record : (r : Record) → header s colour ≡ done r → weighed l left r ≡ spec.admitted s colour l budget
       unfolding weighed
-      admitted-record r e = sym (ap behind e) ∙ admitted-on
+      admitted-record r e = sym (ap (λ st. behind st left) e) ∙ admitted-in
 
 -- ---- what an answer says of the judgement
 

@@ -1,2 +1,3 @@
--- Laws of the tests before the scan.
+-- Laws of the tests before the scan, and of payments.
+pub mod Charged
 pub mod Admitted

@@ -1,18 +1,13 @@
 -- What inspect and settle test before the scan is read, in the parts that the code has.
-use mathlib.Core.Bool.{Bool, cond}
+use mathlib.Core.Bool.{Bool}
 use mathlib.Core.List.{List}
-use Prim.Native.Nat.{ℕ, _+_, _*_, _-_, _^_}
-use lib.Dec.{leb}
+use Prim.Native.Nat.{ℕ}
 use Rattle.reading.specs.declared.Budget.{Budget}
 use Rattle.reading.specs.declared.Inspection.{Inspection}
 use Rattle.reading.specs.declared.Limits.{Limits}
 use Rattle.reading.specs.declared.Record.{Record}
 use Rattle.reading.specs.Header.{header}
 use Rattle.reading.specs.Calls.{weighing, admission, inspection}
-
--- the header's price of n bytes: 2n + 1, or where that does not fit 64 bits the largest number that does
-unfoldable pub fittedPrice : ℕ → ℕ
-fittedPrice n = cond (leb (2 ^ 64) (2 * n + 1)) (2 ^ 64 - 1) (2 * n + 1)
 
 -- behind the header: 6, then 2 for work
 unfoldable pub weighed : Limits → Budget → Record → Inspection

@@ -1,2 +1,3 @@
--- The tests before the scan, and the header's price.
+-- The tests before the scan, and what decode takes.
 pub mod Admission
+pub mod Charge

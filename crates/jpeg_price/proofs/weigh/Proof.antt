@@ -1,6 +1,7 @@
-use mathlib.Core.Path.{ap, _∙_}
-use Rattle.reading.specs.Judging.{accepts}
-use Rattle.reading.specs.Calls.{inspection}
+use mathlib.Core.Path.{_∙_}
+use Rattle.reading.specs.declared.Refusal.the-variants.{WorkOverBudget}
+use Rattle.reading.specs.Judging.{pay}
+use Rattle.jpeg_price.proofs.Charged.{unpaid, paid}
 use Rattle.jpeg_price.proofs.Admitted.{weighed-large, weighed-poor, weighed-well}
 use borrow.Author.Needs.{needs}
 use Rattle.jpeg_price.proofs.weigh.Statement.{statement}
@@ -13,22 +14,41 @@ refused-requires : tie.Need-refused-requires
 refused-requires c κs = search needs
 
 returns : tie.Need-returns
-returns c = c .refused .ensures ∙ weighed-large (c .before .before .before .args .limits) (c .before .before .before .args .left) (c .before .before .before .args .found) _ (c .before .before .too-large .ensures) (c .before .if1 .taken)
+returns c =
+    let tested = c .before .before in
+    let start = tested .before in
+    c .refused .ensures
+    ∙ weighed-large (start .args .limits) (start .args .left) (start .args .found) _ (tested .too-large .ensures) (c .before .if1 .taken)
 
-covers-requires : tie.Need-covers-requires
-covers-requires c κs = search needs
+pay-requires : tie.Need-pay-requires
+pay-requires c κs = search needs
+
+enum-known-verdict : tie.Need-enum-known-verdict
+enum-known-verdict c = search needs
 
 refused-requires-2 : tie.Need-refused-requires-2
 refused-requires-2 c κs = search needs
 
-returns-2 : tie.Need-returns-2
-returns-2 c = c .refused2 .ensures ∙ weighed-poor (c .before .before .before .before .before .args .limits) (c .before .before .before .before .before .args .left) (c .before .before .before .before .before .args .found) _ (c .before .before .before .before .too-large .ensures) (c .before .before .before .if1 .left) _ (c .before .before .covers .ensures) (c .before .if2 .taken)
+enum-told : tie.Need-enum-told
+enum-told c = search needs
 
-less-requires : tie.Need-less-requires
-less-requires c κs = search needs
+returns-2 : tie.Need-returns-2
+returns-2 c =
+    let told = c .before .before in
+    let payment = told .before .before .before in
+    let small = payment .before in
+    let start = small .before .before in
+    let below = unpaid (pay (start .args .found .work) WorkOverBudget (start .args .left)) (payment .pay .ensures) (told .verdict .given .1) in
+    c .refused2 .ensures
+    ∙ weighed-poor (start .args .limits) (start .args .left) (start .args .found) _ (small .before .too-large .ensures) (small .if1 .left) _ _ below
 
 returns-3 : tie.Need-returns-3
-returns-3 c = ap (λ b. inspection (accepts (c .before .before .before .before .before .args .found) b)) (c .less .ensures) ∙ weighed-well (c .before .before .before .before .before .args .limits) (c .before .before .before .before .before .args .left) (c .before .before .before .before .before .args .found) _ (c .before .before .before .before .too-large .ensures) (c .before .before .before .if1 .left) _ (c .before .before .covers .ensures) (c .before .if2 .left)
+returns-3 c =
+    let payment = c .before .before .before in
+    let small = payment .before in
+    let start = small .before .before in
+    let taken = paid (pay (start .args .found .work) WorkOverBudget (start .args .left)) (payment .pay .ensures) (c .enum-told .given .1) in
+    weighed-well (start .args .limits) (start .args .left) (start .args .found) _ (small .before .too-large .ensures) (small .if1 .left) _ taken
 
 pub weigh-spec : {M : Type 1} → statement M
 weigh-spec =
@@ -37,8 +57,9 @@ weigh-spec =
     too-large-requires
     refused-requires
     returns
-    covers-requires
+    pay-requires
+    enum-known-verdict
     refused-requires-2
+    enum-told
     returns-2
-    less-requires
     returns-3)
