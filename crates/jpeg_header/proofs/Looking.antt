@@ -15,7 +15,7 @@ use Rattle.reading.specs.declared.Sought.{Sought}
 use Rattle.reading.specs.declared.Sought.the-variants.{Absent, There}
 use Rattle.reading.specs.Header.{Stage, more, done, stop, step, opens, opening}
 use Rattle.reading.specs.Comments.{textAt, atComment, passed, commentsFrom, comments, sought}
-use Rattle.reading.proofs.Stages.{refuse-go, refuse-yes}
+use Rattle.reading.proofs.Stages.{stop-go, stop-yes}
 use Rattle.reading.proofs.HeaderEnds.{left, opens-two}
 use Rattle.reading.proofs.FileBytes.{AllBytes}
 use Rattle.jpeg_header.specs.Steps.{goesOn}
@@ -127,12 +127,12 @@ module _ (s : List ℕ) (i : ℕ) where
         run = run-start s false (opens-two s (ap not e)) e;
         fuel = 2 * length s + 1;
         enough = omega (arith, opens-two s (ap not e));
-        same = ap (λ st. sought (commentsFrom s (2 * length s + 1) st) i) (refuse-go (not (opens s)) Malformed (more opening) (ap not e));
+        same = ap (λ st. sought (commentsFrom s (2 * length s + 1) st) i) (stop-go (not (opens s)) Malformed (more opening) (ap not e));
       }
 
   pub look-closed : opens s ≡ false → Absent ≡ sought (comments s) i
   unfolding comments
-  look-closed e = sym (ap (λ st. sought (commentsFrom s (2 * length s + 1) st) i) (refuse-yes (not (opens s)) Malformed (more opening) (ap not e)) ∙ ap (λ ps. sought ps i) (none-from s (2 * length s + 1) (stop Malformed) (λ h w. apart h Malformed w)))
+  look-closed e = sym (ap (λ st. sought (commentsFrom s (2 * length s + 1) st) i) (stop-yes (not (opens s)) Malformed (more opening) (ap not e)) ∙ ap (λ ps. sought ps i) (none-from s (2 * length s + 1) (stop Malformed) (λ h w. apart h Malformed w)))
 
 -- ---- a step's answer
 

@@ -14,7 +14,7 @@ use Rattle.reading.specs.declared.Kind.the-variants.{Frames, Skips, Others}
 use Rattle.reading.specs.declared.Header.{Header}
 use Rattle.reading.specs.Tests.{_or_, within}
 use Rattle.reading.specs.Header.{Stage, more, stop, stop-if, byte, word, moved, window, kindOf, segment, segmentEnd, marker}
-use Rattle.reading.proofs.Stages.{refuse-yes, refuse-go, chosen-or}
+use Rattle.reading.proofs.Stages.{stop-yes, stop-go, chosen-or}
 use Rattle.reading.proofs.HeaderEnds.{segment-room}
 use Rattle.jpeg_header_state.specs.declared.Stepped.{Stepped}
 use Rattle.jpeg_header_state.specs.Segments.{stepped}
@@ -126,43 +126,43 @@ module _ (s : List ℕ) (colour : Bool) (h : Header) where
   unmarked = ltb (length s) (h .at + 2) or not (eqb (byte s (h .at)) 255)
 
   pub marker-short : length s < h .at + 2 → stop Malformed ≡ marker s colour h
-  marker-short p = sym (refuse-yes unmarked Malformed _ (or-yes (ltb (length s) (h .at + 2)) _ (lt-ltb (length s) (h .at + 2) p)))
+  marker-short p = sym (stop-yes unmarked Malformed _ (or-yes (ltb (length s) (h .at + 2)) _ (lt-ltb (length s) (h .at + 2) p)))
 
   module _ (two : h .at + 2 ≤ length s) where
     told : (x : Bool) → not (eqb (byte s (h .at)) 255) ≡ x → unmarked ≡ x
     told x e = or-on (ltb (length s) (h .at + 2)) (not (eqb (byte s (h .at)) 255)) x (le-ltb (length s) (h .at + 2) two) e
 
     pub marker-first : (byte s (h .at) ≡ 255 → ⊥) → stop Malformed ≡ marker s colour h
-    marker-first p = sym (refuse-yes unmarked Malformed _ (told true (ap not (ne-eqb (byte s (h .at)) 255 p))))
+    marker-first p = sym (stop-yes unmarked Malformed _ (told true (ap not (ne-eqb (byte s (h .at)) 255 p))))
 
     module _ (first : byte s (h .at) ≡ 255) where
       opened : (st : Stage) → stop-if unmarked Malformed st ≡ st
-      opened st = refuse-go unmarked Malformed st (told false (ap not (eq-eqb (byte s (h .at)) 255 first)))
+      opened st = stop-go unmarked Malformed st (told false (ap not (eq-eqb (byte s (h .at)) 255 first)))
 
       pub marker-fill : byte s (h .at + 1) ≡ 255 → more (moved h (h .at + 1) Marker) ≡ marker s colour h
       marker-fill p = cond-yes (eqb (byte s (h .at + 1)) 255) _ _ (eq-eqb (byte s (h .at + 1)) 255 p) ∙ sym (opened _)
 
       pub marker-end : byte s (h .at + 1) ≡ 217 → stop Malformed ≡ marker s colour h
       marker-end p =
-          sym (refuse-yes (eqb (byte s (h .at + 1)) 217) Malformed _ (eq-eqb (byte s (h .at + 1)) 217 p))
+          sym (stop-yes (eqb (byte s (h .at + 1)) 217) Malformed _ (eq-eqb (byte s (h .at + 1)) 217 p))
           ∙ cond-no (eqb (byte s (h .at + 1)) 255) _ _ (ap (λ c. eqb c 255) p)
           ∙ sym (opened _)
 
       module _ (k : Kind) (asks : Asks (byte s (h .at + 1)) k) where
         onward : (x st : Stage) → st ≡ cond (eqb (byte s (h .at + 1)) 255) x (stop-if (eqb (byte s (h .at + 1)) 217) Malformed st)
-        onward x st = sym (refuse-go (eqb (byte s (h .at + 1)) 217) Malformed st (asks .2)) ∙ cond-no (eqb (byte s (h .at + 1)) 255) x _ (asks .1)
+        onward x st = sym (stop-go (eqb (byte s (h .at + 1)) 217) Malformed st (asks .2)) ∙ cond-no (eqb (byte s (h .at + 1)) 255) x _ (asks .1)
 
         -- what is made of a segment of that kind
         abbrev made : Segment → Stepped
         made g = cond (g .cut) (stepped (stop CutShort)) (stepped (segment colour h k (window s (g .from) (g .end)) (g .from) (g .end)))
 
         cut : cutAt s (h .at) ≡ true → stop CutShort ≡ marker s colour h
-        cut p = sym (refuse-yes (cutAt s (h .at)) CutShort _ p) ∙ onward _ _ ∙ sym (opened _)
+        cut p = sym (stop-yes (cutAt s (h .at)) CutShort _ p) ∙ onward _ _ ∙ sym (opened _)
 
         whole : cutAt s (h .at) ≡ false → segment colour h k (window s (h .at + 4) (segmentEnd s (h .at))) (h .at + 4) (segmentEnd s (h .at)) ≡ marker s colour h
         whole p =
             ap (λ i. segment colour h i (window s (h .at + 4) (segmentEnd s (h .at))) (h .at + 4) (segmentEnd s (h .at))) (sym (asks .0))
-            ∙ sym (refuse-go (cutAt s (h .at)) CutShort _ p)
+            ∙ sym (stop-go (cutAt s (h .at)) CutShort _ p)
             ∙ onward _ _
             ∙ sym (opened _)
 

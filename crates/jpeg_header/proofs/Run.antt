@@ -15,7 +15,7 @@ use Rattle.reading.specs.declared.Case.the-variants.{Marker, Quantizers, Huffma
 use Rattle.reading.specs.declared.Header.{Header}
 use Rattle.reading.specs.declared.Record.{Record}
 use Rattle.reading.specs.Header.{more, done, stop, byte, window, step, steps, opens, opening, header}
-use Rattle.reading.proofs.Stages.{refuse-go, refuse-yes}
+use Rattle.reading.proofs.Stages.{stop-go, stop-yes}
 use Rattle.reading.proofs.HeaderPrefix.{steps-done, steps-stop}
 use Rattle.reading.proofs.HeaderEnds.{Down, on, Ok, inside, left, step-down}
 use Rattle.reading.proofs.FileBytes.{AllBytes}
@@ -88,12 +88,12 @@ module _ (s : List ℕ) (colour : Bool) where
         ok = (l, tt);
         shaped = ((λ k. absurd (not-suc-le-zero k)), lit< tt);
         enough = omega arith;
-        same = ap (steps s colour (2 * length s + 1)) (refuse-go (not (opens s)) Malformed (more opening) (ap not e));
+        same = ap (steps s colour (2 * length s + 1)) (stop-go (not (opens s)) Malformed (more opening) (ap not e));
       }
 
   pub run-closed : opens s ≡ false → header s colour ≡ stop Malformed
   unfolding header
-  run-closed e = ap (steps s colour (2 * length s + 1)) (refuse-yes (not (opens s)) Malformed (more opening) (ap not e)) ∙ steps-stop s colour (2 * length s + 1) Malformed
+  run-closed e = ap (steps s colour (2 * length s + 1)) (stop-yes (not (opens s)) Malformed (more opening) (ap not e)) ∙ steps-stop s colour (2 * length s + 1) Malformed
 
 -- ---- the file's first two bytes
 

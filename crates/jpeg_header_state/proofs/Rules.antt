@@ -13,7 +13,7 @@ use Rattle.reading.specs.declared.Header.{Header}
 use Rattle.reading.specs.Huffman.{sum}
 use Rattle.reading.specs.Layout.{blockCount, outputLength}
 use Rattle.reading.specs.Header.{Stage, more, done, stop, stop-if, byte, word, moved, each, withQuantizer, countsOf, withTable, frameKnown, frameOf, frameFits, withFrame, hasFrame, frame, withInterval, interval, shapeOf, dcId, acId, recordOf, complete, scanKnown, inOrder, selected, scanSegment}
-use Rattle.reading.proofs.Stages.{refuse-yes, refuse-go}
+use Rattle.reading.proofs.Stages.{stop-yes, stop-go}
 use Rattle.reading.proofs.Accepted.{work-is}
 
 pub cond-yes : {A : Type 0} (t : Bool) (x y : A) → t ≡ true → x ≡ cond t x y
@@ -32,10 +32,10 @@ module _ (h : Header) (e : ℕ) (fits : Bool) (next : Header) where
   entry-end p = cond-yes (eqb (h .at) e) _ _ (eq-eqb (h .at) e p)
 
   pub entry-bad : (h .at ≡ e → ⊥) → fits ≡ false → stop Malformed ≡ entry
-  entry-bad p q = sym (refuse-yes (not fits) Malformed _ (ap not q)) ∙ cond-no (eqb (h .at) e) _ _ (ne-eqb (h .at) e p)
+  entry-bad p q = sym (stop-yes (not fits) Malformed _ (ap not q)) ∙ cond-no (eqb (h .at) e) _ _ (ne-eqb (h .at) e p)
 
   pub entry-in : (h .at ≡ e → ⊥) → fits ≡ true → more next ≡ entry
-  entry-in p q = sym (refuse-go (not fits) Malformed _ (ap not q)) ∙ cond-no (eqb (h .at) e) _ _ (ne-eqb (h .at) e p)
+  entry-in p q = sym (stop-go (not fits) Malformed _ (ap not q)) ∙ cond-no (eqb (h .at) e) _ _ (ne-eqb (h .at) e p)
 
 -- ---- a quantizer
 
@@ -68,28 +68,28 @@ module _ (b : List ℕ) (h : Header) where
 
 module _ (b : List ℕ) (h : Header) (e : ℕ) where
   pub frame-second : 0 < h .frame .channels → stop Malformed ≡ frame b h e
-  frame-second p = sym (refuse-yes (hasFrame h) Malformed _ (lt-ltb 0 (h .frame .channels) p))
+  frame-second p = sym (stop-yes (hasFrame h) Malformed _ (lt-ltb 0 (h .frame .channels) p))
 
   module _ (first : h .frame .channels ≤ 0) where
     pub frame-unknown : frameKnown b ≡ false → stop Unsupported ≡ frame b h e
-    frame-unknown q = sym (refuse-go (hasFrame h) Malformed _ (le-ltb 0 (h .frame .channels) first) ∙ refuse-yes (not (frameKnown b)) Unsupported _ (ap not q))
+    frame-unknown q = sym (stop-go (hasFrame h) Malformed _ (le-ltb 0 (h .frame .channels) first) ∙ stop-yes (not (frameKnown b)) Unsupported _ (ap not q))
 
     module _ (known : frameKnown b ≡ true) where
       pub frame-length : (length b ≡ 6 + 3 * byte b 5 → ⊥) → stop Malformed ≡ frame b h e
-      frame-length q = sym (refuse-go (hasFrame h) Malformed _ (le-ltb 0 (h .frame .channels) first) ∙ refuse-go (not (frameKnown b)) Unsupported _ (ap not known) ∙ refuse-yes (not (eqb (length b) (6 + 3 * byte b 5))) Malformed _ (ap not (ne-eqb (length b) (6 + 3 * byte b 5) q)))
+      frame-length q = sym (stop-go (hasFrame h) Malformed _ (le-ltb 0 (h .frame .channels) first) ∙ stop-go (not (frameKnown b)) Unsupported _ (ap not known) ∙ stop-yes (not (eqb (length b) (6 + 3 * byte b 5))) Malformed _ (ap not (ne-eqb (length b) (6 + 3 * byte b 5) q)))
 
       module _ (whole : length b ≡ 6 + 3 * byte b 5) where
         pub frame-bad : frameFits b (frameOf b) ≡ false → stop Unsupported ≡ frame b h e
-        frame-bad q = sym (refuse-go (hasFrame h) Malformed _ (le-ltb 0 (h .frame .channels) first) ∙ refuse-go (not (frameKnown b)) Unsupported _ (ap not known) ∙ refuse-go (not (eqb (length b) (6 + 3 * byte b 5))) Malformed _ (ap not (eq-eqb (length b) (6 + 3 * byte b 5) whole)) ∙ refuse-yes (not (frameFits b (frameOf b))) Unsupported _ (ap not q))
+        frame-bad q = sym (stop-go (hasFrame h) Malformed _ (le-ltb 0 (h .frame .channels) first) ∙ stop-go (not (frameKnown b)) Unsupported _ (ap not known) ∙ stop-go (not (eqb (length b) (6 + 3 * byte b 5))) Malformed _ (ap not (eq-eqb (length b) (6 + 3 * byte b 5) whole)) ∙ stop-yes (not (frameFits b (frameOf b))) Unsupported _ (ap not q))
 
         pub frame-in : frameFits b (frameOf b) ≡ true → more (withFrame h e (frameOf b)) ≡ frame b h e
-        frame-in q = sym (refuse-go (hasFrame h) Malformed _ (le-ltb 0 (h .frame .channels) first) ∙ refuse-go (not (frameKnown b)) Unsupported _ (ap not known) ∙ refuse-go (not (eqb (length b) (6 + 3 * byte b 5))) Malformed _ (ap not (eq-eqb (length b) (6 + 3 * byte b 5) whole)) ∙ refuse-go (not (frameFits b (frameOf b))) Unsupported _ (ap not q))
+        frame-in q = sym (stop-go (hasFrame h) Malformed _ (le-ltb 0 (h .frame .channels) first) ∙ stop-go (not (frameKnown b)) Unsupported _ (ap not known) ∙ stop-go (not (eqb (length b) (6 + 3 * byte b 5))) Malformed _ (ap not (eq-eqb (length b) (6 + 3 * byte b 5) whole)) ∙ stop-go (not (frameFits b (frameOf b))) Unsupported _ (ap not q))
 
   pub interval-bad : (length b ≡ 2 → ⊥) → stop Malformed ≡ interval b h e
-  interval-bad q = sym (refuse-yes (not (eqb (length b) 2)) Malformed _ (ap not (ne-eqb (length b) 2 q)))
+  interval-bad q = sym (stop-yes (not (eqb (length b) 2)) Malformed _ (ap not (ne-eqb (length b) 2 q)))
 
   pub interval-in : length b ≡ 2 → more (withInterval h e (word b 0)) ≡ interval b h e
-  interval-in q = sym (refuse-go (not (eqb (length b) 2)) Malformed _ (ap not (eq-eqb (length b) 2 q)))
+  interval-in q = sym (stop-go (not (eqb (length b) 2)) Malformed _ (ap not (eq-eqb (length b) 2 q)))
 
 -- ---- the record
 
@@ -124,35 +124,35 @@ record-made b colour h e dcids acids n o ed ea en eo = rw (ed, ea, en, eo, work-
 
 module _ (b : List ℕ) (colour : Bool) (h : Header) (e : ℕ) where
   pub scan-frameless : h .frame .channels ≡ 0 → stop Malformed ≡ scanSegment b colour h e
-  scan-frameless p = sym (refuse-yes (not (hasFrame h)) Malformed _ (ap not (le-ltb 0 (h .frame .channels) (omega arith))))
+  scan-frameless p = sym (stop-yes (not (hasFrame h)) Malformed _ (ap not (le-ltb 0 (h .frame .channels) (omega arith))))
 
   module _ (framed : h .frame .channels ≡ 0 → ⊥) where
     has : not (hasFrame h) ≡ false
     has = ap not (lt-ltb 0 (h .frame .channels) (omega arith))
 
     pub scan-unknown : scanKnown b (h .frame .channels) ≡ false → stop Unsupported ≡ scanSegment b colour h e
-    scan-unknown p = sym (refuse-go (not (hasFrame h)) Malformed _ has ∙ refuse-yes (not (scanKnown b (h .frame .channels))) Unsupported _ (ap not p))
+    scan-unknown p = sym (stop-go (not (hasFrame h)) Malformed _ has ∙ stop-yes (not (scanKnown b (h .frame .channels))) Unsupported _ (ap not p))
 
     module _ (known : scanKnown b (h .frame .channels) ≡ true) where
       to-order : (st : Stage) → stop-if (not (scanKnown b (h .frame .channels))) Unsupported st ≡ st
-      to-order st = refuse-go (not (scanKnown b (h .frame .channels))) Unsupported st (ap not known)
+      to-order st = stop-go (not (scanKnown b (h .frame .channels))) Unsupported st (ap not known)
 
       pub scan-order : inOrder b (h .frame .ids) (h .frame .channels) ≡ false → stop Malformed ≡ scanSegment b colour h e
-      scan-order p = sym (refuse-go (not (hasFrame h)) Malformed _ has ∙ to-order _ ∙ refuse-yes (not (inOrder b (h .frame .ids) (h .frame .channels))) Malformed _ (ap not p))
+      scan-order p = sym (stop-go (not (hasFrame h)) Malformed _ has ∙ to-order _ ∙ stop-yes (not (inOrder b (h .frame .ids) (h .frame .channels))) Malformed _ (ap not p))
 
       module _ (order : inOrder b (h .frame .ids) (h .frame .channels) ≡ true) where
         to-selected : (st : Stage) → stop-if (not (inOrder b (h .frame .ids) (h .frame .channels))) Malformed st ≡ st
-        to-selected st = refuse-go (not (inOrder b (h .frame .ids) (h .frame .channels))) Malformed st (ap not order)
+        to-selected st = stop-go (not (inOrder b (h .frame .ids) (h .frame .channels))) Malformed st (ap not order)
 
         pub scan-selected : selected b (h .frame .channels) ≡ false → stop Unsupported ≡ scanSegment b colour h e
-        scan-selected p = sym (refuse-go (not (hasFrame h)) Malformed _ has ∙ to-order _ ∙ to-selected _ ∙ refuse-yes (not (selected b (h .frame .channels))) Unsupported _ (ap not p))
+        scan-selected p = sym (stop-go (not (hasFrame h)) Malformed _ has ∙ to-order _ ∙ to-selected _ ∙ stop-yes (not (selected b (h .frame .channels))) Unsupported _ (ap not p))
 
         module _ (chosen-ids : selected b (h .frame .channels) ≡ true) where
           to-complete : (st : Stage) → stop-if (not (selected b (h .frame .channels))) Unsupported st ≡ st
-          to-complete st = refuse-go (not (selected b (h .frame .channels))) Unsupported st (ap not chosen-ids)
+          to-complete st = stop-go (not (selected b (h .frame .channels))) Unsupported st (ap not chosen-ids)
 
           pub scan-incomplete : complete (recordOf b colour h e) ≡ false → stop Malformed ≡ scanSegment b colour h e
-          scan-incomplete p = sym (refuse-go (not (hasFrame h)) Malformed _ has ∙ to-order _ ∙ to-selected _ ∙ to-complete _ ∙ refuse-yes (not (complete (recordOf b colour h e))) Malformed _ (ap not p))
+          scan-incomplete p = sym (stop-go (not (hasFrame h)) Malformed _ has ∙ to-order _ ∙ to-selected _ ∙ to-complete _ ∙ stop-yes (not (complete (recordOf b colour h e))) Malformed _ (ap not p))
 
           pub scan-in : complete (recordOf b colour h e) ≡ true → done (recordOf b colour h e) ≡ scanSegment b colour h e
-          scan-in p = sym (refuse-go (not (hasFrame h)) Malformed _ has ∙ to-order _ ∙ to-selected _ ∙ to-complete _ ∙ refuse-go (not (complete (recordOf b colour h e))) Malformed _ (ap not p))
+          scan-in p = sym (stop-go (not (hasFrame h)) Malformed _ has ∙ to-order _ ∙ to-selected _ ∙ to-complete _ ∙ stop-go (not (complete (recordOf b colour h e))) Malformed _ (ap not p))

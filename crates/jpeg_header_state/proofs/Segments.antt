@@ -13,7 +13,7 @@ use Rattle.reading.specs.declared.Header.{Header}
 use Rattle.reading.specs.declared.Record.{Record}
 use Rattle.reading.specs.Tests.{_and_}
 use Rattle.reading.specs.Header.{Stage, more, done, stop, hasFrame}
-use Rattle.reading.proofs.Stages.{refuse-yes, refuse-go}
+use Rattle.reading.proofs.Stages.{stop-yes, stop-go}
 use Rattle.reading.proofs.Frames.{Framed}
 use Rattle.jpeg_header_state.specs.declared.Progress.{Progress}
 use Rattle.jpeg_header_state.specs.declared.Progress.the-variants.{More, Done, Stop}
@@ -26,11 +26,11 @@ use Rattle.jpeg_header_state.proofs.Numbers.{numbers-fit}
 module _ (b : List ℕ) (h : Header) (e : ℕ) (st : Stage) where
   pub segment-past : leb (h .at + length b) e ≡ false → stop Malformed ≡ inSegment b h e st
   unfolding inSegment
-  segment-past p = sym (refuse-yes (not (leb (h .at + length b) e)) Malformed st (ap not p))
+  segment-past p = sym (stop-yes (not (leb (h .at + length b) e)) Malformed st (ap not p))
 
   pub segment-holds : leb (h .at + length b) e ≡ true → st ≡ inSegment b h e st
   unfolding inSegment
-  segment-holds p = sym (refuse-go (not (leb (h .at + length b) e)) Malformed st (ap not p))
+  segment-holds p = sym (stop-go (not (leb (h .at + length b) e)) Malformed st (ap not p))
 
   pub in-segment : h .at + length b ≤ e → inSegment b h e st ≡ st
   in-segment p = sym (segment-holds (le-leb (h .at + length b) e p))
@@ -40,16 +40,16 @@ module _ (b : List ℕ) (h : Header) (e : ℕ) (st : Stage) where
 module _ (h : Header) (st : Stage) where
   pub behind-none : h .frame .channels ≡ 0 → st ≡ behindFrame h st
   unfolding behindFrame
-  behind-none p = sym (refuse-go (hasFrame h and not (numbersFit (h .frame))) Unsupported st (ap (λ t. t and not (numbersFit (h .frame))) (le-ltb 0 (h .frame .channels) (omega (arith, p)))))
+  behind-none p = sym (stop-go (hasFrame h and not (numbersFit (h .frame))) Unsupported st (ap (λ t. t and not (numbersFit (h .frame))) (le-ltb 0 (h .frame .channels) (omega (arith, p)))))
 
   pub behind-odd : (h .frame .channels ≡ 0 → ⊥) → numbersFit (h .frame) ≡ false → stop Unsupported ≡ behindFrame h st
   unfolding behindFrame
-  behind-odd p q = sym (refuse-yes (hasFrame h and not (numbersFit (h .frame))) Unsupported st (rw (lt-ltb 0 (h .frame .channels) (omega (arith, p)), q) refl))
+  behind-odd p q = sym (stop-yes (hasFrame h and not (numbersFit (h .frame))) Unsupported st (rw (lt-ltb 0 (h .frame .channels) (omega (arith, p)), q) refl))
 
   -- by the test that the frame passes where there is one
   behind : (hasFrame h ≡ true → numbersFit (h .frame) ≡ true) → behindFrame h st ≡ st
   unfolding behindFrame
-  behind f = refuse-go (hasFrame h and not (numbersFit (h .frame))) Unsupported st (go (hasFrame h) refl)
+  behind f = stop-go (hasFrame h and not (numbersFit (h .frame))) Unsupported st (go (hasFrame h) refl)
     where
       go : (t : Bool) → hasFrame h ≡ t → (t and not (numbersFit (h .frame))) ≡ false
       go true p = ap not (f p)

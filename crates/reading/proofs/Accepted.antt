@@ -24,7 +24,7 @@ use Rattle.reading.specs.Layout.{Shape, ceiling, blockCount, outputLengt
 use Rattle.reading.specs.Tables.{shapeIn}
 use Rattle.reading.specs.Header.{Stage, more, done, stop, byte, word, moved, window, each, withQuantizer, withTable, frameKnown, acrossOf, downOf, quantsFit, threeFit, frameOf, frameFits, hasFrame, withFrame, withInterval, shapeOf, dcId, acId, recordOf, selected, kindOf, segment, segmentEnd, stepIn, step, opens, started, opening, header}
 use Rattle.reading.proofs.Plain.{and-left, and-right}
-use Rattle.reading.proofs.Stages.{refused-or, chosen-or, steps-hold}
+use Rattle.reading.proofs.Stages.{stop-or, chosen-or, steps-hold}
 use Rattle.reading.proofs.HeaderEnds.{is-so}
 use Rattle.reading.proofs.Places.{count-is, output-is}
 use Rattle.reading.proofs.Fits.{within-known, all-at}
@@ -205,26 +205,26 @@ module _ (colour : Bool) where
     off : (x : Refusal) → Sound (stop x)
 
   segment-sound : (h : Header) → Shaped h → (k : Kind) (b : List ℕ) → AllBytes b → (a e : ℕ) → Sound (segment colour h k b a e)
-  segment-sound h f Quants b y a e = refused-or Sound off _ _ _ (λ t. on (moved h a (Quantizers e)) f)
-  segment-sound h f Tables b y a e = refused-or Sound off _ _ _ (λ t. on (moved h a (Huffman e)) f)
+  segment-sound h f Quants b y a e = stop-or Sound off _ _ _ (λ t. on (moved h a (Quantizers e)) f)
+  segment-sound h f Tables b y a e = stop-or Sound off _ _ _ (λ t. on (moved h a (Huffman e)) f)
   segment-sound h f Frames b y a e =
-      refused-or Sound off _ _ _ (λ t1. refused-or Sound off _ _ _ (λ t2. refused-or Sound off _ _ _ (λ t3. refused-or Sound off _ _ _
+      stop-or Sound off _ _ _ (λ t1. stop-or Sound off _ _ _ (λ t2. stop-or Sound off _ _ _ (λ t3. stop-or Sound off _ _ _
       (λ t4. on (withFrame h e (frameOf b)) ((λ _. frame-ok b y (is-so (frameKnown b) t2) (is-so (frameFits b (frameOf b)) t4)), f .1)))))
   segment-sound h f Scans b y a e =
-      refused-or Sound off _ _ _ (λ t1. refused-or Sound off _ _ _ (λ t2. refused-or Sound off _ _ _ (λ t3. refused-or Sound off _ _ _ (λ t4. refused-or Sound off _ _ _
+      stop-or Sound off _ _ _ (λ t1. stop-or Sound off _ _ _ (λ t2. stop-or Sound off _ _ _ (λ t3. stop-or Sound off _ _ _ (λ t4. stop-or Sound off _ _ _
       (λ t5. met (recordOf b colour h e) (found-ok b h e (f .0 (ltb→lt 0 (h .frame .channels) (is-so (hasFrame h) t1))) (f .1) (is-so (selected b (h .frame .channels)) t4)))))))
-  segment-sound h f Intervals b y a e = refused-or Sound off _ _ _ (λ t. on (withInterval h e (word b 0)) (f .0, word-below b y 0))
+  segment-sound h f Intervals b y a e = stop-or Sound off _ _ _ (λ t. on (withInterval h e (word b 0)) (f .0, word-below b y 0))
   segment-sound h f Skips b y a e = on (moved h e Marker) f
   segment-sound h f Others b y a e = off Unsupported
 
   module _ (s : List ℕ) (y : AllBytes s) where
     stepIn-sound : (h : Header) → Shaped h → (c : Case) → Sound (stepIn s colour h c)
     stepIn-sound h f Marker =
-        refused-or Sound off (ltb (length s) (h .at + 2) or not (eqb (byte s (h .at)) 255)) Malformed _ (λ t1. chosen-or Sound (eqb (byte s (h .at + 1)) 255) _ _ (λ t2. on (moved h (h .at + 1) Marker) f)
-        (λ t2. refused-or Sound off (eqb (byte s (h .at + 1)) 217) Malformed _ (λ t3. refused-or Sound off (ltb (length s) (h .at + 4) or ltb (word s (h .at + 2)) 2 or ltb (length s) (segmentEnd s (h .at))) CutShort _
+        stop-or Sound off (ltb (length s) (h .at + 2) or not (eqb (byte s (h .at)) 255)) Malformed _ (λ t1. chosen-or Sound (eqb (byte s (h .at + 1)) 255) _ _ (λ t2. on (moved h (h .at + 1) Marker) f)
+        (λ t2. stop-or Sound off (eqb (byte s (h .at + 1)) 217) Malformed _ (λ t3. stop-or Sound off (ltb (length s) (h .at + 4) or ltb (word s (h .at + 2)) 2 or ltb (length s) (segmentEnd s (h .at))) CutShort _
         (λ t4. segment-sound h f (kindOf (byte s (h .at + 1))) (window s (h .at + 4) (segmentEnd s (h .at))) (window-bytes s (h .at + 4) (segmentEnd s (h .at)) y) (h .at + 4) (segmentEnd s (h .at))))))
-    stepIn-sound h f (Quantizers e) = chosen-or Sound (eqb (h .at) e) _ _ (λ t. on (moved h e Marker) f) (λ t. refused-or Sound off _ Malformed _ (λ u. on (withQuantizer (window s (h .at) e) h) f))
-    stepIn-sound h f (Huffman e) = chosen-or Sound (eqb (h .at) e) _ _ (λ t. on (moved h e Marker) f) (λ t. refused-or Sound off _ Malformed _ (λ u. on (withTable (window s (h .at) e) h) f))
+    stepIn-sound h f (Quantizers e) = chosen-or Sound (eqb (h .at) e) _ _ (λ t. on (moved h e Marker) f) (λ t. stop-or Sound off _ Malformed _ (λ u. on (withQuantizer (window s (h .at) e) h) f))
+    stepIn-sound h f (Huffman e) = chosen-or Sound (eqb (h .at) e) _ _ (λ t. on (moved h e Marker) f) (λ t. stop-or Sound off _ Malformed _ (λ u. on (withTable (window s (h .at) e) h) f))
 
     pub step-sound : (h : Header) → Shaped h → Sound (step s colour h)
     step-sound h f = stepIn-sound h f (h .case)
@@ -241,4 +241,4 @@ module _ (colour : Bool) where
 
     pub header-accepted : (r : Record) → header s colour ≡ done r → Accepted colour r
     unfolding header
-    header-accepted r e = met-so r (subst Sound e (steps-hold s colour Sound goes-on (2 * length s + 1) (started s) (refused-or Sound off (not (opens s)) Malformed (more opening) (λ t. on opening opening-shaped))))
+    header-accepted r e = met-so r (subst Sound e (steps-hold s colour Sound goes-on (2 * length s + 1) (started s) (stop-or Sound off (not (opens s)) Malformed (more opening) (λ t. on opening opening-shaped))))

@@ -26,7 +26,7 @@ use Rattle.reading.specs.Header.{Stage, more, done, stop, byte, word, wi
 use Rattle.reading.specs.Reading.{Reading, accepted, refused, reading}
 use Rattle.reading.specs.Comments.{textAt, atComment, passed, commentsFrom, comments, sought, partOf, partIn, commentPart, isAccepted, hasComment}
 use Rattle.reading.specs.Calls.{inspect}
-use Rattle.reading.proofs.Stages.{refused-or, chosen-or}
+use Rattle.reading.proofs.Stages.{stop-or, chosen-or}
 use Rattle.reading.proofs.HeaderEnds.{Room, segment-room}
 
 -- ---- a comment over which a step goes is a whole segment
@@ -47,10 +47,10 @@ not-fill n e t = omega (arith, e, eqb→eq n 255 (subst⁻¹ T t tt))
 
 marker-behind : (s : List ℕ) (colour : Bool) (h : Header) → byte s (h .at + 1) ≡ 254 → Behind s (h .at) (stepIn s colour h Marker)
 marker-behind s colour h e =
-    refused-or P out (ltb (length s) (p + 2) or not (eqb (byte s p) 255)) Malformed _
+    stop-or P out (ltb (length s) (p + 2) or not (eqb (byte s p) 255)) Malformed _
     (λ t1. chosen-or P (eqb (byte s (p + 1)) 255) _ _ (λ t2. absurd (not-fill (byte s (p + 1)) e t2))
-    (λ t2. refused-or P out (eqb (byte s (p + 1)) 217) Malformed _
-    (λ t3. refused-or P out (ltb (length s) (p + 4) or ltb (word s (p + 2)) 2 or ltb (length s) (segmentEnd s p)) CutShort _
+    (λ t2. stop-or P out (eqb (byte s (p + 1)) 217) Malformed _
+    (λ t3. stop-or P out (ltb (length s) (p + 4) or ltb (word s (p + 2)) 2 or ltb (length s) (segmentEnd s p)) CutShort _
     (λ t4. behind s p (segment-room s p t4) (segment colour h (kindOf (byte s (p + 1))) (window s (p + 4) (segmentEnd s p)) (p + 4) (segmentEnd s p))))))
   where
     p : ℕ

@@ -53,10 +53,10 @@ element-out (x ∷ s) (suc i) h = element-out s i (le-of-suc-le-suc h)
 
 -- a byte that is there
 pub element-there : (l : List ℕ) (i x : ℕ) → getElem? l i ≡ some x → i < length l
-element-there [] i x e = absurd (subst isSome e tt)
+element-there [] i x e = absurd (subst isNone e tt)
   where
-    isSome : Option ℕ → Type 0
-    isSome none = Unit {0}
-    isSome (some y) = ⊥
+    isNone : Option ℕ → Type 0
+    isNone none = Unit {0}
+    isNone (some y) = ⊥
 element-there (y ∷ l) zero x e = omega arith
 element-there (y ∷ l) (suc i) x e = omega (arith, element-there l i x e)

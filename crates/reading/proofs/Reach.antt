@@ -42,10 +42,10 @@ tail-within false n k h = omega arith
 -- ---- zeros from a place on
 
 -- the level at a place that the levels do not reach
-pub last-zero : (l : List ℤ) (k : ℕ) → extent l ≤ k → getD l k (pos 0) ≡ pos 0
-last-zero [] k h = refl
-last-zero (z ∷ l) zero h = head-none z (extent l) h
-last-zero (z ∷ l) (suc k) h = last-zero l k (tail-within (isZero z) (extent l) k h)
+pub extent-zero : (l : List ℤ) (k : ℕ) → extent l ≤ k → getD l k (pos 0) ≡ pos 0
+extent-zero [] k h = refl
+extent-zero (z ∷ l) zero h = head-none z (extent l) h
+extent-zero (z ∷ l) (suc k) h = extent-zero l k (tail-within (isZero z) (extent l) k h)
 
 all-zero : (l : List ℤ) → extent l ≤ 0 → l ≡ zeros (length l)
 all-zero [] h = refl
@@ -84,18 +84,18 @@ module _ (l : List ℤ) (k : ℕ) (h : extent l ≤ k) where
 
 -- ---- a level is put at a place from which on all are 0
 
-last-set : (l : List ℤ) (i : ℕ) (z : ℤ) → i < length l → extent l ≤ i → (z ≡ pos 0 → ⊥) → extent (set l i z) ≡ suc i
-last-set [] i z h q n = absurd (not-suc-le-zero h)
-last-set (x ∷ l) zero z h q n = rw (nonzero z n, tail-none (isZero x) (extent l) q)
-last-set (x ∷ l) (suc i) z h q n = rw (last-set l i z (le-of-suc-le-suc h) (tail-within (isZero x) (extent l) i q) n) (go (isZero x))
+extent-set : (l : List ℤ) (i : ℕ) (z : ℤ) → i < length l → extent l ≤ i → (z ≡ pos 0 → ⊥) → extent (set l i z) ≡ suc i
+extent-set [] i z h q n = absurd (not-suc-le-zero h)
+extent-set (x ∷ l) zero z h q n = rw (nonzero z n, tail-none (isZero x) (extent l) q)
+extent-set (x ∷ l) (suc i) z h q n = rw (extent-set l i z (le-of-suc-le-suc h) (tail-within (isZero x) (extent l) i q) n) (go (isZero x))
   where
     go : (t : Bool) → oneMore t (suc i) ≡ suc (suc i)
     go true = refl
     go false = refl
 
-last-first : (l : List ℤ) (z : ℤ) → extent l ≤ 0 → extent (set l 0 z) ≤ 1
-last-first [] z q = omega arith
-last-first (x ∷ l) z q = rw (tail-none (isZero x) (extent l) q) (go (isZero z))
+extent-first : (l : List ℤ) (z : ℤ) → extent l ≤ 0 → extent (set l 0 z) ≤ 1
+extent-first [] z q = omega arith
+extent-first (x ∷ l) z q = rw (tail-none (isZero x) (extent l) q) (go (isZero z))
   where
     go : (t : Bool) → oneMore t 0 ≤ 1
     go true = omega arith
@@ -109,10 +109,10 @@ pub record Reached (l : List ℤ) (n : ℕ) : Type 0 where
 pub reached-put : (l : List ℤ) (i : ℕ) (z : ℤ) → i < length l → extent l ≤ i → (0 < i → z ≡ pos 0 → ⊥) → Reached (set l i z) (i + 1)
 unfolding places
 reached-put l zero z h q n =
-    let m : extent (set l 0 z) ≤ 1 = last-first l z q in
+    let m : extent (set l 0 z) ≤ 1 = extent-first l z q in
     record { quiet = m; many = omega arith }
 reached-put l (suc i) z h q n =
-    let m : extent (set l (suc i) z) ≡ suc (suc i) = last-set l (suc i) z h q (n (omega arith)) in
+    let m : extent (set l (suc i) z) ≡ suc (suc i) = extent-set l (suc i) z h q (n (omega arith)) in
     record { quiet = omega arith; many = omega arith }
 
 -- ---- the places of a block say all of its levels
@@ -127,7 +127,7 @@ module _ (l : List ℤ) where
   places-some = omega arith
 
   pub places-zero : (k : ℕ) → places l ≤ k → getD l k (pos 0) ≡ pos 0
-  places-zero k h = last-zero l k (omega (arith, within))
+  places-zero k h = extent-zero l k (omega (arith, within))
 
   places-at : (k : ℕ) → getD (take (places l) l) k (pos 0) ≡ getD l k (pos 0)
   places-at k = go (ltb k (places l)) refl

@@ -15,7 +15,7 @@ use Rattle.reading.specs.declared.Record.{Record}
 use Rattle.reading.specs.Tests.{within}
 use Rattle.reading.specs.Code.Scans.{readable}
 use Rattle.reading.specs.Header.{Stage, more, done, stop, step, steps, opens, started, opening, header}
-use Rattle.reading.proofs.Stages.{refused-or, steps-hold}
+use Rattle.reading.proofs.Stages.{stop-or, steps-hold}
 use Rattle.reading.proofs.HeaderEnds.{Ok, Down, left, opens-two, step-down}
 use Rattle.reading.proofs.HeaderEnds as ends
 use Rattle.reading.proofs.FileBytes.{AllBytes}
@@ -54,7 +54,7 @@ module _ (s : List ℕ) (colour : Bool) where
     step-valid h v = joined (left (length s) h) (step s colour h) (step-down s colour h (v .place)) (step-sound colour s y h (v .shape)) (step-kept s colour h (v .tables))
 
     start-valid : Holds (started s)
-    start-valid = refused-or Holds (λ x. tt) (not (opens s)) Malformed (more opening) (λ t. record { place = (opens-two s t, tt); shape = opening-shaped colour s y; tables = opening-kept s colour })
+    start-valid = stop-or Holds (λ x. tt) (not (opens s)) Malformed (more opening) (λ t. record { place = (opens-two s t, tt); shape = opening-shaped colour s y; tables = opening-kept s colour })
 
     pub steps-valid : (k : ℕ) → Holds (steps s colour k (started s))
     steps-valid k = steps-hold s colour Holds step-valid k (started s) start-valid
