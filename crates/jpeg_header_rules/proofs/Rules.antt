@@ -10,7 +10,8 @@ use borrow.Author.Tests.{le-leb, lt-leb, lt-ltb, le-ltb, eq-eqb, ne-eqb}
 use Rattle.reading.specs.declared.Frame.{Frame}
 use Rattle.reading.specs.declared.Record.{Record}
 use Rattle.reading.specs.Tests.{_and_, _or_, all, within}
-use Rattle.reading.specs.Huffman.{sum, countsFit}
+use Rattle.reading.specs.Huffman.{sum}
+use Rattle.jpeg_huffman.specs.Fitting.{countsFit}
 use Rattle.reading.specs.Tables.{quantAt, dcAt, acAt}
 use Rattle.reading.specs.Header.{byte, word, each, quantizerFits, countsOf, tableFits, frameKnown, acrossOf, downOf, quantsFit, threeFit, frameOf, frameFits, dcId, acId, sequential, scanKnown}
 

@@ -3,8 +3,9 @@
 ghost use mathlib.Core.Path.{_≡_};
 ghost use Prim.Native.Nat.{min};
 ghost use Rattle.reading.specs.Bits.{one};
-ghost use Rattle.reading.specs.Huffman.{symbol, tableAt, countsFit};
+ghost use Rattle.reading.specs.Huffman.{symbol, tableAt};
 ghost use Rattle.reading.specs.Code.Answers.{numberRead};
+ghost use Rattle.jpeg_huffman.specs.Fitting.{countsFit};
 use reading::BitRead;
 use reading::Bits;
 use reading::Fault;
