@@ -132,7 +132,9 @@ module _ (s : List ℕ) (i : ℕ) where
 
   pub look-closed : opens s ≡ false → Absent ≡ sought (comments s) i
   unfolding comments
-  look-closed e = sym (ap (λ st. sought (commentsFrom s (2 * length s + 1) st) i) (stop-yes (not (opens s)) Malformed (more opening) (ap not e)) ∙ ap (λ ps. sought ps i) (none-from s (2 * length s + 1) (stop Malformed) (λ h w. apart h Malformed w)))
+  look-closed e =
+      sym (ap (λ st. sought (commentsFrom s (2 * length s + 1) st) i) (stop-yes (not (opens s)) Malformed (more opening) (ap not e))
+      ∙ ap (λ ps. sought ps i) (none-from s (2 * length s + 1) (stop Malformed) (λ h w. apart h Malformed w)))
 
 -- ---- a step's answer
 

@@ -76,14 +76,22 @@ module _ (b : List ℕ) (h : Header) (e : ℕ) where
 
     module _ (known : frameKnown b ≡ true) where
       pub frame-length : (length b ≡ 6 + 3 * byte b 5 → ⊥) → stop Malformed ≡ frame b h e
-      frame-length q = sym (stop-go (hasFrame h) Malformed _ (le-ltb 0 (h .frame .channels) first) ∙ stop-go (not (frameKnown b)) Unsupported _ (ap not known) ∙ stop-yes (not (eqb (length b) (6 + 3 * byte b 5))) Malformed _ (ap not (ne-eqb (length b) (6 + 3 * byte b 5) q)))
+      frame-length q =
+          sym (stop-go (hasFrame h) Malformed _ (le-ltb 0 (h .frame .channels) first) ∙ stop-go (not (frameKnown b)) Unsupported _ (ap not known)
+          ∙ stop-yes (not (eqb (length b) (6 + 3 * byte b 5))) Malformed _ (ap not (ne-eqb (length b) (6 + 3 * byte b 5) q)))
 
       module _ (whole : length b ≡ 6 + 3 * byte b 5) where
         pub frame-bad : frameFits b (frameOf b) ≡ false → stop Unsupported ≡ frame b h e
-        frame-bad q = sym (stop-go (hasFrame h) Malformed _ (le-ltb 0 (h .frame .channels) first) ∙ stop-go (not (frameKnown b)) Unsupported _ (ap not known) ∙ stop-go (not (eqb (length b) (6 + 3 * byte b 5))) Malformed _ (ap not (eq-eqb (length b) (6 + 3 * byte b 5) whole)) ∙ stop-yes (not (frameFits b (frameOf b))) Unsupported _ (ap not q))
+        frame-bad q =
+            sym (stop-go (hasFrame h) Malformed _ (le-ltb 0 (h .frame .channels) first) ∙ stop-go (not (frameKnown b)) Unsupported _ (ap not known)
+            ∙ stop-go (not (eqb (length b) (6 + 3 * byte b 5))) Malformed _ (ap not (eq-eqb (length b) (6 + 3 * byte b 5) whole))
+            ∙ stop-yes (not (frameFits b (frameOf b))) Unsupported _ (ap not q))
 
         pub frame-in : frameFits b (frameOf b) ≡ true → more (withFrame h e (frameOf b)) ≡ frame b h e
-        frame-in q = sym (stop-go (hasFrame h) Malformed _ (le-ltb 0 (h .frame .channels) first) ∙ stop-go (not (frameKnown b)) Unsupported _ (ap not known) ∙ stop-go (not (eqb (length b) (6 + 3 * byte b 5))) Malformed _ (ap not (eq-eqb (length b) (6 + 3 * byte b 5) whole)) ∙ stop-go (not (frameFits b (frameOf b))) Unsupported _ (ap not q))
+        frame-in q =
+            sym (stop-go (hasFrame h) Malformed _ (le-ltb 0 (h .frame .channels) first) ∙ stop-go (not (frameKnown b)) Unsupported _ (ap not known)
+            ∙ stop-go (not (eqb (length b) (6 + 3 * byte b 5))) Malformed _ (ap not (eq-eqb (length b) (6 + 3 * byte b 5) whole))
+            ∙ stop-go (not (frameFits b (frameOf b))) Unsupported _ (ap not q))
 
   pub interval-bad : (length b ≡ 2 → ⊥) → stop Malformed ≡ interval b h e
   interval-bad q = sym (stop-yes (not (eqb (length b) 2)) Malformed _ (ap not (ne-eqb (length b) 2 q)))
@@ -152,7 +160,9 @@ module _ (b : List ℕ) (colour : Bool) (h : Header) (e : ℕ) where
           to-complete st = stop-go (not (selected b (h .frame .channels))) Unsupported st (ap not chosen-ids)
 
           pub scan-incomplete : complete (recordOf b colour h e) ≡ false → stop Malformed ≡ scanSegment b colour h e
-          scan-incomplete p = sym (stop-go (not (hasFrame h)) Malformed _ has ∙ to-order _ ∙ to-selected _ ∙ to-complete _ ∙ stop-yes (not (complete (recordOf b colour h e))) Malformed _ (ap not p))
+          scan-incomplete p =
+              sym (stop-go (not (hasFrame h)) Malformed _ has ∙ to-order _ ∙ to-selected _ ∙ to-complete _
+              ∙ stop-yes (not (complete (recordOf b colour h e))) Malformed _ (ap not p))
 
           pub scan-in : complete (recordOf b colour h e) ≡ true → done (recordOf b colour h e) ≡ scanSegment b colour h e
           scan-in p = sym (stop-go (not (hasFrame h)) Malformed _ has ∙ to-order _ ∙ to-selected _ ∙ to-complete _ ∙ stop-go (not (complete (recordOf b colour h e))) Malformed _ (ap not p))

@@ -220,8 +220,10 @@ module _ (colour : Bool) where
   module _ (s : List ℕ) (y : AllBytes s) where
     stepIn-sound : (h : Header) → Shaped h → (c : Case) → Sound (stepIn s colour h c)
     stepIn-sound h f Marker =
-        stop-or Sound off (ltb (length s) (h .at + 2) or not (eqb (byte s (h .at)) 255)) Malformed _ (λ t1. chosen-or Sound (eqb (byte s (h .at + 1)) 255) _ _ (λ t2. on (moved h (h .at + 1) Marker) f)
-        (λ t2. stop-or Sound off (eqb (byte s (h .at + 1)) 217) Malformed _ (λ t3. stop-or Sound off (ltb (length s) (h .at + 4) or ltb (word s (h .at + 2)) 2 or ltb (length s) (segmentEnd s (h .at))) CutShort _
+        stop-or Sound off (ltb (length s) (h .at + 2) or not (eqb (byte s (h .at)) 255)) Malformed _
+        (λ t1. chosen-or Sound (eqb (byte s (h .at + 1)) 255) _ _ (λ t2. on (moved h (h .at + 1) Marker) f)
+        (λ t2. stop-or Sound off (eqb (byte s (h .at + 1)) 217) Malformed _
+        (λ t3. stop-or Sound off (ltb (length s) (h .at + 4) or ltb (word s (h .at + 2)) 2 or ltb (length s) (segmentEnd s (h .at))) CutShort _
         (λ t4. segment-sound h f (kindOf (byte s (h .at + 1))) (window s (h .at + 4) (segmentEnd s (h .at))) (window-bytes s (h .at + 4) (segmentEnd s (h .at)) y) (h .at + 4) (segmentEnd s (h .at))))))
     stepIn-sound h f (Quantizers e) = chosen-or Sound (eqb (h .at) e) _ _ (λ t. on (moved h e Marker) f) (λ t. stop-or Sound off _ Malformed _ (λ u. on (withQuantizer (window s (h .at) e) h) f))
     stepIn-sound h f (Huffman e) = chosen-or Sound (eqb (h .at) e) _ _ (λ t. on (moved h e Marker) f) (λ t. stop-or Sound off _ Malformed _ (λ u. on (withTable (window s (h .at) e) h) f))
@@ -241,4 +243,6 @@ module _ (colour : Bool) where
 
     pub header-accepted : (r : Record) → header s colour ≡ done r → Accepted colour r
     unfolding header
-    header-accepted r e = met-so r (subst Sound e (steps-hold s colour Sound goes-on (2 * length s + 1) (started s) (stop-or Sound off (not (opens s)) Malformed (more opening) (λ t. on opening opening-shaped))))
+    header-accepted r e =
+        met-so r (subst Sound e
+        (steps-hold s colour Sound goes-on (2 * length s + 1) (started s) (stop-or Sound off (not (opens s)) Malformed (more opening) (λ t. on opening opening-shaped))))

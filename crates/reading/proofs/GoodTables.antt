@@ -111,9 +111,16 @@ module _ (s : List ℕ) (colour : Bool) where
   segment-kept : (h : Header) → Inv h → (k : Kind) (b : List ℕ) (a e : ℕ) → h .at ≤ a → a ≤ e → Kept (segment colour h k b a e)
   segment-kept h v Quants b a e p q = stop-or Kept off (eqb a e) Malformed _ (λ t. on _ (kept h v (moved h a (Quantizers e)) refl refl refl p (v .lum)))
   segment-kept h v Tables b a e p q = stop-or Kept off (eqb a e) Malformed _ (λ t. on _ (kept h v (moved h a (Huffman e)) refl refl refl p (v .lum)))
-  segment-kept h v Frames b a e p q = stop-or Kept off _ _ _ (λ t1. stop-or Kept off _ _ _ (λ t2. stop-or Kept off _ _ _ (λ t3. stop-or Kept off _ _ _ (λ t4. on _ (kept h v (withFrame h e (frameOf b)) refl refl refl (le-trans p q) (λ _. frame-lum b (is-so (frameFits b (frameOf b)) t4)))))))
+  segment-kept h v Frames b a e p q =
+      stop-or Kept off _ _ _
+      (λ t1. stop-or Kept off _ _ _
+      (λ t2. stop-or Kept off _ _ _
+      (λ t3. stop-or Kept off _ _ _
+      (λ t4. on _ (kept h v (withFrame h e (frameOf b)) refl refl refl (le-trans p q) (λ _. frame-lum b (is-so (frameFits b (frameOf b)) t4)))))))
   segment-kept h v Scans b a e p q =
-      stop-or Kept off _ _ _ (λ t1. stop-or Kept off _ _ _ (λ t2. stop-or Kept off _ _ _ (λ t3. stop-or Kept off _ _ _ (λ t4. stop-or Kept off _ _ _ (λ t5. ready (recordOf b colour h e) (record {
+      stop-or Kept off _ _ _
+      (λ t1. stop-or Kept off _ _ _
+      (λ t2. stop-or Kept off _ _ _ (λ t3. stop-or Kept off _ _ _ (λ t4. stop-or Kept off _ _ _ (λ t5. ready (recordOf b colour h e) (record {
         dcs = places-map _ _ (later (h .at) e (le-trans p q)) (h .dcs) (v .dcs);
         acs = places-map _ _ (later (h .at) e (le-trans p q)) (h .acs) (v .acs);
         quants = places-map _ _ (later-q (h .at) e (le-trans p q)) (h .quants) (v .quants);
@@ -191,16 +198,24 @@ module _ (s : List ℕ) (colour : Bool) where
 
   marker-kept : (h : Header) → Inv h → Kept (marker s colour h)
   marker-kept h v =
-      stop-or Kept off (ltb (length s) (h .at + 2) or not (eqb (byte s (h .at)) 255)) Malformed _ (λ t1. chosen-or Kept (eqb (byte s (h .at + 1)) 255) _ _ (λ t2. on _ (kept h v (moved h (h .at + 1) Marker) refl refl refl (omega arith) (v .lum)))
-      (λ t2. stop-or Kept off (eqb (byte s (h .at + 1)) 217) Malformed _ (λ t3. stop-or Kept off (ltb (length s) (h .at + 4) or ltb (word s (h .at + 2)) 2 or ltb (length s) (segmentEnd s (h .at))) CutShort _
+      stop-or Kept off (ltb (length s) (h .at + 2) or not (eqb (byte s (h .at)) 255)) Malformed _
+      (λ t1. chosen-or Kept (eqb (byte s (h .at + 1)) 255) _ _ (λ t2. on _ (kept h v (moved h (h .at + 1) Marker) refl refl refl (omega arith) (v .lum)))
+      (λ t2. stop-or Kept off (eqb (byte s (h .at + 1)) 217) Malformed _
+      (λ t3. stop-or Kept off (ltb (length s) (h .at + 4) or ltb (word s (h .at + 2)) 2 or ltb (length s) (segmentEnd s (h .at))) CutShort _
       (λ t4. segment-kept h v (kindOf (byte s (h .at + 1))) (window s (h .at + 4) (segmentEnd s (h .at))) (h .at + 4) (segmentEnd s (h .at)) (omega arith)
       (segment-room s (h .at) t4 .behind)))))
 
   -- inside a segment of tables the place stays below its end
   stepIn-kept : (h : Header) → Inv h → (c : Case) → Kept (stepIn s colour h c)
   stepIn-kept h v Marker = marker-kept h v
-  stepIn-kept h v (Quantizers e) = chosen-or Kept (eqb (h .at) e) _ _ (λ t. on _ (kept h v (moved h e Marker) refl refl refl (omega (arith, eqb→eq (h .at) e (subst⁻¹ T t tt))) (v .lum))) (λ t. stop-or Kept off (not (quantizerFits (window s (h .at) e))) Malformed _ (λ u. on _ (quant-kept h v e (is-so (quantizerFits (window s (h .at) e)) u))))
-  stepIn-kept h v (Huffman e) = chosen-or Kept (eqb (h .at) e) _ _ (λ t. on _ (kept h v (moved h e Marker) refl refl refl (omega (arith, eqb→eq (h .at) e (subst⁻¹ T t tt))) (v .lum))) (λ t. stop-or Kept off (not (tableFits (window s (h .at) e))) Malformed _ (λ u. on _ (table-kept h v e (is-so (tableFits (window s (h .at) e)) u))))
+  stepIn-kept h v (Quantizers e) =
+      chosen-or Kept (eqb (h .at) e) _ _
+      (λ t. on _ (kept h v (moved h e Marker) refl refl refl (omega (arith, eqb→eq (h .at) e (subst⁻¹ T t tt))) (v .lum)))
+      (λ t. stop-or Kept off (not (quantizerFits (window s (h .at) e))) Malformed _ (λ u. on _ (quant-kept h v e (is-so (quantizerFits (window s (h .at) e)) u))))
+  stepIn-kept h v (Huffman e) =
+      chosen-or Kept (eqb (h .at) e) _ _
+      (λ t. on _ (kept h v (moved h e Marker) refl refl refl (omega (arith, eqb→eq (h .at) e (subst⁻¹ T t tt))) (v .lum)))
+      (λ t. stop-or Kept off (not (tableFits (window s (h .at) e))) Malformed _ (λ u. on _ (table-kept h v e (is-so (tableFits (window s (h .at) e)) u))))
 
   pub step-kept : (h : Header) → Inv h → Kept (step s colour h)
   step-kept h v = stepIn-kept h v (h .case)
@@ -222,7 +237,9 @@ module _ (s : List ℕ) (colour : Bool) where
 
   pub header-ready : (r : Record) → header s colour ≡ done r → Ready r
   unfolding header
-  header-ready r e = ready-so r (subst Kept e (steps-hold s colour Kept goes-on (2 * length s + 1) (started s) (stop-or Kept off (not (opens s)) Malformed (more opening) (λ t. on opening opening-kept))))
+  header-ready r e =
+      ready-so r (subst Kept e
+      (steps-hold s colour Kept goes-on (2 * length s + 1) (started s) (stop-or Kept off (not (opens s)) Malformed (more opening) (λ t. on opening opening-kept))))
 
 -- ---- the plan of an accepted record
 

@@ -21,7 +21,10 @@ more-requires : tie.Need-more-requires
 more-requires c κs = tt
 
 returns-2 : tie.Need-returns-2
-returns-2 c = c .more .ensures ∙ ap stepped (ap more (c .before .moved .ensures) ∙ sym (stop-go (eqb (c .before .before .before .args .from) (c .before .before .before .args .end)) Malformed _ (ne-eqb _ _ (c .before .before .if1 .left))))
+returns-2 c =
+    c .more .ensures ∙ ap stepped
+    (ap more (c .before .moved .ensures)
+    ∙ sym (stop-go (eqb (c .before .before .before .args .from) (c .before .before .before .args .end)) Malformed _ (ne-eqb _ _ (c .before .before .if1 .left))))
 
 pub tables-spec : {M : Type 1} → statement M
 tables-spec =
