@@ -43,9 +43,11 @@ function next() {
 async function work() {
     if (busy) return;
     busy = true;
-    for (let job; (job = next());) await job();
+    for (let job; (job = next());) await job().catch(fault => {
+        $("said").textContent = faultOf({fault: fault.name, message: fault.message});
+    });
     busy = false;
-    document.body.dataset.idle = photos.length;
+    $("photo").ariaBusy = "false";
 }
 
 async function look(photo, wanted) {
@@ -63,8 +65,8 @@ function add(files) {
     const first = photos.length;
     for (const file of files) photos.push({file, button: item(photos.length)});
     if (photos.length === first) return;
-    delete document.body.dataset.idle;
     document.body.classList.add("filled");
+    document.body.classList.toggle("row", photos.length > 1);
     for (const photo of photos.slice(first)) {
         photo.button.querySelector(".called").textContent = photo.button.title = photo.file.name;
         $("strip").append(photo.button.parentNode);
@@ -91,7 +93,7 @@ function list({answer, button}, thumb) {
         : counted(answer.found.width) + " × " + counted(answer.found.height);
     if (!thumb) return;
     Object.assign(button.firstChild, {width: thumb.width, height: thumb.height});
-    button.firstChild.getContext("2d").drawImage(thumb, 0, 0);
+    button.firstChild.getContext("2d")?.drawImage(thumb, 0, 0);
     thumb.close();
 }
 
@@ -112,9 +114,19 @@ function select(index) {
     $("count").textContent = index + 1 + " of " + photos.length;
     $("previous").disabled = index === 0;
     $("next").disabled = index === photos.length - 1;
-    if (shown !== photo) $("said").textContent = "Reading " + photo.file.name + " …";
+    if (shown !== photo) clear();
     $("photo").hidden = false;
+    $("photo").ariaBusy = "true";
     work();
+}
+
+// Nothing of one photograph stays under the name of another.
+function clear() {
+    shown = undefined;
+    view.blank();
+    for (const id of ["notes", "facts", "record"]) $(id).replaceChildren();
+    $("noted").hidden = $("refused").hidden = true;
+    $("said").textContent = "Reading …";
 }
 
 function show(photo, pixels) {
@@ -129,7 +141,7 @@ function show(photo, pixels) {
     }
     describe(found, notes, photo.file.size);
     const drawn = view.show(pixels, Number(found.width), Number(found.height));
-    $("said").textContent = drawn ? photo.file.name + " is read: " + counted(found.width) + " × " + counted(found.height) + " pixels."
+    $("said").textContent = drawn ? "Read: " + counted(found.width) + " × " + counted(found.height) + " pixels."
         : "This browser cannot draw so large a picture. It can still be saved.";
 }
 
@@ -161,6 +173,7 @@ view.zoomed = scale => {
 function save(kind, ending) {
     const {file} = photos[current], name = file.name.replace(/\.jpe?g$/i, "") + ending;
     $("said").textContent = "Writing " + name + " …";
+    $("photo").ariaBusy = "true";
     saves.push(async () => {
         const {number, blob, ...rest} = await ask({work: kind, file});
         if (!blob) {

@@ -21,9 +21,17 @@ class View {
         context?.putImageData(new ImageData(pixels, width, height), 0, 0);
         // two photographs of one size are compared at one place, so that stays
         if (!same) Object.assign(this, {fitted: true, at: undefined});
+        this.canvas.hidden = false;
         this.place();
         this.point(this.at);
         return Boolean(context);
+    }
+
+    // Until the next picture comes there is none, and no pixel to point at.
+    blank() {
+        this.pixels = undefined;
+        this.canvas.hidden = this.mark.hidden = true;
+        this.told(null, false);
     }
 
     // ---- scale and place
@@ -35,22 +43,21 @@ class View {
 
     // Brings scale and place within bounds, and shows them: a picture that is smaller than the stage lies in its middle.
     place() {
-        if (!this.width) return;
         const {clientWidth, clientHeight} = this.stage;
+        if (!this.pixels || !clientWidth) return;
         if (this.fitted) this.scale = this.fitting;
         const bound = (start, room, length) => length < room ? (room - length) / 2 : Math.min(0, Math.max(room - length, start));
         this.x = Math.round(bound(this.x ?? 0, clientWidth, this.width * this.scale));
         this.y = Math.round(bound(this.y ?? 0, clientHeight, this.height * this.scale));
         this.canvas.style.transform = `translate(${this.x}px, ${this.y}px) scale(${this.scale})`;
         this.canvas.classList.toggle("close", this.scale >= 1);
-        this.stage.dataset.scale = this.scale;
         this.frame();
         this.zoomed?.(this.scale);
     }
 
     // Zooms so that what lies under a place of the stage stays there.
     zoom(scale, x = this.stage.clientWidth / 2, y = this.stage.clientHeight / 2) {
-        if (!this.width) return;
+        if (!this.pixels) return;
         const next = Math.min(CLOSEST, Math.max(Math.min(this.fitting, 1) / 2, scale)), ratio = next / this.scale;
         Object.assign(this, {fitted: false, scale: next, x: x - (x - this.x) * ratio, y: y - (y - this.y) * ratio});
         this.place();
@@ -101,12 +108,12 @@ class View {
     // Marks the pixel under a place of the stage, if there is one.
     hover(x, y) {
         const at = {x: Math.floor((x - this.x) / this.scale), y: Math.floor((y - this.y) / this.scale)};
-        if (this.width && at.x >= 0 && at.y >= 0 && at.x < this.width && at.y < this.height) this.point(at);
+        if (this.pixels && at.x >= 0 && at.y >= 0 && at.x < this.width && at.y < this.height) this.point(at);
     }
 
     // Moves the mark, and the picture with it where it would leave the stage.
     walk(dx, dy) {
-        if (!this.width) return;
+        if (!this.pixels) return;
         const {clientWidth, clientHeight} = this.stage, within = (value, count) => Math.min(count - 1, Math.max(0, value));
         const from = this.at ?? {x: Math.floor(this.width / 2) - dx, y: Math.floor(this.height / 2) - dy};
         const at = {x: within(from.x + dx, this.width), y: within(from.y + dy, this.height)};
