@@ -136,7 +136,7 @@ function show(photo, pixels) {
     $("refused").hidden = Boolean(pixels);
     $("said").textContent = "";
     if (!pixels) {
-        $("refused").textContent = fault ? faultOf(photo.answer) : "Refused (" + number + "). " + REFUSALS[number] + " No picture is shown.";
+        $("refused").textContent = fault ? faultOf(photo.answer) : refusalOf(number) + " No picture is shown.";
         return;
     }
     describe(found, notes, photo.file.size);
@@ -177,7 +177,7 @@ function save(kind, ending) {
     saves.push(async () => {
         const {number, blob, ...rest} = await ask({work: kind, file});
         if (!blob) {
-            $("said").textContent = name + " is not saved. " + (rest.fault ? faultOf(rest) : "Refused (" + number + "). " + REFUSALS[number]);
+            $("said").textContent = name + " is not saved. " + (rest.fault ? faultOf(rest) : refusalOf(number));
             return;
         }
         const link = Object.assign(document.createElement("a"), {href: URL.createObjectURL(blob), download: name});

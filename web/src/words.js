@@ -15,6 +15,8 @@ const REFUSALS = {
     9: "The file cannot be settled, for want of an end-of-block code in its own tables. Compare pictures instead.",
 };
 
+const refusalOf = number => "Refused (" + number + "). " + REFUSALS[number];
+
 // What went wrong beside the library, by the name of the fault.
 const FAULTS = {
     NotReadableError: "It cannot be read: a folder, or a file that was moved or changed. Choose it again.",

@@ -35,7 +35,9 @@ async function decode(file) {
 function colours(picture, channels) {
     const words = new Uint32Array(picture.length / channels);
     if (channels === 1) for (let i = 0; i < words.length; i++) words[i] = 0xff000000 | picture[i] * 0x010101;
-    else for (let i = 0, p = 0; i < words.length; i++, p += 3) words[i] = 0xff000000 | picture[p + 2] << 16 | picture[p + 1] << 8 | picture[p];
+    else for (let i = 0, at = 0; i < words.length; i++, at += 3) {
+        words[i] = 0xff000000 | picture[at + 2] << 16 | picture[at + 1] << 8 | picture[at];
+    }
     return new Uint8ClampedArray(words.buffer);
 }
 

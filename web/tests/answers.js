@@ -12,7 +12,8 @@ function fromBase64(text) {
 }
 
 async function answersOf(library, file, asked) {
-    const given = Object.fromEntries(Object.entries(asked).map(([name, value]) => [name, typeof value === "string" ? BigInt(value) : value]));
+    const given = {...asked};
+    for (const name of ["input", "side", "output", "budget"]) given[name] = BigInt(asked[name]);
     const parts = {}, keep = async (name, bytes) => parts[name] = await digestOf(bytes);
     const answer = (name, length) => keep(name, library.bytes(library.answerAt, length));
     const paint = room => {

@@ -37,12 +37,12 @@ class Browser:
         self.rest, self.count, self.answers, self.events = b"", 0, {}, []
         commands, self.commands = pipe()
         self.replies, replies = pipe()
-        words = ["chromium", "--headless=new", "--disable-gpu", "--no-first-run", "--remote-debugging-pipe", "--disable-background-networking",
-                 "--user-data-dir=" + os.path.join(self.home, "profile"), "--window-size=1280,960", "--force-color-profile=srgb"]
+        words = ["chromium", "--headless=new", "--disable-gpu", "--no-first-run", "--disable-background-networking",
+                 "--remote-debugging-pipe", "--user-data-dir=" + os.path.join(self.home, "profile")]
         if os.geteuid() == 0:
             words.append("--no-sandbox")  # which root cannot have
         log = os.path.join(self.home, "log")
-        self.process = os.posix_spawnp("chromium", [*words, "about:blank"], os.environ, setsid=False, setpgroup=0, file_actions=[
+        self.process = os.posix_spawnp("chromium", [*words, "about:blank"], os.environ, setpgroup=0, file_actions=[
             (os.POSIX_SPAWN_DUP2, commands, 3), (os.POSIX_SPAWN_DUP2, replies, 4),
             (os.POSIX_SPAWN_OPEN, 1, log, os.O_WRONLY | os.O_CREAT | os.O_TRUNC, 0o600), (os.POSIX_SPAWN_DUP2, 1, 2)])
         os.close(commands)
@@ -196,7 +196,8 @@ class Page(Target):
         text = {"text": key} if len(key) == 1 else {}
         code = ORDINARY.get(key, "Key" + key.upper() if len(key) == 1 else key)
         for kind in ("keyDown", "keyUp"):
-            self.send("Input.dispatchKeyEvent", type=kind, key=key, code=code, modifiers=8 if shift else 0, **(text if kind == "keyDown" else {}))
+            self.send("Input.dispatchKeyEvent", type=kind, key=key, code=code, modifiers=8 if shift else 0,
+                      **(text if kind == "keyDown" else {}))
 
     def touch(self, kind, *points):
         self.send("Input.dispatchTouchEvent", type=kind, touchPoints=[{"x": x, "y": y, "id": i} for i, (x, y) in enumerate(points)])
@@ -225,9 +226,10 @@ class Page(Target):
         os.remove(path)
         return data
 
-    def screenshot(self, path, whole=True):
-        size = self.value("[document.documentElement.clientWidth, document.documentElement." + ("scrollHeight" if whole else "clientHeight") + "]")
-        clip = {"x": 0, "y": 0, "width": size[0], "height": size[1], "scale": 1}
+    def screenshot(self, path):
+        """The whole page."""
+        width, height = self.value("[innerWidth, document.documentElement.scrollHeight]")
+        clip = {"x": 0, "y": 0, "width": width, "height": height, "scale": 1}
         data = self.send("Page.captureScreenshot", format="png", captureBeyondViewport=True, clip=clip)["data"]
         with open(path, "wb") as file:
             file.write(base64.b64decode(data))

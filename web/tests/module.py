@@ -40,7 +40,7 @@ def blank(browser, room):
 def test_answers(browser, room):
     """Every answer, and every byte that is written, is that of the native library."""
     page = blank(browser, room)
-    page.value(f"(async () => {{ globalThis.library = await Library.of(await WebAssembly.compile(fromBase64({text(module_of_page())}))); }})()")
+    page.value(f"WebAssembly.compile(fromBase64({text(module_of_page())})).then(Library.of).then(made => {{ globalThis.library = made; }})")
     source, numbers, compared = random.Random(7), set(), 0
     taken = [*native.whole(), *native.changed()]
     for name, data in taken:

@@ -30,7 +30,7 @@ class Tillsparrow(Page):
     def rest(self, more=0):
         """Waits until so many photographs more are in the list, and everything is read."""
         self.asked += more
-        self.until(f"document.querySelectorAll('#strip li').length === {self.asked} && document.getElementById('photo').ariaBusy === 'false'")
+        self.until(f"document.querySelectorAll('#strip li').length === {self.asked} && photo.ariaBusy === 'false'")
 
     def drop_all(self, *paths):
         self.drop(list(paths))
@@ -105,34 +105,34 @@ def test_drop(browser, room, shots):
 
 
 # the words for each form that is read, as files.shapes names it
+HALVED = "4:2:0: one colour for 2 × 2 pixels, halved both ways"
 SAMPLINGS = {
-    "docs/tray.jpg": "4:2:0: one colour for 2 × 2 pixels, halved both ways", "4:2:0": "4:2:0: one colour for 2 × 2 pixels, halved both ways",
-    "4:4:4": "4:4:4: every pixel has its own colour", "4:2:2 with restarts": "4:2:2: one colour for 2 × 1 pixels, halved across",
-    "1 x 1": "4:2:0: one colour for 2 × 2 pixels, halved both ways", "large": "4:2:0: one colour for 2 × 2 pixels, halved both ways",
+    "docs/tray.jpg": HALVED, "4:2:0": HALVED, "1 x 1": HALVED, "large": HALVED, "4:4:4": "4:4:4: every pixel has its own colour",
+    "4:2:2 with restarts": "4:2:2: one colour for 2 × 1 pixels, halved across", "1x2": "4:4:0: one colour for 1 × 2 pixels, halved down",
+    "4x1": "4:1:1: one colour for 4 × 1 pixels", "3x1": "one colour for 3 × 1 pixels", "1x4": "one colour for 1 × 4 pixels",
 }
+OTHERS = ("1x2", "4x1", "3x1", "1x4")
 RESTARTS = {"4:2:2 with restarts": "every 3 units of 16 × 8 pixels", "grey with restarts": "every 9 units of 8 × 8 pixels"}
 
 
 def test_shapes(browser, room, shots):
     """Files of every form, chosen together, and looked at one after another."""
     page, shapes = Tillsparrow(browser), list(files.shapes())
-    shapes += [("1x2", files.encode(33, 50, "-sample", "1x2"), []), ("4x1", files.encode(70, 20, "-sample", "4x1"), [])]
-    words = {**SAMPLINGS, "1x2": "4:4:0: one colour for 1 × 2 pixels, halved down", "4x1": "4:1:1: one colour for 4 × 1 pixels"}
+    shapes += [(form, files.encode(70, 50, "-sample", form), []) for form in OTHERS]
     paths = [put(room, name, data) for name, data, _ in shapes]
     page.choose_all(*paths)
     held([os.path.basename(path) for path in paths], page.texts("#strip .called"), "the names in the list")
     for i, (name, data, _) in enumerate(shapes):
         page.select(i)
-        picture, found = tillsparrow.read(data), tillsparrow.inspect(data).record
-        hold_picture(page, name, picture)
-        grey = picture.channels == 1
-        held([f"{picture.width:,} × {picture.height:,} pixels", f"{len(data):,} bytes, baseline JPEG", "1: grey" if grey else "3: red, green, blue",
-              "every pixel has its own sample" if grey else words[name], RESTARTS.get(name, "none"), f"{found.blocks:,} of 8 × 8 samples"],
-             page.texts("#facts dd"), f"{name}: its record in words")
+        found = tillsparrow.inspect(data).record
+        hold_picture(page, name, tillsparrow.read(data))
+        channels, sampling = ("1: grey", "every pixel has its own sample") if found.channels == 1 else ("3: red, green, blue", SAMPLINGS[name])
+        held([f"{found.width} × {found.height} pixels", f"{len(data):,} bytes, baseline JPEG", channels, sampling,
+              RESTARTS.get(name, "none"), f"{found.blocks:,} of 8 × 8 samples"], page.texts("#facts dd"), f"{name}: its record in words")
         flat = [", ".join(map(str, value)) if isinstance(value, tuple) else str(value) for value in vars(found).values()]
         held([list(vars(found)), flat], [page.texts("#record dt"), page.texts("#record dd")], f"{name}: the whole record")
         held(f"{i + 1} of {len(shapes)}", page.text("count"), f"{name}: its place")
-    thumbs = page.value("Array.from(document.querySelectorAll('.thumb'), c => c.getContext('2d').getImageData(0, 0, c.width, c.height).data[3])")
+    thumbs = page.value("Array.from(document.querySelectorAll('.thumb'), c => c.getContext('2d').getImageData(0, 0, 1, 1).data[3])")
     held([255] * len(shapes), thumbs, "the small pictures of the list")
     held([], page.complaints(), "what the browser complains of")
     page.close()
@@ -148,7 +148,8 @@ def test_notes(browser, room, shots):
     """Notes, whatever they hold, as text."""
     page, noted = Tillsparrow(browser), [(name, data, [plain(note) for note in notes]) for name, data, notes in files.noted()]
     base = files.encode(16, 16)
-    for text, shown in (("Weizen, Gewächshaus 7", None), ("<img src=x onerror=alert(1)>", None), ("a\u202eb\x07c\ttray\n7", "a\\u{202e}b\\u{7}c\\u{9}tray\n7")):
+    for text, shown in (("Weizen, Gewächshaus 7", None), ("<img src=x onerror=alert(1)>", None),
+                        ("a\u202eb\x07c\ttray\n7", "a\\u{202e}b\\u{7}c\\u{9}tray\n7")):
         noted.append((f"note {len(noted)}", files.with_segment(base, 0xFE, text.encode()), [shown or text]))
     paths = [put(room, name, data) for name, data, _ in noted]
     page.drop_all(*paths)
@@ -288,8 +289,8 @@ def test_zoom(browser, room, shots):
 def hold_png(png, picture, reader, name):
     """By its head, and by the browser's own reader of PNG files."""
     kind = {1: 0, 3: 2}[picture.channels]
-    held(b"\x89PNG\r\n\x1a\n\0\0\0\rIHDR" + picture.width.to_bytes(4, "big") + picture.height.to_bytes(4, "big") + bytes([8, kind, 0, 0, 0]),
-         png[:29], f"{name}: the head of the PNG file")
+    sides = picture.width.to_bytes(4, "big") + picture.height.to_bytes(4, "big")
+    held(b"\x89PNG\r\n\x1a\n\0\0\0\rIHDR" + sides + bytes([8, kind, 0, 0, 0]), png[:29], f"{name}: the head of the PNG file")
     held([b"IHDR", b"IDAT", b"IEND"], re.findall(rb"IHDR|IDAT|IEND|gAMA|sRGB|iCCP|cHRM", png), f"{name}: the parts of the PNG file")
     got = reader.value(f"""(async () => {{
         const image = await createImageBitmap(new Blob([fromBase64("{base64.b64encode(png).decode()}")]), {{colorSpaceConversion: "none"}});
@@ -377,7 +378,8 @@ def test_keyboard(browser, room, shots):
     for _ in range(12):
         page.key("Tab")
         order.append(page.value("document.activeElement.id || document.activeElement.tagName"))
-    held(["BUTTON", "next", "farther", "closer", "fit", "natural", "png", "settle", "stage", "SUMMARY", "SUMMARY", "SUMMARY"], order, "the order of Tab")
+    held(["BUTTON", "next", "farther", "closer", "fit", "natural", "png", "settle", "stage", "SUMMARY", "SUMMARY", "SUMMARY"], order,
+         "the order of Tab")
     counts = []
     for key in ("n", "n", "n", "n", "p"):
         page.key(key)
@@ -386,13 +388,14 @@ def test_keyboard(browser, room, shots):
     page.value("document.querySelector('#strip [aria-current]').focus()")
     page.key("ArrowLeft")
     page.rest()
-    held(["2 of 4", os.path.basename(paths[1])], [page.text("count"), page.value("document.activeElement.title")], "the arrow keys of the list")
+    held(["2 of 4", os.path.basename(paths[1])], [page.text("count"), page.value("document.activeElement.title")],
+         "the arrow keys of the list")
     page.value("stage.focus()")
     page.key("PageDown")
     page.rest()
     held(["3 of 4", "stage"], [page.text("count"), page.value("document.activeElement.id")], "Page Down in the picture")
-    tree = page.send("Accessibility.getFullAXTree")["nodes"]
-    parts = [node for node in tree if not node.get("ignored") and node["role"]["value"] in ("button", "application", "DisclosureTriangle", "navigation")]
+    tree = [node for node in page.send("Accessibility.getFullAXTree")["nodes"] if not node.get("ignored")]
+    parts = [node for node in tree if node["role"]["value"] in ("button", "application", "DisclosureTriangle", "navigation")]
     held([], [node["role"]["value"] for node in parts if not node["name"]["value"]], "parts without a name")
     held(True, len(parts) >= 17, f"{len(parts)} named parts")
     page.close()

@@ -92,7 +92,7 @@ def test_policy(browser, room, shots):
             time.sleep(0.02)
         asked = [path for path in server.asked if path not in ("/src/words.js", "/favicon.ico")]
         if set(asked) != wanted | {"/tillsparrow.html"}:
-            raise Off(f"the server was asked for {sorted(set(asked) - wanted - {'/tillsparrow.html'})} too, and not for {sorted(wanted - set(asked))}")
+            raise Off(f"the server was asked for {sorted(set(asked) - wanted)}, and not for {sorted(wanted - set(asked))}")
         for each in (page, from_file, free):
             each.close()
     return f"{2 * len(IN_PAGE) + 2 * len(IN_WORKER)} ways to send something reach nobody"
