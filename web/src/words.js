@@ -18,9 +18,10 @@ const REFUSALS = {
 const refusalOf = number => "Refused (" + number + "). " + REFUSALS[number];
 
 // What went wrong beside the library, by the name of the fault.
+const UNREAD = "It cannot be read: a folder, or a file that was moved or changed. Choose it again; of a folder, the photographs in it.";
 const FAULTS = {
-    NotReadableError: "It cannot be read: a folder, or a file that was moved or changed. Choose it again.",
-    NotFoundError: "It is not there any more. Choose it again.",
+    NotReadableError: UNREAD,
+    NotFoundError: UNREAD,
     RangeError: "There is not enough memory for this photograph. Close other pages, or use the command ./tillsparrow.",
     CompileError: "This browser cannot run the page's WebAssembly module. A newer browser is needed, of 2023 or later.",
     ReferenceError: "This browser lacks what the page needs. A newer browser is needed, of 2023 or later.",

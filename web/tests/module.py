@@ -37,7 +37,7 @@ def blank(browser, room):
     return page
 
 
-def test_answers(browser, room):
+def test_answers(browser, room, shots):
     """Every answer, and every byte that is written, is that of the native library."""
     page = blank(browser, room)
     page.value(f"WebAssembly.compile(fromBase64({text(module_of_page())})).then(Library.of).then(made => {{ globalThis.library = made; }})")

@@ -126,8 +126,8 @@ def test_shapes(browser, room, shots):
         page.select(i)
         found = tillsparrow.inspect(data).record
         hold_picture(page, name, tillsparrow.read(data))
-        channels, sampling = ("1: grey", "every pixel has its own sample") if found.channels == 1 else ("3: red, green, blue", SAMPLINGS[name])
-        held([f"{found.width} × {found.height} pixels", f"{len(data):,} bytes, baseline JPEG", channels, sampling,
+        channels = ["1: grey", "every pixel has its own sample"] if found.channels == 1 else ["3: red, green, blue", SAMPLINGS[name]]
+        held([f"{found.width} × {found.height} pixels", f"{len(data):,} bytes, baseline JPEG", *channels,
               RESTARTS.get(name, "none"), f"{found.blocks:,} of 8 × 8 samples"], page.texts("#facts dd"), f"{name}: its record in words")
         flat = [", ".join(map(str, value)) if isinstance(value, tuple) else str(value) for value in vars(found).values()]
         held([list(vars(found)), flat], [page.texts("#record dt"), page.texts("#record dd")], f"{name}: the whole record")
@@ -187,11 +187,12 @@ def refused(room):
     frame = tall.index(b"\xff\xc0") + 5
     yield put(room, "one pixel too wide", tall[:frame + 2] + (16385).to_bytes(2, "big") + tall[frame + 4:]), 6
     yield put(room, "as wide as may be, and cut", tall[:frame + 2] + (16384).to_bytes(2, "big") + tall[frame + 4:]), 4
-    for name, size, number in (("too long", (256 << 20) + 1, 1),):
+    # of no bytes but zeros that a disk does not keep; the second is one that no browser could read whole
+    for name, size in (("one byte too long", (256 << 20) + 1), ("far too long", 40 << 30)):
         path = os.path.join(room, name + ".jpg")
         with open(path, "wb") as file:
             file.truncate(size)
-        yield path, number
+        yield path, 1
 
 
 def test_refusals(browser, room, shots):
@@ -333,8 +334,7 @@ def test_saving(browser, room, shots):
 # ---- what goes wrong beside the library
 
 NO_ROOM = "There is not enough memory for this photograph. Close other pages, or use the command ./tillsparrow."
-MOVED = "It cannot be read: a folder, or a file that was moved or changed. Choose it again."
-GONE = "It is not there any more. Choose it again."
+UNREAD = "It cannot be read: a folder, or a file that was moved or changed. Choose it again; of a folder, the photographs in it."
 
 
 def test_faults(browser, room, shots):
@@ -354,11 +354,13 @@ def test_faults(browser, room, shots):
     files.write(room, "changing.jpg", files.encode(24, 24, "-quality", "30"))
     page.select(5)
     page.select(4)
-    held(MOVED, page.text("refused"), "a file that was changed")
+    held(UNREAD, page.text("refused"), "a file that was changed")
     os.remove(changing)
     page.select(5)
     page.select(4)
-    held(True, page.text("refused") in (MOVED, GONE), "a file that is gone: " + page.text("refused"))
+    held(UNREAD, page.text("refused"), "a file that is gone")
+    page.drop_all(room)
+    held(UNREAD, page.text("refused"), "a folder")
     page.value("HTMLCanvasElement.prototype.getContext = () => null; 0")
     page.select(0)
     held("This browser cannot draw so large a picture. It can still be saved.", page.text("said"), "a canvas that takes nothing")
