@@ -160,9 +160,16 @@ class Page(Target):
         self.browser.send("Target.closeTarget", {"targetId": self.target})
 
     def workers(self):
-        """The page's workers, the latest last."""
-        return [Target(self.browser, each["sessionId"]) for each in self.browser.happened("Target.attachedToTarget", self.session)
+        """The sessions of the page's workers, the latest last."""
+        return [each["sessionId"] for each in self.browser.happened("Target.attachedToTarget", self.session)
                 if each["targetInfo"]["type"] == "worker"]
+
+    def worker(self, count=1):
+        """The latest worker, when the page has had so many."""
+        deadline = time.monotonic() + PATIENCE
+        while len(self.workers()) < count:
+            self.browser.receive(deadline)
+        return Target(self.browser, self.workers()[-1])
 
     def complaints(self):
         """What the page has logged as an error or a warning, and what it threw; not the advice on reading a canvas back, which only the

@@ -247,6 +247,24 @@ def test_pixels(browser, room, shots):
     page.close()
 
 
+def test_waiting(browser, room, shots):
+    """While a photograph is read, nothing of the one before it is seen, and no pixel of it told."""
+    page = Tillsparrow(browser)
+    page.drop_all(TRAY, put(room, "noted", files.with_comment(files.encode(144, 144), "other")))
+    page.over(30, 30)
+    spot = page.spot(40, 40)
+    page.worker().value("{ const read = onmessage; onmessage = event => setTimeout(() => read(event), 1500); }")
+    page.key("n")
+    page.mouse("mouseMoved", *spot)
+    held(["noted.jpg", "Reading …", HINT], [page.text(each) for each in ("name", "said", "values")], "what is said meanwhile")
+    held([False, False, []], [page.seen("picture"), page.seen("mark"), page.texts("#facts dd")], "what is seen meanwhile")
+    page.key("p")
+    page.rest()
+    hold_picture(page, "the one before it, gone back to", tillsparrow.read(TRAY))
+    held([False, []], [page.seen("noted"), page.texts("#notes li")], "the notes of the other")
+    page.close()
+
+
 # ---- zoom
 
 def test_zoom(browser, room, shots):
@@ -341,9 +359,10 @@ def test_faults(browser, room, shots):
     """No memory, a worker that ends, a file that goes or changes, a canvas that takes nothing: a sentence, and the next file is read."""
     page = Tillsparrow(browser)
     large, changing = put(room, "large", files.encode(640, 480)), put(room, "changing", files.encode(16, 16))
-    for wrong, sentence in (("WebAssembly.Memory.prototype.grow = () => { throw new RangeError('no memory'); }", NO_ROOM),
-                            ("onmessage = () => { throw new Error('lost'); }", "The page failed: Uncaught Error: lost.")):
-        page.workers()[-1].value(wrong + "; 0")
+    for lost, (wrong, sentence) in enumerate((
+            ("WebAssembly.Memory.prototype.grow = () => { throw new RangeError('no memory'); }", NO_ROOM),
+            ("onmessage = () => { throw new Error('lost'); }", "The page failed: Uncaught Error: lost."))):
+        page.worker(lost + 1).value(wrong + "; 0")
         page.drop_all(large)
         held(sentence, page.text("refused"), "a fault of the worker")
         held("not read", page.texts("#strip .verdict")[-1], "the list")
@@ -428,5 +447,11 @@ def test_telephone(browser, room, shots):
         page.touch("touchEnd")
         held(True, 1.8 < page.scale() / before < 2.2, f"two fingers twice as far apart: scale {before}, then {page.scale()}")
         shots(page, "telephone-dark" if dark else "telephone")
+        (left, top), scrolled = page.spot(0, 0), page.value("scrollY")
+        page.touch("touchStart", (x, y))
+        for step in (10, 20, 30, 40):
+            page.touch("touchMove", (x - step, y - step))
+        page.touch("touchEnd")
+        held([left - 40, top - 40, scrolled], [*page.spot(0, 0), page.value("scrollY")], "one finger moves the picture, and not the page")
         held([], page.complaints(), "what the browser complains of")
         page.close()

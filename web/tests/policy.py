@@ -75,14 +75,14 @@ def test_policy(browser, room, shots):
         page.drop_all(pages.TRAY)
         pages.hold_picture(page, "from a web server", tillsparrow.read(pages.TRAY))
         pages.held([], page.complaints(), "what the browser complains of")
-        attempt(page.workers()[-1], IN_WORKER, server.url, "worker")
+        attempt(page.worker(), IN_WORKER, server.url, "worker")
         attempt(page, IN_PAGE, server.url, "page")
         page.value("document.body.append(Object.assign(document.createElement('script'), {textContent: 'globalThis.run = 1'})); 0")
         pages.held("undefined", page.value("typeof run"), "a script that is not the page's own")
         page.drop_all(pages.TRAY)  # it still works
         from_file = pages.Tillsparrow(browser)
         attempt(from_file, IN_PAGE, server.url, "file")
-        attempt(from_file.workers()[-1], IN_WORKER, server.url, "file-worker")
+        attempt(from_file.worker(), IN_WORKER, server.url, "file-worker")
         # the same ways, where nothing forbids them: each arrives, and only these do
         free = Page(browser, server.url + "/src/words.js")
         attempt(free, IN_PAGE, server.url, "free")
