@@ -36,8 +36,8 @@ IN_PAGE = {
     "prefetch": "document.head.append(Object.assign(document.createElement('link'), {rel: 'prefetch', href: u}))",
     "manifest": "document.head.append(Object.assign(document.createElement('link'), {rel: 'manifest', href: u}))",
     "ping": "(a => { document.body.append(a); a.click(); })(Object.assign(document.createElement('a'), {href: '#', ping: u}))",
-    "form": "(f => { document.body.append(Object.assign(document.createElement('iframe'), {name: 'to'}), f); f.submit(); })"
-            "(Object.assign(document.createElement('form'), {action: u, target: 'to'}))",
+    # the last, since the page goes there where it may
+    "form": "(f => { document.body.append(f); f.submit(); })(Object.assign(document.createElement('form'), {action: u}))",
 }
 
 
