@@ -15,7 +15,6 @@ import csv
 import sys
 from pathlib import Path
 
-import matplotlib
 import tillsparrow
 
 HERE = Path(__file__).resolve().parent if "__file__" in globals() else Path.cwd()
@@ -82,9 +81,11 @@ print(f"{table}: {len(scores)} wells")
 
 # %% Draw the picture
 # On the left the tray with what was scored, on the right the means of each channel.
+import matplotlib  # noqa: E402: what comes before needs none of it
+
 if not IN_NOTEBOOK:
     matplotlib.use("Agg")
-import matplotlib.pyplot as pyplot  # noqa: E402: the line above comes first
+from matplotlib import pyplot  # noqa: E402
 from matplotlib.patches import Rectangle  # noqa: E402
 
 
