@@ -4,6 +4,7 @@ import os
 import sys
 import tempfile
 import unittest
+import warnings
 import zipfile
 from pathlib import Path
 from unittest import mock
@@ -88,6 +89,15 @@ class WithImageio(unittest.TestCase):
             self.assertTrue((imageio.imread(jpeg) == numpy.asarray(upright)).all(), orientation)
             self.assertEqual(imageio.imread(jpeg).shape, imageio.imread(jpeg, "JPEG-PIL").shape)
             self.assertEqual(imageio.imread(jpeg, exifrotate=False).tobytes(), tillsparrow.read(plain).samples)
+
+    def test_exif_data_that_cannot_be_read_are_told(self):
+        plain = files.docs_tray()
+        for broken in (b"", b"II", b"no such data", b"MM\0*\0\0\0\x08\0\1", b"MM\0*\xff\xff\xff\xff"):
+            jpeg = plain[:2] + files.segment(225, b"Exif\0\0" + broken) + plain[2:]
+            with warnings.catch_warnings(record=True) as told:
+                warnings.simplefilter("always")
+                self.assertEqual(imageio.imread(jpeg).tobytes(), tillsparrow.read(plain).samples)
+            self.assertEqual(bool(told), broken != b"", broken)
 
     def by_pillow(self, jpeg, orientation):
         """Tillsparrow's samples as a picture of Pillow's, with the same orientation."""

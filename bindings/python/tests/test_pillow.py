@@ -170,6 +170,10 @@ class Refusing(WithPillow):
         sent = pickle.loads(pickle.dumps(said_by(opened, progressive)))
         self.assertEqual((sent.number, str(sent)), (5, "refused 5: a form of JPEG that is not read"))
 
+    def test_a_cut_file_is_refused_where_pillow_is_told_to_take_it(self):
+        with mock.patch.object(ImageFile, "LOAD_TRUNCATED_IMAGES", True):
+            self.assertEqual(said_by(opened, files.docs_tray()[:-40]).number, 4)
+
     def test_a_refused_file_is_named_and_closed(self):
         with tempfile.NamedTemporaryFile(suffix=".jpg") as file:
             file.write(files.docs_tray()[:-2])

@@ -11,6 +11,7 @@ formats of before version 2.11; tested with imageio 2.4.1.
 """
 from __future__ import annotations
 
+import warnings
 from typing import Any, Dict, Tuple
 
 import imageio
@@ -26,12 +27,20 @@ ORIENTATION = 0x0112
 TURNS = {2: (0, True), 3: (2, False), 4: (2, True), 5: (3, True), 6: (3, False), 7: (1, True), 8: (1, False)}
 
 
+def _orientation(found: Dict[str, Any]) -> Any:
+    """What the EXIF data say of it; 1, upright, where there is nothing that can be read."""
+    try:
+        exif = Image.Exif()
+        exif.load(found.get("exif", b""))
+        return exif.get(ORIENTATION, 1)
+    except Exception as error:  # Whatever Pillow stumbles over, the samples are right.
+        warnings.warn(f"tillsparrow: the EXIF data cannot be read, and the picture is not turned: {error}", stacklevel=2)
+        return 1
+
+
 def _turned(pixels: Any, found: Dict[str, Any]) -> Any:
-    """The picture upright, as the EXIF data say; the same samples at other places."""
-    exif = Image.Exif()
-    if "exif" in found:
-        exif.load(found["exif"])
-    quarters, mirrored = TURNS.get(exif.get(ORIENTATION, 1), (0, False))
+    """The picture upright: the same samples at other places."""
+    quarters, mirrored = TURNS.get(_orientation(found), (0, False))
     pixels = numpy.rot90(pixels, quarters)
     return numpy.fliplr(pixels) if mirrored else pixels
 

@@ -12,7 +12,7 @@ from __future__ import annotations
 import io
 import struct
 import warnings
-from typing import Any, Dict, Optional, Tuple
+from typing import Any, Dict, Tuple
 
 from PIL import Image, ImageFile, JpegImagePlugin
 
@@ -29,7 +29,7 @@ DECODER = "tillsparrow"
 MODE = "_mode" if hasattr(Image.Image, "mode") else "mode"
 
 _limits = NO_LIMITS
-_replaced: Optional[Tuple[Any, Any]] = None
+_replaced: Any = None
 
 
 class RefusedImage(OSError):
@@ -118,15 +118,13 @@ def register(limits: Limits = NO_LIMITS) -> None:
     _limits = limits
     if FORMAT in Image.OPEN:
         return
-    # Pillow's common readers come first, so that none is put in afterwards.
-    Image.preinit()
-    _replaced = Image.OPEN.get(THEIRS)
+    # Pillow's own is there: it came with the module that has it, above.
+    _replaced = Image.OPEN[THEIRS]
     Image.register_open(FORMAT, open_or_raise, accepts)
     Image.register_mime(FORMAT, "image/jpeg")
     Image.ID.remove(FORMAT)
     Image.ID.insert(0, FORMAT)
-    if _replaced:
-        Image.OPEN[THEIRS] = open_or_raise, accepts
+    Image.OPEN[THEIRS] = open_or_raise, accepts
 
 
 def unregister() -> None:
@@ -135,8 +133,7 @@ def unregister() -> None:
         return
     Image.ID.remove(FORMAT)
     del Image.OPEN[FORMAT], Image.MIME[FORMAT]
-    if _replaced:
-        Image.OPEN[THEIRS] = _replaced
+    Image.OPEN[THEIRS] = _replaced
 
 
 Image.register_decoder(DECODER, _Decoder)
