@@ -259,8 +259,10 @@ def test_waiting(browser, room, shots):
     held(["noted.jpg", "Reading …", HINT], [page.text(each) for each in ("name", "said", "values")], "what is said meanwhile")
     held([False, False, []], [page.seen("picture"), page.seen("mark"), page.texts("#facts dd")], "what is seen meanwhile")
     page.key("p")
+    page.value("globalThis.told = []; new MutationObserver(() => told.push(facts.textContent)).observe(facts, {childList: true}); 0")
     page.rest()
     hold_picture(page, "the one before it, gone back to", tillsparrow.read(TRAY))
+    held([page.text("facts")], page.value("told"), "what was described on the way")
     held([False, []], [page.seen("noted"), page.texts("#notes li")], "the notes of the other")
     page.close()
 
