@@ -428,7 +428,8 @@ def test_telephone(browser, room, shots):
     """A screen of 360 pixels: nothing sticks out, a tap marks a pixel, two fingers zoom."""
     for dark in (False, True):
         page = Tillsparrow(browser, width=360, height=740, dark=dark, touch=True)
-        fits = lambda what: held(True, page.value("document.documentElement.scrollWidth <= 360"), f"360 pixels hold {what}")  # noqa: E731
+        wide = "Array.from(document.querySelectorAll('html, h2, #notes li'), e => e.scrollWidth > Math.min(360, e.clientWidth))"
+        fits = lambda what: held(False, page.value(wide + ".includes(true)"), f"360 pixels do not hold {what}")  # noqa: E731
         fits("the empty page")
         long = put(room, "a" * 120, files.with_segment(files.encode(40, 30), 0xFE, b"w" * 400))
         page.drop_all(TRAY, long, put(room, "no", b"no"))
