@@ -11,23 +11,29 @@ const bytes = Uint8Array.from(atob(MODULE), sign => sign.charCodeAt(0));
 let worker, answered;
 
 function hire() {
-    worker?.terminate();
     worker = new Worker(source);
     worker.onmessage = ({data}) => answered(data);
     worker.onerror = event => {
         event.preventDefault();
-        answered?.({fault: "Error", message: event.message || "its worker ended"});
+        dismiss();
+        answered?.({fault: "Error", message: event.message || "its worker did not start"});
     };
     worker.postMessage({module: bytes});
+}
+
+function dismiss() {
+    worker?.terminate();
+    worker = undefined;
 }
 
 // The worker's answer. One that failed may have lost its memory, so the next job has another.
 async function ask(job) {
     const answer = await new Promise(resolve => {
         answered = resolve;
+        if (!worker) hire();
         worker.postMessage(job);
-    });
-    if (answer.fault) hire();
+    }).catch(fault => ({fault: fault.name, message: fault.message}));
+    if (answer.fault) dismiss();
     return answer;
 }
 
@@ -103,7 +109,7 @@ function select(index) {
     if (index < 0 || index >= photos.length) return;
     current = index;
     const photo = photos[index];
-    if (photo.answer?.fault) delete photo.answer; // it may be there again
+    if (photo.answer?.fault) photo.answer = shown = undefined; // it may go better now
     photos.forEach(({button}, i) => {
         button.tabIndex = i === index ? 0 : -1;
         button.ariaCurrent = i === index ? "true" : null;

@@ -286,6 +286,8 @@ def test_zoom(browser, room, shots):
     shots(page, "zoomed")
     left = page.spot(0, 0)
     page.mouse("mousePressed", x, y, button="left", clickCount=1)
+    page.mouse("mouseMoved", x + 2, y + 2, button="left", buttons=1)
+    held(left, page.spot(0, 0), "the picture, when a hand trembles")
     for step in (10, 25, 40):
         page.mouse("mouseMoved", x + step, y + step, button="left", buttons=1)
     page.mouse("mouseReleased", x + 40, y + 40, button="left")
@@ -361,6 +363,7 @@ def test_faults(browser, room, shots):
     """No memory, a worker that ends, a file that goes or changes, a canvas that takes nothing: a sentence, and the next file is read."""
     page = Tillsparrow(browser)
     large, changing = put(room, "large", files.encode(640, 480)), put(room, "changing", files.encode(16, 16))
+    page.drop_all(TRAY)
     for lost, (wrong, sentence) in enumerate((
             ("WebAssembly.Memory.prototype.grow = () => { throw new RangeError('no memory'); }", NO_ROOM),
             ("onmessage = () => { throw new Error('lost'); }", "The page failed: Uncaught Error: lost."))):
@@ -368,20 +371,23 @@ def test_faults(browser, room, shots):
         page.drop_all(large)
         held(sentence, page.text("refused"), "a fault of the worker")
         held("not read", page.texts("#strip .verdict")[-1], "the list")
+        page.select(2 * lost + 1)
+        hold_picture(page, "the same file, once more", tillsparrow.read(large))
         page.drop_all(TRAY)
         hold_picture(page, "the next file", tillsparrow.read(TRAY))
     held(3, len(page.workers()), "the workers that were needed")
     page.drop_all(changing, TRAY)
     files.write(room, "changing.jpg", files.encode(24, 24, "-quality", "30"))
+    page.select(6)
     page.select(5)
-    page.select(4)
     held(UNREAD, page.text("refused"), "a file that was changed")
     os.remove(changing)
+    page.select(6)
     page.select(5)
-    page.select(4)
     held(UNREAD, page.text("refused"), "a file that is gone")
     page.drop_all(room)
     held(UNREAD, page.text("refused"), "a folder")
+    held("not read", page.texts("#strip .verdict")[-1], "the list")
     page.value("HTMLCanvasElement.prototype.getContext = () => null; 0")
     page.select(0)
     held("This browser cannot draw so large a picture. It can still be saved.", page.text("said"), "a canvas that takes nothing")

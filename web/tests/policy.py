@@ -70,6 +70,7 @@ def attempt(target, ways, url, who):
 
 
 def test_policy(browser, room, shots):
+    """From a web server as from a file: the page works, and nobody is asked for anything."""
     with Server() as server:
         page = pages.Tillsparrow(browser, server.url + "/tillsparrow.html")
         page.drop_all(pages.TRAY)
