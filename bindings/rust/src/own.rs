@@ -1,6 +1,6 @@
 //! The calls with memory of their own. Each is given the budget that suffices for every file.
 
-use crate::{comment, decode, has_comment, inspect, settle, Colour, Limits, Refused};
+use crate::{decode, inspect, settle, Colour, Limits, Refused};
 
 /// A picture that was read.
 #[derive(Clone, Debug, PartialEq, Eq, Hash)]
@@ -84,28 +84,6 @@ pub fn settled(bytes: &[u8]) -> Result<Vec<u8>, Refused> {
     }
     output.truncate(made?.length);
     Ok(output)
-}
-
-/// The texts of all comments, each a part of `bytes`. The file is read once for each of them, and
-/// once more.
-///
-/// ```
-/// let file = std::fs::read("../../docs/tray.jpg")?;
-/// for text in tillsparrow::comments(&file)? {
-///     println!("{}", String::from_utf8_lossy(text));
-/// }
-/// # Ok::<(), Box<dyn std::error::Error>>(())
-/// ```
-pub fn comments(bytes: &[u8]) -> Result<Vec<&[u8]>, Refused> {
-    let mut texts = Vec::new();
-    loop {
-        let text = comment(bytes, texts.len());
-        // A text that is empty may be there, or be the end, or stand for a refusal.
-        if text.is_empty() && !has_comment(bytes, texts.len(), Limits::NONE, u64::MAX)?.0 {
-            return Ok(texts);
-        }
-        texts.push(text);
-    }
 }
 
 #[cfg(test)]
