@@ -35,7 +35,7 @@ mod refused;
 
 pub use calls::{comment, decode, has_comment, inspect, settle, Inspected, Settled};
 pub use comments::{comments, comments_of};
-pub use own::{read, read_within, settled, Picture};
+pub use own::{read, read_inspected, read_within, settled, Picture};
 pub use record::{Colour, Limits, Record};
 pub use refused::Refused;
 
