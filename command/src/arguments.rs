@@ -65,7 +65,7 @@ impl Ending {
 pub fn command() -> Command {
     Command::new("tillsparrow")
         .version(env!("CARGO_PKG_VERSION"))
-        .about("Reads JPEG files with a proved decoder: what cannot be read by the rules is refused, and no sample is wrong.")
+        .about("Reads baseline JPEG files with a proved decoder. What cannot be read by the rules is refused by number.")
         .after_help(
             "With no argument, or with --settle alone, it is a filter from standard input to standard output.\n\n\
              Examples:\n  \
@@ -171,6 +171,7 @@ fn form() -> Arg {
     Arg::new("format")
         .short('f')
         .long("format")
+        .value_name("FORM")
         .value_parser(names)
         .ignore_case(true)
         .help("The form of the picture")
@@ -287,14 +288,6 @@ fn ending(error: &clap::Error, first: Option<&OsString>) -> Ending {
     if matches!(error.kind(), ErrorKind::DisplayHelp | ErrorKind::DisplayVersion) {
         return Ending::Told(text);
     }
-    let told: Vec<&str> = text
-        .lines()
-        .take_while(|line| !line.starts_with("Usage:"))
-        .flat_map(str::split_whitespace)
-        .collect();
-    let told = told.join(" ");
-    let told = told.strip_prefix("error: ").unwrap_or(&told);
-    let told = told.split(" For more information").next().unwrap_or(told);
     let known = first
         .and_then(|word| word.to_str())
         .filter(|word| command().find_subcommand(word).is_some());
@@ -305,7 +298,26 @@ fn ending(error: &clap::Error, first: Option<&OsString>) -> Ending {
         }
         _ => "see tillsparrow --help".to_string(),
     };
-    Ending::Wrong(format!("{told}: {help}"))
+    Ending::Wrong(format!("{}: {help}", one_line(&text)))
+}
+
+/// The message of an error, without the usage that follows it.
+fn one_line(text: &str) -> String {
+    let text = text.strip_prefix("error: ").unwrap_or(text);
+    let ends = ["Usage:", "For more information", "If you believe"];
+    let is_message = |part: &&str| !ends.iter().any(|end| part.starts_with(end));
+    let parts = text.lines().map(str::trim).take_while(is_message).filter(|part| !part.is_empty());
+    let mut line = String::new();
+    for part in parts {
+        let joint = match line.ends_with(':') || part.starts_with('[') {
+            _ if line.is_empty() => "",
+            true => " ",
+            false => "; ",
+        };
+        line.extend([joint, part]);
+    }
+    // As every line of this program begins.
+    line.get(..1).map(str::to_lowercase).unwrap_or_default() + line.get(1..).unwrap_or_default()
 }
 
 #[cfg(test)]
@@ -369,10 +381,10 @@ mod tests {
         for words in cases {
             let line = wrong(words);
             assert!(!line.contains('\n') && line.len() > 20, "{line}");
-            println!("{words:?}: {line}");
         }
         assert!(wrong(&["Cargo.toml"]).contains("tillsparrow decode Cargo.toml"));
         assert!(wrong(&["settle"]).contains("see tillsparrow settle --help"));
+        assert!(wrong(&["settle", "a.jpg", "--forec"]).contains("; Did you mean '--force'?: see"));
     }
 
     #[test]

@@ -37,6 +37,7 @@ struct Decoder {
 
 impl Decoder {
     fn decode(&self, i: usize, source: &Source, phases: &Phases) -> Result<(), Trouble> {
+        source.look()?;
         let before = self.places.of(i, source, Naming::Ending("png"))?;
         let form =
             self.form.unwrap_or(if before == Place::Standard { Form::Pnm } else { Form::Png });

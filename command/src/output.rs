@@ -67,7 +67,7 @@ impl Write for Output {
 /// Standard output, without the line buffer of the standard library.
 fn standard() -> Result<File> {
     if signals::was_closed(signals::OUTPUT) {
-        return Err(Error::other("it is closed"));
+        return Err(Error::other("it is closed: open it, or take -o FILE"));
     }
     Ok(File::from(io::stdout().as_fd().try_clone_to_owned()?))
 }

@@ -34,6 +34,7 @@ fn settle(
     source: &Source,
     phases: &Phases,
 ) -> Result<(), Trouble> {
+    source.look()?;
     let place = places.of(i, source, naming)?;
     places.is_free(&place)?;
     phases.enter(Phase::Reading);

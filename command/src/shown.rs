@@ -46,7 +46,7 @@ pub fn escaped(text: &str) -> String {
 /// UTF-8 in quotes, where a backslash begins an escape.
 pub fn name(path: &Path) -> String {
     let bytes = path.as_os_str().as_bytes();
-    let is_quote = |byte: &u8| matches!(byte, b'"' | b'\'' | b'`');
+    let is_quote = |byte: &u8| matches!(byte, b'"' | b'\'');
     let whole = line(bytes);
     if whole.as_bytes() == bytes && !bytes.is_empty() && !bytes.iter().any(is_quote) {
         return whole;
@@ -78,7 +78,7 @@ mod tests {
             "f\u{fc}r.jpg",
             "fu\u{308}r.jpg",
             "back\\slash.jpg",
-            "$(touch X).jpg",
+            "$(touch X)`touch Y`.jpg",
             "-",
         ] {
             assert_eq!(shown(plain.as_bytes()), plain);

@@ -59,6 +59,20 @@ impl Source {
         identity(&about.ok()?)
     }
 
+    /// Fails where it is seen at once that there is nothing to read, which is said before anything
+    /// that is wrong with an output.
+    pub fn look(&self) -> std::result::Result<(), Trouble> {
+        let about = match self {
+            Source::Standard => return Ok(()),
+            Source::File(path) => path.metadata(),
+        };
+        match about {
+            Ok(about) if about.is_dir() => Err(words::unread(&ErrorKind::IsADirectory.into())),
+            Ok(_) => Ok(()),
+            Err(error) => Err(words::unread(&error)),
+        }
+    }
+
     pub fn read(&self) -> std::result::Result<Content, Trouble> {
         let content = match self {
             Source::Standard => read_standard(),
@@ -87,7 +101,7 @@ impl Deref for Content {
 
 fn read_standard() -> Result<Content> {
     if signals::was_closed(signals::INPUT) {
-        return Err(Error::other("it is closed"));
+        return Err(Error::other("is closed: give it a file or a pipe"));
     }
     let mut bytes = Vec::new();
     std::io::stdin().lock().read_to_end(&mut bytes)?;
@@ -126,7 +140,10 @@ mod tests {
         assert!(tray.identity().is_some() && tray.identity() == other.identity());
         assert_eq!(Source::from(OsString::from("/dev/null")).identity(), None);
         assert_eq!(tray.read().unwrap()[..2], [255, 216]);
-        assert!(Source::from(OsString::from("src")).read().is_err());
+        assert!(tray.look().is_ok());
+        for absent in ["src", "absent.jpg"].map(|name| Source::from(OsString::from(name))) {
+            assert_eq!(absent.look().unwrap_err(), absent.read().err().unwrap());
+        }
         assert_eq!(Source::from(OsString::from("-")).shown(), "standard input");
     }
 

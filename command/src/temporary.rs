@@ -26,8 +26,9 @@ impl Temporary {
         };
         loop {
             let path = unused(&target);
-            let kept = signals::keep(&path)
-                .ok_or_else(|| Error::other("too many files are written at once"))?;
+            let kept = signals::keep(&path).ok_or_else(|| {
+                Error::other("too many files are written at once: take fewer with -j")
+            })?;
             match File::options().write(true).create_new(true).open(&path) {
                 Ok(file) => {
                     let temporary = Temporary { path, target, replace, _kept: kept };

@@ -83,6 +83,8 @@ pub fn unread(error: &Error) -> Trouble {
             "is a folder: give the files in it, such as FOLDER/*.jpg".to_string()
         }
         ErrorKind::OutOfMemory => NO_MEMORY.to_string(),
+        // The words of this program.
+        ErrorKind::Other => error.to_string(),
         _ => format!("cannot be read: {}: copy it again from the camera", said(error)),
     })
 }
@@ -108,6 +110,8 @@ pub fn unwritten(place: &str, error: &Error) -> String {
             "it is there already: take another name with -o, or --force to replace it".to_string()
         }
         ErrorKind::OutOfMemory => NO_MEMORY.to_string(),
+        // The words of this program.
+        ErrorKind::Other => error.to_string(),
         _ => format!("{}: take another place with -o", said(error)),
     };
     format!("{place} cannot be written: {why}")
