@@ -45,7 +45,7 @@ const PATIENCE: Duration = Duration::from_secs(1);
 
 impl Progress {
     pub fn new(files: usize, first: impl FnOnce() -> String) -> Progress {
-        let single = (files == 1).then(first);
+        let single = (files == 1).then(|| shortened(&first()));
         let bar = std::io::stderr().is_terminal().then(|| hidden_bar(files as u64));
         Progress { bar, began: Instant::now(), is_shown: false, single }
     }
@@ -59,7 +59,10 @@ impl Progress {
             self.is_shown = true;
         }
         match &self.single {
-            Some(name) => bar.set_message(format!("{name}: {}", phases.name())),
+            Some(name) => {
+                bar.set_prefix(phases.name());
+                bar.set_message(name.clone());
+            }
             None => bar.set_position(done as u64),
         }
         bar.tick();
@@ -81,17 +84,40 @@ impl Progress {
     }
 }
 
+/// The end of a name that is too long for a row of a terminal.
+fn shortened(name: &str) -> String {
+    const MOST: usize = 32;
+    match name.chars().count().checked_sub(MOST) {
+        None | Some(0) => name.to_string(),
+        Some(more) => format!("..{}", name.chars().skip(more + 2).collect::<String>()),
+    }
+}
+
 /// It counts from the beginning, so that what is left of the time is known when it is shown.
 fn hidden_bar(files: u64) -> ProgressBar {
     let (bar, template) = match files {
-        1 => (ProgressBar::new_spinner(), "{spinner} {msg}, {elapsed}"),
+        1 => (ProgressBar::new_spinner(), "{spinner} {prefix}, {elapsed}: {wide_msg}"),
         _ => (
             ProgressBar::new(files),
-            "[{bar:32}] {pos} of {len} files, {elapsed}, about {eta} left",
+            "{pos} of {len} files [{wide_bar}] {elapsed}, about {eta} left",
         ),
     };
     bar.set_draw_target(ProgressDrawTarget::hidden());
     let style =
         ProgressStyle::with_template(template).unwrap_or_else(|_| ProgressStyle::default_spinner());
     bar.with_style(style.progress_chars("=> ").tick_chars("-\\|/ "))
+}
+
+#[cfg(test)]
+mod tests {
+    use super::*;
+
+    #[test]
+    fn a_long_name_is_shown_by_its_end() {
+        assert_eq!(shortened("tray.jpg"), "tray.jpg");
+        let long = "a folder with a long name/and another/f\u{fc}r tray 36.jpg";
+        assert_eq!(shortened(long), "..me/and another/f\u{fc}r tray 36.jpg");
+        assert_eq!(shortened(&"\u{fc}".repeat(32)).chars().count(), 32);
+        assert_eq!(shortened(&"\u{fc}".repeat(33)).chars().count(), 32);
+    }
 }

@@ -20,8 +20,11 @@ extern "C" {
 
 const HANG_UP: c_int = 1;
 const INTERRUPT: c_int = 2;
+const QUIT: c_int = 3;
 const BUS: c_int = 7;
 const TERMINATE: c_int = 15;
+const CPU_LIMIT: c_int = 24;
+const SIZE_LIMIT: c_int = 25;
 const DEFAULT: usize = 0;
 const IGNORED: usize = 1;
 
@@ -102,7 +105,7 @@ extern "C" fn end_cut(_: c_int) {
 /// Has the signals that end a program clear away first. One that is ignored, as nohup has it and a
 /// shell for what runs in the background, stays ignored.
 pub fn install() {
-    for number in [HANG_UP, INTERRUPT, TERMINATE] {
+    for number in [HANG_UP, INTERRUPT, QUIT, TERMINATE, CPU_LIMIT] {
         // SAFETY: a handler is a function of one number that returns nothing.
         unsafe {
             if signal(number, end as *const () as usize) == IGNORED {
@@ -110,8 +113,11 @@ pub fn install() {
             }
         }
     }
-    // SAFETY: as above.
-    unsafe { signal(BUS, end_cut as *const () as usize) };
+    // SAFETY: as above. A file above the limit on sizes is then an error of the write that goes above it.
+    unsafe {
+        signal(BUS, end_cut as *const () as usize);
+        signal(SIZE_LIMIT, IGNORED);
+    }
 }
 
 // ---- standard streams

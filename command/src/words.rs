@@ -95,6 +95,9 @@ pub fn unwritten(place: &str, error: &Error) -> String {
         ErrorKind::StorageFull | ErrorKind::QuotaExceeded => {
             "the disk is full: make room and run it again".to_string()
         }
+        ErrorKind::FileTooLarge => {
+            "it is too large for a file here: raise the limit (ulimit -f), or take another disk with -o".to_string()
+        }
         ErrorKind::BrokenPipe => "the pipe was closed: let its reader read to the end".to_string(),
         ErrorKind::NotFound => {
             "there is no such folder: make it, or take another with -o".to_string()
