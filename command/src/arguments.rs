@@ -323,6 +323,7 @@ fn one_line(text: &str) -> String {
 #[cfg(test)]
 mod tests {
     use super::*;
+    use std::collections::HashSet;
 
     fn asked(words: &[&str]) -> Result<Asked, Ending> {
         parse(["tillsparrow"].iter().chain(words).map(OsString::from).collect())
@@ -405,59 +406,78 @@ mod tests {
         assert!(matches!(asked(&["--version"]), Err(Ending::Told(text)) if text == version));
     }
 
-    /// What the command takes is named in the man page and in each completion, so that they cannot drift apart.
+    /// The words in a text that begin with two dashes, and end where no letter or dash follows.
+    fn long_words(text: &str) -> HashSet<String> {
+        let is_part = |letter: char| letter.is_ascii_lowercase() || letter == '-';
+        let words =
+            text.split(|letter: char| !is_part(letter)).filter_map(|word| word.strip_prefix("--"));
+        words.filter(|word| !word.is_empty()).map(str::to_string).collect()
+    }
+
+    /// The man page, with an option written as the others write it, and the completions.
+    fn pages() -> [String; 4] {
+        let page = include_str!("../tillsparrow.1").replace("Fl -", "--").replace("Fl ", "-");
+        let fish =
+            Shell::Fish.text().replace("set -l ", "").replace("-l ", "--").replace("-s ", "-");
+        [page, Shell::Bash.text().to_string(), Shell::Zsh.text().to_string(), fish]
+    }
+
+    /// What the command takes is named in the man page and in each completion, and nothing else is, so that
+    /// they cannot drift apart.
     #[test]
-    fn every_word_is_in_the_man_page_and_in_the_completions() {
-        let page = include_str!("../tillsparrow.1").replace("\\-", "-");
-        let completions = [Shell::Bash, Shell::Zsh, Shell::Fish].map(Shell::text);
-        let mut count = 0;
+    fn the_man_page_and_the_completions_name_what_is_taken() {
+        let mut taken: HashSet<String> = ["help", "version", "settle"].map(String::from).into();
         for subcommand in command().get_subcommands() {
-            let name = subcommand.get_name();
-            assert!(
-                page.contains(&format!(".Nm tillsparrow Cm {name}"))
-                    || page.contains(&format!(".It Cm {name} ")),
-                "{name}"
-            );
-            for text in completions {
-                assert!(text.contains(name), "{name} in\n{text}");
-            }
-            for argument in
-                subcommand.get_arguments().filter(|argument| argument.get_id() != "help")
-            {
-                let Some(long) = argument.get_long() else { continue };
-                count += 1;
-                let short = argument.get_short();
-                named(&page, &completions, long, short);
+            let is_named = |page: &String| {
+                page.split(|letter: char| !letter.is_ascii_lowercase())
+                    .any(|word| word == subcommand.get_name())
+            };
+            assert!(pages().iter().all(is_named), "{}", subcommand.get_name());
+            for argument in subcommand.get_arguments() {
+                taken.extend(argument.get_long().map(str::to_string));
+                if let Some(word) = argument.get_short().map(|short| format!("-{short}")) {
+                    assert!(pages().iter().all(|page| page.contains(&word)), "{word}");
+                }
                 for value in argument.get_possible_values() {
                     assert!(
-                        page.contains(value.get_name()),
-                        "{long} {} in the man page",
-                        value.get_name()
-                    );
-                    assert!(
-                        completions.iter().all(|text| text.contains(value.get_name())),
+                        pages().iter().all(|page| page.contains(value.get_name())),
                         "{}",
                         value.get_name()
                     );
                 }
             }
         }
-        assert!(count >= 10, "{count}");
+        for page in pages() {
+            assert_eq!(long_words(&page), taken, "{page}");
+        }
     }
 
-    fn named(page: &str, completions: &[&str; 3], long: &str, short: Option<char>) {
-        assert!(page.contains(&format!("Fl -{long}")), "--{long} in the man page");
-        let [bash, zsh, fish] = completions;
-        assert!(bash.contains(&format!("--{long}")), "--{long} for bash");
-        assert!(zsh.contains(&format!("--{long}")), "--{long} for zsh");
-        assert!(fish.contains(&format!("-l {long}")), "--{long} for fish");
-        if let Some(short) = short {
-            assert!(page.contains(&format!("Fl {short} ")), "-{short} in the man page");
-            assert!(
-                bash.contains(&format!("-{short}")) && zsh.contains(&format!("-{short}")),
-                "-{short}"
-            );
-            assert!(fish.contains(&format!("-s {short} ")), "-{short} for fish");
+    /// Each subcommand has its own options in the synopsis of the man page and in the completions of bash and fish.
+    #[test]
+    fn each_subcommand_has_its_options() {
+        let [page, bash, _, fish] = pages();
+        for subcommand in command().get_subcommands() {
+            let name = subcommand.get_name();
+            let synopsis = page
+                .split(&format!(".Nm tillsparrow Cm {name}\n"))
+                .nth(1)
+                .unwrap_or_else(|| panic!("{name} in the synopsis"));
+            let synopsis = synopsis.split(".Nm").next().unwrap_or_default();
+            let line = bash
+                .lines()
+                .find(|line| line.trim().starts_with(&format!("{name}) ")))
+                .unwrap_or_else(|| panic!("{name} for bash"));
+            for long in subcommand.get_arguments().filter_map(|argument| argument.get_long()) {
+                let short = subcommand
+                    .get_arguments()
+                    .find(|argument| argument.get_long() == Some(long))
+                    .and_then(|argument| argument.get_short());
+                let word = short.map_or_else(|| format!("--{long}"), |short| format!("-{short} "));
+                assert!(synopsis.contains(&word), "{word} in the synopsis of {name}");
+                assert!(long_words(line).contains(long), "--{long} of {name} for bash");
+                let is_its = |line: &&str| line.contains(name) && long_words(line).contains(long);
+                assert!(fish.lines().any(|line| is_its(&line)), "--{long} of {name} for fish");
+            }
         }
     }
 }
