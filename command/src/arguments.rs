@@ -467,12 +467,11 @@ mod tests {
                 .lines()
                 .find(|line| line.trim().starts_with(&format!("{name}) ")))
                 .unwrap_or_else(|| panic!("{name} for bash"));
-            for long in subcommand.get_arguments().filter_map(|argument| argument.get_long()) {
-                let short = subcommand
-                    .get_arguments()
-                    .find(|argument| argument.get_long() == Some(long))
-                    .and_then(|argument| argument.get_short());
-                let word = short.map_or_else(|| format!("--{long}"), |short| format!("-{short} "));
+            for argument in subcommand.get_arguments() {
+                let Some(long) = argument.get_long() else { continue };
+                let word = argument
+                    .get_short()
+                    .map_or_else(|| format!("--{long}"), |short| format!("-{short} "));
                 assert!(synopsis.contains(&word), "{word} in the synopsis of {name}");
                 assert!(long_words(line).contains(long), "--{long} of {name} for bash");
                 let is_its = |line: &&str| line.contains(name) && long_words(line).contains(long);
