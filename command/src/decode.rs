@@ -2,6 +2,7 @@
 
 use crate::answer::{Answer, Status, Trouble};
 use crate::form::Form;
+use crate::memory::Memory;
 use crate::output::Output;
 use crate::place::{Naming, Out, Place, Places};
 use crate::progress::{Phase, Phases};
@@ -21,9 +22,11 @@ pub struct Wish {
 }
 
 pub fn run(wish: Wish) -> Result<Status, String> {
-    // The ending says nothing here: within one call two names are alike with every ending or with none.
+    // Which ending is taken here does not matter: all outputs of a call have the same one. With pnm they
+    // have one of two; a grey picture and one in colour then count as alike where they differ in that alone.
     let places = Places::new(wish.out, wish.force, &wish.sources, Naming::Ending("png"))?;
-    let decoder = Decoder { places, form: wish.form, colour: wish.colour };
+    let memory = Memory::of_this_computer();
+    let decoder = Decoder { places, form: wish.form, colour: wish.colour, memory };
     Ok(run::each(&wish.sources, wish.jobs, |i, source, phases| {
         Answer::from(decoder.decode(i, source, phases).map(|()| Vec::new()))
     }))
@@ -33,6 +36,7 @@ struct Decoder {
     places: Places,
     form: Option<Form>,
     colour: Colour,
+    memory: Memory,
 }
 
 impl Decoder {
@@ -57,6 +61,8 @@ impl Decoder {
         self.places.is_free(&place)?;
         let unwritten = |error| Trouble::Failed(words::unwritten(&place.shown(), &error));
         let mut output = Output::open(&place, self.places.replace).map_err(unwritten)?;
+        let share = self.memory.take(record.output.saturating_add(record.scratch));
+        let _share = share.ok_or_else(words::no_memory)?;
         phases.enter(Phase::Decoding);
         let picture = tillsparrow::read_inspected(&bytes, &record)
             .map_err(|refused| words::refusal(&refused, &bytes))?;

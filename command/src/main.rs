@@ -13,6 +13,7 @@ mod decode;
 mod filter;
 mod form;
 mod inspect;
+mod memory;
 mod note;
 mod output;
 mod place;

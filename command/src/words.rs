@@ -8,7 +8,7 @@ use tillsparrow::Refused;
 pub fn refusal(refused: &Refused, bytes: &[u8]) -> Trouble {
     match refused.number {
         // The room was made for the record that was found: only the memory can be short.
-        Refused::SHORT_ROOM => Trouble::Failed(NO_MEMORY.to_string()),
+        Refused::SHORT_ROOM => no_memory(),
         // The record was this file's a moment ago.
         Refused::NOT_ITS_RECORD => Trouble::Failed(
             "changed while it was read: run it again when nothing writes to it".to_string(),
@@ -67,6 +67,11 @@ fn is_not_jpeg(bytes: &[u8]) -> &'static str {
 
 const NO_MEMORY: &str =
     "there is not enough memory: close other programs, take -j 1, or a computer with more of it";
+
+/// A file's picture has no room.
+pub fn no_memory() -> Trouble {
+    Trouble::Failed(NO_MEMORY.to_string())
+}
 
 /// What the system says of an error, without its number.
 fn said(error: &Error) -> String {
