@@ -45,17 +45,13 @@ def hold_left(name, before, after, new):
 
 
 def hold_lines(name, said, lines):
-    """As many lines as are wanted, each with its beginning and its other parts; in any order. None stands for whatever is said."""
+    """As many lines as are wanted, in any order, each with its beginning and its other parts."""
     try:
-        rows = said.decode().split("\n")
+        *rows, rest = said.decode().split("\n")
     except UnicodeDecodeError:
         raise Off(f"{name}: says what is not UTF-8: {said!r}") from None
-    if rows.pop() or any(not row.isprintable() for row in rows) and lines is not None:
+    if rest or any(not row.isprintable() for row in rows):
         raise Off(f"{name}: says what is no line: {said!r}")
-    if lines is None:
-        if not rows:
-            raise Off(f"{name}: says nothing")
-        return
     if len(rows) != len(lines):
         raise Off(f"{name}: says {len(rows)} lines, and not {len(lines)}: {said.decode()!r}")
     for parts in lines:
@@ -73,9 +69,7 @@ class Command:
         self.program, self.calls, self.failures = program, 0, 0
 
     def run(self, words, at, within=(), **how):
-        how = {"stdin": None if "input" in how else subprocess.DEVNULL, "stdout": subprocess.PIPE, **how}
-        if how["stdin"] is None:
-            del how["stdin"]
+        how = {"stdout": subprocess.PIPE, **({} if "input" in how else {"stdin": subprocess.DEVNULL}), **how}
         self.calls += 1
         try:
             return subprocess.run([*within, self.program, *words], cwd=at, stderr=subprocess.PIPE, timeout=PATIENCE, check=False, **how)
