@@ -123,11 +123,15 @@ def unhindered():
         signal.signal(each, signal.SIG_DFL)
 
 
-def stopped(command, at, words, send):
-    """Whether the signal came while the file was being written; nothing is then left behind."""
+def as_nohup_starts():
+    signal.signal(signal.SIGHUP, signal.SIG_IGN)
+
+
+def stopped(command, at, words, send, setup=unhindered):
+    """Whether the signal came while the file was being written and ended the command; nothing is then left behind."""
     before = listing(at)
     with subprocess.Popen([command.program, *words], cwd=at, stdin=subprocess.DEVNULL, stdout=subprocess.DEVNULL, stderr=subprocess.PIPE,
-                          start_new_session=True, preexec_fn=unhindered) as process:
+                          start_new_session=True, preexec_fn=setup) as process:
         while process.poll() is None and not any(name.startswith(".tillsparrow-") for name in os.listdir(at)):
             time.sleep(0.002)
         send(process)
