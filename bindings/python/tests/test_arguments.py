@@ -5,6 +5,7 @@ import dataclasses
 import gc
 import mmap
 import os
+import pathlib
 import pickle
 import subprocess
 import sys
@@ -70,9 +71,12 @@ class Buffers(unittest.TestCase):
 
     def test_what_holds_no_bytes_is_refused(self):
         for wrong in ("text", 7, None, [255, 216], array.array("H", [1, 2]), memoryview(array.array("b", [1]))):
-            for call in (tillsparrow.inspect, tillsparrow.settle, tillsparrow.comments, lambda data: tillsparrow.decode(data, OWN),
+            for call in (tillsparrow.inspect, tillsparrow.settle, lambda data: tillsparrow.decode(data, OWN),
                          lambda data: tillsparrow.has_comment(data, 0)):
                 self.assertRaises(TypeError, call, wrong)
+            if wrong != "text":  # which is a path to these
+                for call in (tillsparrow.read, tillsparrow.settled, tillsparrow.comments):
+                    self.assertRaises(TypeError, call, wrong)
         for wrong in ("text", 7, [0] * 64, array.array("i", [0] * 64)):
             self.assertRaises(TypeError, tillsparrow.decode, DATA, OWN, wrong, bytearray(64))
             self.assertRaises(TypeError, tillsparrow.decode, DATA, OWN, bytearray(64), wrong)
@@ -208,6 +212,16 @@ class Errors(unittest.TestCase):
             other = next(line.split()[-1] for line in loaded if "/libc.so" in line)
         self.assertRegex(self.imported(other)[1], "^ImportError: .*/libc.so.* has no function tillsparrow_inspect$")
         self.assertEqual(self.imported("")[0], 0)
-        missing = files.ROOT / "nowhere.so"
-        with mock.patch.object(tillsparrow._native, "BUILT", missing), mock.patch.dict(os.environ, {"TILLSPARROW_LIBRARY": ""}):
-            self.assertRaisesRegex(ImportError, "there is no .*nowhere.so: run ./library", tillsparrow._native.load)
+
+    def test_a_library_is_looked_for_in_order(self):
+        native, missing = tillsparrow._native, files.ROOT / "nowhere.so"
+        with tempfile.NamedTemporaryFile() as there, mock.patch.dict(os.environ, {"TILLSPARROW_LIBRARY": ""}):
+            here = pathlib.Path(there.name)
+            with mock.patch.object(native, "BUILT", missing), mock.patch.object(native, "OWN", missing):
+                self.assertRaisesRegex(ImportError, "there is neither .*nowhere.so nor .*nowhere.so: install .* run ./library", native.load)
+            for own, built in ((here, missing), (missing, here), (here, native.__file__)):
+                with mock.patch.object(native, "OWN", own), mock.patch.object(native, "BUILT", built):
+                    self.assertEqual(native.place(), here)
+            os.environ["TILLSPARROW_LIBRARY"] = str(missing)
+            with mock.patch.object(native, "OWN", here):
+                self.assertEqual(native.place(), missing)

@@ -75,17 +75,23 @@ class WithNumpy(unittest.TestCase):
         self.assertRaises(ValueError, tillsparrow.inspect, data, budget=numpy.int64(-1))
         self.assertRaises(TypeError, tillsparrow.inspect, data, budget=numpy.float64(4000))
 
-
     def test_the_code_of_the_page_runs(self):
         page = (files.ROOT / "bindings" / "python" / "README.md").read_text()
-        code, values, said, home = re.search(r"```python\n(.*?)```", page, re.S).group(1), {}, io.StringIO(), os.getcwd()
+        blocks, values, said, home = re.findall(r"```python\n(.*?)```", page, re.S), {}, io.StringIO(), os.getcwd()
         os.chdir(files.ROOT)
         try:
             with contextlib.redirect_stdout(said):
-                exec(code, values)
+                for code in blocks:
+                    exec(code, values)
+            import imageio
+            from PIL import Image
+            self.assertEqual(Image.open("docs/tray.jpg").format, "TILLSPARROW")
+            self.assertEqual(imageio.get_reader("docs/tray.jpg").format.name, "JPEG-TILLSPARROW")
         finally:
             os.chdir(home)
-        self.assertEqual(said.getvalue(), "144 144 3 62208\n")
+            values["tillsparrow"].pillow.unregister()
+            values["tillsparrow"].imageio.unregister()
+        self.assertEqual((len(blocks), said.getvalue()), (3, "144 144 3 62208\n"))
         self.assertTrue(0 < values["green"] < 255)
 
 

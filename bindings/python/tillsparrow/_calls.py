@@ -5,7 +5,7 @@ import dataclasses
 from typing import Any, Dict, NamedTuple, Optional, Tuple
 
 from . import _native
-from ._lent import Lent, view_of
+from ._lent import Lent, flat_view, view_of
 from ._native import library
 from ._values import MEANINGS, MOST, NO_LIMITS, Limits, Record, Refused, number
 
@@ -169,10 +169,7 @@ def comment(data: Any, i: int) -> memoryview:
     i = number("i", i)
     with Lent() as lent:
         part = library.tillsparrow_comment(*lent.read("data", data), i)
-    view = view_of("data", data)
-    # A view of no bytes in rows of some cannot be cast; it has no part but the empty one.
-    flat = view.cast("B") if view.nbytes else memoryview(b"")
-    return flat[part.at:part.at + part.length]
+    return flat_view(data)[part.at:part.at + part.length]
 
 
 def has_comment(data: Any, i: int, limits: Limits = NO_LIMITS, budget: int = MOST) -> Presence:

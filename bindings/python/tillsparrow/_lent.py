@@ -60,6 +60,13 @@ def view_of(name: str, lent: Any) -> memoryview:
     raise ValueError(f"{name} must be contiguous, row by row")
 
 
+def flat_view(data: Any) -> memoryview:
+    """The caller's own bytes, one behind the other."""
+    view = view_of("data", data)
+    # A view of no bytes in rows of some cannot be cast; it has no part but the empty one.
+    return view.cast("B") if view.nbytes else memoryview(b"")
+
+
 class Lent:
     """The buffers of one call: ``with Lent() as lent`` holds each of them until the call is done, so that none can be freed,
     moved or resized meanwhile, and knows that none shares memory with another."""

@@ -6,8 +6,10 @@ import os
 from pathlib import Path
 
 VARIABLE = "TILLSPARROW_LIBRARY"
+#: Where pip puts it, beside this file; in a checkout there is none.
+OWN = Path(__file__).resolve().with_name("libtillsparrow.so")
 #: Where ./library puts it at the top of the repository.
-BUILT = Path(__file__).resolve().parents[3] / "target" / "library" / "libtillsparrow.so"
+BUILT = Path(os.path.normpath(OWN.parent / "../../../target/library/libtillsparrow.so"))
 
 Number = ctypes.c_uint64
 Address = ctypes.c_void_p
@@ -57,15 +59,17 @@ FUNCTIONS = {
 
 
 def place() -> Path:
-    """The path of the shared library; an empty variable counts as none."""
+    """The path of the shared library: the one that the variable names, else the installed module's own, else the checkout's. An
+    empty variable counts as none."""
     named = os.environ.get(VARIABLE)
     if named:
         return Path(named).absolute()
-    if not BUILT.is_file():
-        raise ImportError(
-            f"tillsparrow: there is no {BUILT}: run ./library at the top of the repository, "
-            f"or set {VARIABLE} to the path of libtillsparrow.so")
-    return BUILT
+    for path in (OWN, BUILT):
+        if path.is_file():
+            return path
+    raise ImportError(
+        f"tillsparrow: there is neither {OWN} nor {BUILT}: install the repository's folder bindings/python with pip, "
+        f"or run ./library at the top of the repository, or set {VARIABLE} to the path of libtillsparrow.so")
 
 
 def load() -> ctypes.CDLL:

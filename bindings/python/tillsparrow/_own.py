@@ -5,8 +5,12 @@ import os
 from dataclasses import dataclass, field
 from typing import Any, List, Union
 
-from ._calls import comment, decode, has_comment, inspect, settle
+from ._calls import decode, inspect, settle
+from ._lent import flat_view
 from ._values import NO_LIMITS, Limits
+
+#: The code of a comment segment.
+COMMENT = 254
 
 
 @dataclass(frozen=True)
@@ -56,12 +60,29 @@ def settled(source: Union[str, "os.PathLike[str]", Any], limits: Limits = NO_LIM
     return bytes(settle(_bytes_of(source), None, limits).output)
 
 
-def comments(data: Any) -> List[memoryview]:
-    """The texts of all comments, each a part of the caller's own bytes. The file is read once for each of them, and once more."""
+def notes(flat: memoryview, start: int) -> List[memoryview]:
+    """The texts of the comment segments before ``start``, the place of the first coded byte of a file that was accepted.
+
+    The segments stand one behind the other: 255 once or more, a code, a length of two bytes that counts itself, high byte first.
+    Bytes that were changed since can end the walk early; no text then goes beyond the bytes.
+    """
     texts: List[memoryview] = []
-    while True:
-        text = comment(data, len(texts))
-        # A text that is empty may be there, or be the end, or stand for a refusal.
-        if not text.nbytes and not has_comment(data, len(texts)).there:
-            return texts
-        texts.append(text)
+    end, at = min(start, len(flat)), 2
+    while at < end and flat[at] == 255:
+        while at < end and flat[at] == 255:
+            at += 1
+        if at + 3 > end:
+            break
+        length = 256 * flat[at + 1] + flat[at + 2]
+        if flat[at] == COMMENT and 2 <= length <= end - at - 1:
+            texts.append(flat[at + 3:at + 1 + length])
+        at += 1 + length
+    return texts
+
+
+def comments(source: Union[str, "os.PathLike[str]", Any]) -> List[memoryview]:
+    """The texts of all comments of a file, given by its path or its bytes; each is a part of those bytes, not a copy. The file is
+    read once. Refused where inspect refuses, limits aside."""
+    data = _bytes_of(source)
+    record = inspect(data).record
+    return notes(flat_view(data), record.start)

@@ -27,13 +27,15 @@
 #![deny(missing_docs, unsafe_op_in_unsafe_fn)]
 
 mod calls;
+mod comments;
 mod own;
 mod raw;
 mod record;
 mod refused;
 
 pub use calls::{comment, decode, has_comment, inspect, settle, Inspected, Settled};
-pub use own::{comments, read, read_within, settled, Picture};
+pub use comments::{comments, comments_of};
+pub use own::{read, read_inspected, read_within, settled, Picture};
 pub use record::{Colour, Limits, Record};
 pub use refused::Refused;
 

@@ -1,6 +1,6 @@
 //! The calls with memory of their own. Each is given the budget that suffices for every file.
 
-use crate::{comment, decode, has_comment, inspect, settle, Colour, Limits, Refused};
+use crate::{decode, inspect, settle, Colour, Limits, Record, Refused};
 
 /// A picture that was read.
 #[derive(Clone, Debug, PartialEq, Eq, Hash)]
@@ -9,7 +9,7 @@ pub struct Picture {
     pub width: usize,
     /// Samples down.
     pub height: usize,
-    /// 1 for grey; 3 for red, green and blue.
+    /// 1 for grey; 3 for red, green and blue, or for the channels as they are coded.
     pub channels: usize,
     /// Row by row, channels interleaved.
     pub samples: Vec<u8>,
@@ -55,9 +55,24 @@ pub fn read(bytes: &[u8]) -> Result<Picture, Refused> {
 /// ```
 pub fn read_within(bytes: &[u8], limits: Limits) -> Result<Picture, Refused> {
     let record = inspect(bytes, Colour::RedGreenBlue, limits, u64::MAX)?.record;
+    read_inspected(bytes, &record)
+}
+
+/// The picture of a file that [`inspect`] has read already, in the colour of its record. Refused 7
+/// where there is not enough memory, and 8 where the record is not the file's.
+///
+/// ```
+/// use tillsparrow::{inspect, read_inspected, Colour, Limits};
+/// let file = std::fs::read("../../docs/tray.jpg")?;
+/// let record = inspect(&file, Colour::AsCoded, Limits::NONE, u64::MAX)?.record;
+/// let coded = read_inspected(&file, &record)?;
+/// assert_ne!(coded, tillsparrow::read(&file)?);
+/// # Ok::<(), Box<dyn std::error::Error>>(())
+/// ```
+pub fn read_inspected(bytes: &[u8], record: &Record) -> Result<Picture, Refused> {
     let mut samples = room(record.output);
     let mut scratch = room(record.scratch);
-    decode(bytes, &record, &mut samples, &mut scratch, u64::MAX)?;
+    decode(bytes, record, &mut samples, &mut scratch, u64::MAX)?;
     Ok(Picture {
         width: record.width as usize,
         height: record.height as usize,
@@ -84,28 +99,6 @@ pub fn settled(bytes: &[u8]) -> Result<Vec<u8>, Refused> {
     }
     output.truncate(made?.length);
     Ok(output)
-}
-
-/// The texts of all comments, each a part of `bytes`. The file is read once for each of them, and
-/// once more.
-///
-/// ```
-/// let file = std::fs::read("../../docs/tray.jpg")?;
-/// for text in tillsparrow::comments(&file)? {
-///     println!("{}", String::from_utf8_lossy(text));
-/// }
-/// # Ok::<(), Box<dyn std::error::Error>>(())
-/// ```
-pub fn comments(bytes: &[u8]) -> Result<Vec<&[u8]>, Refused> {
-    let mut texts = Vec::new();
-    loop {
-        let text = comment(bytes, texts.len());
-        // A text that is empty may be there, or be the end, or stand for a refusal.
-        if text.is_empty() && !has_comment(bytes, texts.len(), Limits::NONE, u64::MAX)?.0 {
-            return Ok(texts);
-        }
-        texts.push(text);
-    }
 }
 
 #[cfg(test)]

@@ -1,5 +1,6 @@
 //! Files for the tests: pictures painted here, written and read by the distribution's
-//! libjpeg-turbo tools.
+//! libjpeg-turbo tools. A file of tests uses what it wants of them.
+#![allow(dead_code)]
 
 use std::io::Write;
 use std::process::{Command, Stdio};

@@ -1,0 +1,29 @@
+//! `check`: whether each file is accepted.
+
+use crate::answer::{Answer, Status, Trouble};
+use crate::progress::{Phase, Phases};
+use crate::source::{Content, Source};
+use crate::{run, words};
+use tillsparrow::{Colour, Limits, Record};
+
+pub fn run(sources: &[Source], jobs: usize) -> Status {
+    run::each(sources, jobs, |_, source, phases| {
+        Answer::from(accepted(source, phases).map(|(_, record)| line(source, &record).into_bytes()))
+    })
+}
+
+fn line(source: &Source, record: &Record) -> String {
+    let channels = if record.channels == 1 { "1 channel" } else { "3 channels" };
+    format!("{}: accepted: {} x {}, {channels}\n", source.shown(), record.width, record.height)
+}
+
+/// The bytes of a file that the library accepts, and its record.
+pub fn accepted(source: &Source, phases: &Phases) -> Result<(Content, Record), Trouble> {
+    phases.enter(Phase::Reading);
+    let bytes = source.read()?;
+    phases.enter(Phase::Checking);
+    match tillsparrow::inspect(&bytes, Colour::RedGreenBlue, Limits::NONE, u64::MAX) {
+        Ok(seen) => Ok((bytes, seen.record)),
+        Err(refused) => Err(words::refusal(&refused, &bytes)),
+    }
+}

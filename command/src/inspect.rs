@@ -1,0 +1,162 @@
+//! `inspect`: what a file holds, in words or as JSON.
+
+use crate::answer::{Answer, Status, Trouble};
+use crate::progress::{Phase, Phases};
+use crate::source::Source;
+use crate::{run, words};
+use serde_json::{json, Value};
+use tillsparrow::{Colour, Limits, Record, Refused};
+
+pub fn run(sources: &[Source], json: bool) -> Status {
+    run::each(sources, run::processors(), |i, source, phases| {
+        inspect(source, phases, json, i > 0).unwrap_or_else(|trouble| Answer::from(Err(trouble)))
+    })
+}
+
+/// The answer for one file; an error is one that came before the library saw it.
+fn inspect(
+    source: &Source,
+    phases: &Phases,
+    json: bool,
+    is_later: bool,
+) -> Result<Answer, Trouble> {
+    phases.enter(Phase::Reading);
+    let bytes = source.read()?;
+    phases.enter(Phase::Checking);
+    let seen = tillsparrow::inspect(&bytes, Colour::RedGreenBlue, Limits::NONE, u64::MAX);
+    let name = source.shown();
+    let text = match &seen {
+        _ if json => {
+            object(&json_name(source), bytes.len(), seen.as_ref().map(|seen| &seen.record))
+        }
+        Ok(seen) => {
+            let notes = tillsparrow::comments_of(&bytes, &seen.record).len();
+            let gap = if is_later { "\n" } else { "" };
+            format!("{gap}{}", lines(&name, bytes.len(), &seen.record, notes))
+        }
+        Err(_) => String::new(),
+    };
+    let trouble = seen.err().map(|refused| words::refusal(&refused, &bytes));
+    Ok(Answer { text: text.into_bytes(), trouble })
+}
+
+fn lines(name: &str, bytes: usize, record: &Record, notes: usize) -> String {
+    let (channels, sampling) = match record.channels {
+        1 => ("grey, one channel".to_string(), "every pixel has its sample".to_string()),
+        _ => ("colour, three channels".to_string(), sampling(record)),
+    };
+    let interval = match record.interval {
+        0 => "none".to_string(),
+        interval => format!("{interval} MCUs"),
+    };
+    let memory = bytes as u64 + record.output + record.scratch;
+    let rows = [
+        ("file", name.to_string()),
+        ("bytes", bytes.to_string()),
+        ("size", format!("{} x {}", record.width, record.height)),
+        ("channels", channels),
+        ("sampling", sampling),
+        ("restart interval", interval),
+        ("blocks", record.blocks.to_string()),
+        ("notes", notes.to_string()),
+        ("memory needed", format!("{memory} bytes")),
+    ];
+    rows.iter().map(|(label, value)| format!("{:18}{value}\n", format!("{label}:"))).collect()
+}
+
+fn sampling(record: &Record) -> String {
+    let (across, down) = (record.hs, record.vs);
+    match across * down {
+        1 => "1 x 1: every pixel has its own colour".to_string(),
+        _ => format!("{across} x {down}: so many pixels across and down share their colour"),
+    }
+}
+
+/// A name that is UTF-8 as it is, since JSON has its own escapes.
+fn json_name(source: &Source) -> String {
+    match source {
+        Source::File(path) => path.to_str().map_or_else(|| source.shown(), str::to_string),
+        Source::Standard => source.shown(),
+    }
+}
+
+fn object(name: &str, bytes: usize, seen: Result<&Record, &Refused>) -> String {
+    let object = match seen {
+        Ok(record) => json!({"file": name, "bytes": bytes, "number": 0, "record": fields(record)}),
+        Err(refused) => {
+            json!({"file": name, "bytes": bytes, "number": refused.number, "meaning": refused.meaning()})
+        }
+    };
+    format!("{object}\n")
+}
+
+/// A record by the names that its fields have for C.
+fn fields(record: &Record) -> Value {
+    json!({
+        "width": record.width, "height": record.height, "channels": record.channels, "hs": record.hs, "vs": record.vs,
+        "ids": record.ids, "qids": record.qids, "dcids": record.dcids, "acids": record.acids,
+        "quants": record.quants, "dcs": record.dcs, "acs": record.acs,
+        "interval": record.interval, "start": record.start, "blocks": record.blocks, "scratch": record.scratch,
+        "output": record.output, "work": record.work, "colour": record.colour,
+    })
+}
+
+#[cfg(test)]
+mod tests {
+    use super::*;
+
+    fn tray() -> (Vec<u8>, Record) {
+        let bytes = std::fs::read("../docs/tray.jpg").unwrap();
+        let record = tillsparrow::inspect(&bytes, Colour::RedGreenBlue, Limits::NONE, u64::MAX)
+            .unwrap()
+            .record;
+        (bytes, record)
+    }
+
+    /// The names are those of the header for C, all of them and no other.
+    #[test]
+    fn a_record_has_the_fields_of_the_header() {
+        let header = std::fs::read_to_string("../include/tillsparrow.h").unwrap();
+        let body = header
+            .split("typedef struct tillsparrow_record {")
+            .nth(1)
+            .unwrap()
+            .split('}')
+            .next()
+            .unwrap();
+        let mut names: Vec<&str> = body
+            .lines()
+            .filter_map(|line| line.trim().strip_prefix("uint64_t "))
+            .map(|line| line.split([';', '[']).next().unwrap())
+            .collect();
+        names.sort();
+        let fields = fields(&tray().1);
+        let ours: Vec<&String> = fields.as_object().unwrap().keys().collect();
+        assert_eq!(ours, names);
+    }
+
+    #[test]
+    fn the_objects_are_json_on_one_line() {
+        let (bytes, record) = tray();
+        let line = object("a\"b\n.jpg", bytes.len(), Ok(&record));
+        assert_eq!(line.lines().count(), 1);
+        let object: Value = serde_json::from_str(&line).unwrap();
+        assert_eq!((&object["file"], &object["number"]), (&json!("a\"b\n.jpg"), &json!(0)));
+        assert_eq!(
+            (&object["record"]["width"], &object["record"]["ids"]),
+            (&json!(144), &json!(record.ids))
+        );
+    }
+
+    #[test]
+    fn the_lines_are_labelled() {
+        let (bytes, record) = tray();
+        let lines = lines("tray.jpg", bytes.len(), &record, 2);
+        assert!(
+            lines.contains("size:             144 x 144\n")
+                && lines.contains("notes:            2\n"),
+            "{lines}"
+        );
+        assert!(lines.lines().all(|line| line.contains(": ")) && lines.lines().count() == 9);
+    }
+}

@@ -1,0 +1,176 @@
+//! The words of a line on standard error: what happened, and what to do.
+
+use crate::answer::Trouble;
+use std::io::{Error, ErrorKind};
+use tillsparrow::Refused;
+
+/// The trouble of a file that the library refuses.
+pub fn refusal(refused: &Refused, bytes: &[u8]) -> Trouble {
+    match refused.number {
+        // The room was made for the record that was found: only the memory can be short.
+        Refused::SHORT_ROOM => no_memory(),
+        // The record was this file's a moment ago.
+        Refused::NOT_ITS_RECORD => Trouble::Failed(
+            "changed while it was read: run it again when nothing writes to it".to_string(),
+        ),
+        number => Trouble::Refused(format!(
+            "refused {number}: {}: {}",
+            refused.meaning(),
+            to_do(number, bytes)
+        )),
+    }
+}
+
+fn to_do(number: u64, bytes: &[u8]) -> &'static str {
+    match number {
+        Refused::TOO_LONG | Refused::TOO_LARGE => "take a smaller file",
+        Refused::CUT_SHORT => "copy it again from the camera",
+        Refused::MALFORMED if bytes.is_empty() => "the file is empty; copy it again from the camera",
+        Refused::MALFORMED if !bytes.starts_with(&[255, 216]) => is_not_jpeg(bytes),
+        Refused::MALFORMED => "copy it again from the camera; a file that stays so is damaged and cannot be trusted",
+        Refused::UNSUPPORTED => "have the camera write baseline files (progressive, 12-bit and four-channel ones are not read)",
+        Refused::NO_END_CODE => "it cannot be settled; compare the pictures that decode writes",
+        _ => "please report it",
+    }
+}
+
+/// A file that does not begin as JPEG files do. What it is instead is told where its first bytes tell.
+fn is_not_jpeg(bytes: &[u8]) -> &'static str {
+    const KINDS: [(&[u8], &str); 8] = [
+        (b"\x89PNG", "it is not a JPEG file but a PNG file; give the JPEG file of the camera"),
+        (b"GIF8", "it is not a JPEG file but a GIF file; give the JPEG file of the camera"),
+        (b"BM", "it is not a JPEG file but a BMP file; give the JPEG file of the camera"),
+        (
+            b"II*\0",
+            "it is not a JPEG file but a TIFF or raw file; have the camera write JPEG files",
+        ),
+        (
+            b"MM\0*",
+            "it is not a JPEG file but a TIFF or raw file; have the camera write JPEG files",
+        ),
+        (
+            b"RIFF",
+            "it is not a JPEG file but a WebP or RIFF file; give the JPEG file of the camera",
+        ),
+        (b"%PDF", "it is not a JPEG file but a PDF file; give the JPEG file of the camera"),
+        (
+            b"\0\0\0\x0cjP  ",
+            "it is not a JPEG file but a JPEG 2000 file; have the camera write JPEG files",
+        ),
+    ];
+    if bytes.get(4..8) == Some(b"ftyp") {
+        return "it is not a JPEG file but a HEIF or video file; have the camera write JPEG files";
+    }
+    let kind = KINDS.iter().find(|(first, _)| bytes.starts_with(first));
+    kind.map_or("it is not a JPEG file; give the JPEG file of the camera", |(_, words)| words)
+}
+
+const NO_MEMORY: &str =
+    "there is not enough memory: close other programs, take -j 1, or a computer with more of it";
+
+/// A file's picture has no room.
+pub fn no_memory() -> Trouble {
+    Trouble::Failed(NO_MEMORY.to_string())
+}
+
+/// What the system says of an error, without its number.
+fn said(error: &Error) -> String {
+    let text = error.to_string();
+    text.split(" (os error ").next().unwrap_or_default().to_string()
+}
+
+/// A file could not be read.
+pub fn unread(error: &Error) -> Trouble {
+    Trouble::Failed(match error.kind() {
+        ErrorKind::NotFound => "there is no such file: look at its name and its folder".to_string(),
+        ErrorKind::PermissionDenied => "may not be read: have its owner allow it".to_string(),
+        ErrorKind::IsADirectory => {
+            "is a folder: give the files in it, such as FOLDER/*.jpg".to_string()
+        }
+        ErrorKind::OutOfMemory => NO_MEMORY.to_string(),
+        // The words of this program.
+        ErrorKind::Other => error.to_string(),
+        _ => format!("cannot be read: {}: copy it again from the camera", said(error)),
+    })
+}
+
+/// What was to be written to `place` could not be.
+pub fn unwritten(place: &str, error: &Error) -> String {
+    let why = match error.kind() {
+        ErrorKind::StorageFull | ErrorKind::QuotaExceeded => {
+            "the disk is full: make room and run it again".to_string()
+        }
+        ErrorKind::FileTooLarge => {
+            "it is too large for a file here: raise the limit (ulimit -f), or take another disk with -o".to_string()
+        }
+        ErrorKind::BrokenPipe => "the pipe was closed: let its reader read to the end".to_string(),
+        ErrorKind::NotFound => {
+            "there is no such folder: make it, or take another with -o".to_string()
+        }
+        ErrorKind::PermissionDenied => {
+            "its folder may not be written to: take another with -o".to_string()
+        }
+        ErrorKind::ReadOnlyFilesystem => {
+            "the disk is read-only: take another folder with -o".to_string()
+        }
+        ErrorKind::IsADirectory => "it is a folder: take another name with -o".to_string(),
+        ErrorKind::AlreadyExists => {
+            "it is there already: take another name with -o, or --force to replace it".to_string()
+        }
+        ErrorKind::OutOfMemory => NO_MEMORY.to_string(),
+        // The words of this program.
+        ErrorKind::Other => error.to_string(),
+        _ => format!("{}: take another place with -o", said(error)),
+    };
+    format!("{place} cannot be written: {why}")
+}
+
+/// A folder could not be made.
+pub fn unmade(folder: &str, error: &Error) -> String {
+    format!("the folder {folder} cannot be made: {}: take another with -o", said(error))
+}
+
+#[cfg(test)]
+mod tests {
+    use super::*;
+
+    fn line(number: u64, bytes: &[u8]) -> Trouble {
+        refusal(&Refused { number, left: 0, needed: None }, bytes)
+    }
+
+    #[test]
+    fn a_refusal_has_number_meaning_and_what_to_do() {
+        for number in [1, 2, 3, 4, 5, 6, 9] {
+            let Trouble::Refused(line) = line(number, &[255, 216]) else {
+                panic!("{number} is no refusal")
+            };
+            let parts: Vec<&str> = line.splitn(3, ": ").collect();
+            assert_eq!(parts[0], format!("refused {number}"));
+            assert_eq!(parts[1], Refused { number, left: 0, needed: None }.meaning());
+            assert!(parts[2].len() > 10 && !line.contains('\n'), "{line}");
+        }
+        assert!(
+            matches!(line(7, b""), Trouble::Failed(_))
+                && matches!(line(8, b""), Trouble::Failed(_))
+        );
+    }
+
+    #[test]
+    fn what_is_no_jpeg_file_is_named() {
+        let said = |bytes: &[u8]| match line(4, bytes) {
+            Trouble::Refused(line) => line,
+            Trouble::Failed(line) => panic!("{line}"),
+        };
+        assert!(said(b"").contains("is empty"));
+        assert!(said(b"\x89PNG\r\n\x1a\n").contains("not a JPEG file but a PNG file"));
+        assert!(said(b"\0\0\0\x18ftypheic").contains("HEIF"));
+        assert!(said(b"tray 7").contains("not a JPEG file"));
+        assert!(!said(b"\xff\xd8\xff").contains("not a JPEG"));
+    }
+
+    #[test]
+    fn the_systems_words_come_without_their_number() {
+        assert!(unwritten("x", &Error::from_raw_os_error(28)).contains("the disk is full"));
+        assert_eq!(said(&Error::from_raw_os_error(5)), "Input/output error");
+    }
+}

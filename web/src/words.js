@@ -1,0 +1,65 @@
+// What the page says: of a refusal, of a record, of a note. Text alone; what comes from a file never becomes markup.
+const counted = number => Number(number).toLocaleString("en");
+
+// Why a file is refused, by number, and what to do. 2, 7 and 8 do not come up here, since budget, room and record are always right.
+const REFUSALS = {
+    1: "The file is longer than this page takes, which is 256 MiB. The command ./tillsparrow takes files of any size.",
+    2: "The price of reading it is above the budget.",
+    3: "The file ends before its picture begins. Copy it again from the camera.",
+    4: "The file breaks a rule of the format: often a cut or damaged copy, or no JPEG file at all. Copy it again; " +
+        "a file that stays so cannot be trusted.",
+    5: "This is a form of JPEG that is not read: progressive, four channels, 12 bits or the like. Have the camera write baseline files.",
+    6: "The picture is larger than this page shows, which is 16,384 pixels a side. The command ./tillsparrow takes pictures of any size.",
+    7: "A buffer is too short.",
+    8: "The record is not the file's.",
+    9: "The file cannot be settled, for want of an end-of-block code in its own tables. Compare pictures instead.",
+};
+
+const refusalOf = number => "Refused (" + number + "). " + REFUSALS[number];
+
+// What went wrong beside the library, by the name of the fault.
+const UNREAD = "It cannot be read: a folder, or a file that was moved or changed. Choose it again; of a folder, the photographs in it.";
+const FAULTS = {
+    NotReadableError: UNREAD,
+    NotFoundError: UNREAD,
+    RangeError: "There is not enough memory for this photograph. Close other pages, or use the command ./tillsparrow.",
+    CompileError: "This browser cannot run the page's WebAssembly module. A newer browser is needed, of 2023 or later.",
+    ReferenceError: "This browser lacks what the page needs. A newer browser is needed, of 2023 or later.",
+};
+const faultOf = ({fault, message}) => FAULTS[fault] ?? "The page failed: " + (message || fault) + ".";
+
+const SAMPLINGS = {"1x1": "4:4:4", "2x1": "4:2:2", "1x2": "4:4:0", "2x2": "4:2:0", "4x1": "4:1:1"};
+
+function samplingOf({channels, hs, vs}) {
+    if (channels === 1n) return "every pixel has its own sample";
+    if (hs * vs === 1n) return "4:4:4: every pixel has its own colour";
+    const name = SAMPLINGS[hs + "x" + vs], halved = hs === 1n ? "down" : vs === 1n ? "across" : "both ways";
+    const how = hs * vs === 2n || hs === vs ? ", halved " + halved : "";
+    return (name ? name + ": " : "") + "one colour for " + hs + " × " + vs + " pixels" + how;
+}
+
+// The record in words, a line each: what it is, what the file has.
+function wordsOf(found, size) {
+    const {width, height, channels, hs, vs, interval, blocks} = found;
+    const unit = channels === 1n ? "8 × 8" : 8n * hs + " × " + 8n * vs;
+    return [
+        ["Size", counted(width) + " × " + counted(height) + " pixels"],
+        ["File", counted(size) + " bytes, baseline JPEG"],
+        ["Channels", channels === 1n ? "1: grey" : "3: red, green, blue"],
+        ["Sampling", samplingOf(found)],
+        ["Restarts", interval ? "every " + counted(interval) + " units of " + unit + " pixels" : "none"],
+        ["Blocks", counted(blocks) + " of 8 × 8 samples"],
+    ];
+}
+
+// A note is bytes. They are read as UTF-8 where they are that, and what cannot be seen, or would turn the text, is shown by its number.
+function noteOf(bytes) {
+    let text;
+    try {
+        text = new TextDecoder("utf-8", {fatal: true, ignoreBOM: true}).decode(bytes);
+    } catch {
+        return Array.from(bytes, byte => byte === 10 || byte > 31 && byte < 127 ? String.fromCharCode(byte)
+            : "\\x" + byte.toString(16).padStart(2, "0")).join("");
+    }
+    return text.replace(/[^\P{C}\n]|[\u2028\u2029]/gu, sign => "\\u{" + sign.codePointAt(0).toString(16) + "}");
+}

@@ -1,0 +1,123 @@
+"""What the native library answers, for the page to be held against: target/library, through the module for Python."""
+import ctypes
+import hashlib
+import os
+import random
+import sys
+
+ROOT = os.path.dirname(os.path.dirname(os.path.dirname(os.path.abspath(__file__))))
+os.environ.pop("TILLSPARROW_LIBRARY", None)
+sys.dont_write_bytecode = True
+sys.path.insert(0, os.path.join(ROOT, "bindings", "python"))
+sys.path.insert(0, os.path.join(ROOT, "tests", "c"))
+import files  # noqa: E402
+import tillsparrow  # noqa: E402
+import unsettled  # noqa: E402
+from tillsparrow._native import library  # noqa: E402
+
+MOST = 2**64 - 1
+PATTERN, COMMENTS = b"\xa5", 3
+CHANGED = 300
+ALL = {"colour": True, "input": MOST, "side": MOST, "output": MOST, "budget": MOST}
+
+
+def digest(data):
+    return hashlib.sha256(data).hexdigest()
+
+
+def painted(length):
+    """A buffer that holds a pattern; a byte more than asked for, so that there is always one to point to."""
+    return ctypes.create_string_buffer(PATTERN * (length + 1), length + 1)
+
+
+def comments(data):
+    return [bytes(text) for text in tillsparrow.comments(data)]
+
+
+def answers(data, asked):
+    """All that the five calls answer for one file, by part, as answers.js has it."""
+    file, size = ctypes.create_string_buffer(data, len(data) + 1), len(data)
+    limits, budget = (asked["input"], asked["side"], asked["output"]), asked["budget"]
+    seen = library.tillsparrow_inspect(file, size, asked["colour"], *limits, budget)
+    found = seen.found
+    output, scratch, settled = painted(found.output), painted(found.scratch), painted(asked["room"])
+    drawn = library.tillsparrow_decode(file, size, found, output, found.output, scratch, found.scratch, budget)
+    made = library.tillsparrow_settle(file, size, *limits, budget, settled, asked["room"])
+    parts = {"inspect": bytes(seen), "decode": bytes(drawn), "picture": output.raw[:-1], "scratch": scratch.raw[:-1],
+             "settle": bytes(made), "settled": settled.raw[:-1]}
+    for i in range(COMMENTS):
+        parts[f"comment {i}"] = bytes(library.tillsparrow_comment(file, size, i))
+        parts[f"has_comment {i}"] = bytes(library.tillsparrow_has_comment(file, size, i, *limits, budget))
+    digests = {name: digest(part) for name, part in parts.items()}
+    digests["notes"] = "" if seen.number else str(len(comments(data)))
+    return seen.number, digests
+
+
+# ---- the files
+
+def change(data, source):
+    """The file with one to three changes: a byte, a bit, a part lost, a part doubled, a cut."""
+    data = bytearray(data)
+    for _ in range(source.randint(1, 3)):
+        at = source.randrange(len(data))
+        kind = source.randrange(10)
+        if kind < 4:
+            data[at] = source.choice((0, 1, 254, 255, source.randrange(256)))
+        elif kind < 7:
+            data[at] ^= 1 << source.randrange(8)
+        elif kind == 7:
+            del data[at:at + source.randint(1, 4)]
+        elif kind == 8:
+            data[at:at] = data[at:at + source.randint(1, 20)]
+        else:
+            del data[max(1, at):]
+    return bytes(data)
+
+
+def whole():
+    """Real files of every form, with and without notes, and files that are refused: a name and the file each."""
+    for name, data, *_ in [*files.shapes(), *files.noted(), *files.refused()]:
+        yield name, data
+    yield "a table with no end code", files.without_end_code()
+    yield "a settled file that is longer", longer_when_settled()
+
+
+def longer_when_settled():
+    return unsettled.without_end_code(True).form(lambda n: n - 1)
+
+
+def changed():
+    """The changed files, always the same. A change near a file's end leaves more of it to be read, so small files are taken."""
+    source = random.Random(23)
+    seeds = [(name, data) for name, data in whole() if 0 < len(data) < 12_000]
+    for i in range(CHANGED):
+        name, data = seeds[i % len(seeds)]
+        yield f"{name}, change {i}", change(data, source)
+
+
+def asked(data, source):
+    """Without limits, and with limits and a budget that are about what the file needs."""
+    yield {**ALL, "room": 2 * len(data) + 100}
+    price = 2 * len(data) + 1
+    seen = library.tillsparrow_inspect(ctypes.create_string_buffer(data, len(data) + 1), len(data), True, MOST, MOST, MOST, MOST)
+    found, near = seen.found, lambda value: max(0, value + source.choice((-1, 0, 0, 1)))
+    yield {"colour": source.random() < 0.5, "input": near(len(data)), "side": near(max(found.width, found.height)),
+           "output": near(max(found.output, found.scratch)), "budget": near(price + found.work), "room": near(len(data))}
+
+
+# ---- pictures
+
+def rgba(picture):
+    """The samples as a canvas has them."""
+    count, step = picture.width * picture.height, picture.channels
+    out = bytearray(b"\xff" * (4 * count))
+    for channel in range(3):
+        out[channel::4] = picture.samples[channel % step::step]
+    return bytes(out)
+
+
+def values(picture, x, y):
+    """What the page says of a pixel."""
+    at = (y * picture.width + x) * picture.channels
+    names = ["grey"] if picture.channels == 1 else ["red", "green", "blue"]
+    return f"x {x}, y {y}: " + ", ".join(f"{name} {picture.samples[at + i]}" for i, name in enumerate(names))

@@ -1,0 +1,466 @@
+"""The page as people use it, by real events: what it shows, says, refuses and saves."""
+import base64
+import json
+import os
+import re
+
+import module
+import native
+from browser import Off, Page
+from native import files, tillsparrow
+
+WEB = os.path.dirname(os.path.dirname(os.path.abspath(__file__)))
+URL = "file://" + os.path.join(WEB, "tillsparrow.html")
+TRAY = os.path.join(native.ROOT, "docs", "tray.jpg")
+HINT = "Point at a pixel, or tap it, to see its samples."
+
+
+def held(wanted, got, what):
+    if wanted != got:
+        raise Off(f"{what}: {str(got)[:300]!r}, and not {str(wanted)[:300]!r}")
+
+
+class Tillsparrow(Page):
+    """The page in a tab."""
+
+    def __init__(self, browser, url=URL, **how):
+        super().__init__(browser, url, **how)
+        self.asked = 0
+
+    def rest(self, more=0):
+        """Waits until so many photographs more are in the list, and everything is read."""
+        self.asked += more
+        self.until(f"document.querySelectorAll('#strip li').length === {self.asked} && photo.ariaBusy === 'false'")
+
+    def drop_all(self, *paths):
+        self.drop(list(paths))
+        self.rest(len(paths))
+
+    def choose_all(self, *paths):
+        self.choose("#choose", list(paths))
+        self.rest(len(paths))
+
+    def text(self, name):
+        return self.value(f"document.getElementById('{name}').textContent")
+
+    def texts(self, selector):
+        return self.value(f"Array.from(document.querySelectorAll({json.dumps(selector)}), e => e.textContent)")
+
+    def seen(self, name):
+        return self.value(f"document.getElementById('{name}').getClientRects().length > 0")
+
+    def select(self, place):
+        """The photograph at that place of the list, counted from 0."""
+        self.click(f"#strip li:nth-child({place + 1}) button")
+        self.rest()
+
+    def canvas(self):
+        """The digest of the pixels that are on the canvas, read back."""
+        return self.value("""(async () => {
+            const c = document.getElementById("picture"), data = c.getContext("2d").getImageData(0, 0, c.width, c.height).data;
+            return Array.from(new Uint8Array(await crypto.subtle.digest("SHA-256", data)), b => b.toString(16).padStart(2, "0")).join("");
+        })()""")
+
+    def spot(self, x, y):
+        """Where the middle of a pixel is on the screen."""
+        left, top, scale = self.value("""(() => { const c = document.getElementById("picture"), r = c.getBoundingClientRect();
+            return [r.left, r.top, r.width / c.width]; })()""")
+        return left + (x + 0.5) * scale, top + (y + 0.5) * scale
+
+    def over(self, x, y):
+        self.mouse("mouseMoved", *self.spot(x, y))
+
+    def scale(self):
+        return self.value("new DOMMatrix(getComputedStyle(document.getElementById('picture')).transform).a")
+
+
+def hold_picture(page, name, picture):
+    held([picture.width, picture.height], page.value("[picture.width, picture.height]"), f"{name}: the canvas's size")
+    held(native.digest(native.rgba(picture)), page.canvas(), f"{name}: the canvas")
+    held(f"Read: {picture.width} × {picture.height} pixels.", page.text("said"), f"{name}: what is said")
+    held(False, page.seen("refused"), f"{name}: a refusal is seen")
+
+
+def put(room, name, data):
+    return files.write(room, re.sub(r"[^\w.]+", "-", name) + ".jpg", data)
+
+
+# ---- shown and described
+
+def test_drop(browser, room, shots):
+    """One photograph, dropped."""
+    page = Tillsparrow(browser)
+    shots(page, "empty")
+    page.drop_all(TRAY)
+    hold_picture(page, "docs/tray.jpg", tillsparrow.read(TRAY))
+    held("tray.jpg", page.text("name"), "its name")
+    held("tray.jpg - Tillsparrow", page.value("document.title"), "the title")
+    held(False, page.seen("strip"), "a list of one")
+    held(False, page.seen("noted"), "notes where there are none")
+    shots(page, "one")
+    urls = [re.sub(r"^blob:.*", "blob:", url) for url in page.requests()]
+    held([URL, "blob:"], urls, "what was asked for")
+    held([], page.complaints(), "what the browser complains of")
+    page.close()
+
+
+# the words for each form that is read, as files.shapes names it
+HALVED = "4:2:0: one colour for 2 × 2 pixels, halved both ways"
+SAMPLINGS = {
+    "docs/tray.jpg": HALVED, "4:2:0": HALVED, "1 x 1": HALVED, "large": HALVED, "4:4:4": "4:4:4: every pixel has its own colour",
+    "4:2:2 with restarts": "4:2:2: one colour for 2 × 1 pixels, halved across", "1x2": "4:4:0: one colour for 1 × 2 pixels, halved down",
+    "4x1": "4:1:1: one colour for 4 × 1 pixels", "3x1": "one colour for 3 × 1 pixels", "1x4": "one colour for 1 × 4 pixels",
+}
+OTHERS = ("1x2", "4x1", "3x1", "1x4")
+RESTARTS = {"4:2:2 with restarts": "every 3 units of 16 × 8 pixels", "grey with restarts": "every 9 units of 8 × 8 pixels"}
+
+
+def test_shapes(browser, room, shots):
+    """Files of every form, chosen together, and looked at one after another."""
+    page, shapes = Tillsparrow(browser), list(files.shapes())
+    shapes += [(form, files.encode(70, 50, "-sample", form), []) for form in OTHERS]
+    paths = [put(room, name, data) for name, data, _ in shapes]
+    page.choose_all(*paths)
+    held([os.path.basename(path) for path in paths], page.texts("#strip .called"), "the names in the list")
+    for i, (name, data, _) in enumerate(shapes):
+        page.select(i)
+        found = tillsparrow.inspect(data).record
+        hold_picture(page, name, tillsparrow.read(data))
+        channels = ["1: grey", "every pixel has its own sample"] if found.channels == 1 else ["3: red, green, blue", SAMPLINGS[name]]
+        held([f"{found.width} × {found.height} pixels", f"{len(data):,} bytes, baseline JPEG", *channels,
+              RESTARTS.get(name, "none"), f"{found.blocks:,} of 8 × 8 samples"], page.texts("#facts dd"), f"{name}: its record in words")
+        flat = [", ".join(map(str, value)) if isinstance(value, tuple) else str(value) for value in vars(found).values()]
+        held([list(vars(found)), flat], [page.texts("#record dt"), page.texts("#record dd")], f"{name}: the whole record")
+        held(f"{i + 1} of {len(shapes)}", page.text("count"), f"{name}: its place")
+    thumbs = page.value("Array.from(document.querySelectorAll('.thumb'), c => c.getContext('2d').getImageData(0, 0, 1, 1).data[3])")
+    held([255] * len(shapes), thumbs, "the small pictures of the list")
+    held([], page.complaints(), "what the browser complains of")
+    page.close()
+    return f"{len(shapes)} pictures on the canvas are the native library's"
+
+
+def plain(note):
+    """A note as it is shown: text, or bytes by their numbers."""
+    return "".join(chr(byte) if byte == 10 or 31 < byte < 127 else f"\\x{byte:02x}" for byte in note)
+
+
+def test_notes(browser, room, shots):
+    """Notes, whatever they hold, as text."""
+    page, noted = Tillsparrow(browser), [(name, data, [plain(note) for note in notes]) for name, data, notes in files.noted()]
+    base = files.encode(16, 16)
+    for text, shown in (("Weizen, Gewächshaus 7", None), ("<img src=x onerror=alert(1)>", None),
+                        ("a\u202eb\x07c\ttray\n7", "a\\u{202e}b\\u{7}c\\u{9}tray\n7")):
+        noted.append((f"note {len(noted)}", files.with_segment(base, 0xFE, text.encode()), [shown or text]))
+    paths = [put(room, name, data) for name, data, _ in noted]
+    page.drop_all(*paths)
+    for i, (name, _, notes) in enumerate(noted):
+        page.select(i)
+        held(notes, page.texts("#notes li"), f"{name}: its notes")
+        held(True, page.seen("noted"), f"{name}: its notes are seen")
+        if name == "two comments, grey":
+            page.over(20, 13)
+            shots(page, "notes")
+    held([], page.complaints(), "what the browser complains of")
+    page.close()
+    return f"{sum(len(notes) for *_, notes in noted)} notes"
+
+
+# ---- refused
+
+SENTENCES = {
+    1: "Refused (1). The file is longer than this page takes, which is 256 MiB. The command ./tillsparrow takes files of any size.",
+    3: "Refused (3). The file ends before its picture begins. Copy it again from the camera.",
+    4: "Refused (4). The file breaks a rule of the format: often a cut or damaged copy, or no JPEG file at all. Copy it again; "
+       "a file that stays so cannot be trusted.",
+    5: "Refused (5). This is a form of JPEG that is not read: progressive, four channels, 12 bits or the like. "
+       "Have the camera write baseline files.",
+    6: "Refused (6). The picture is larger than this page shows, which is 16,384 pixels a side. "
+       "The command ./tillsparrow takes pictures of any size.",
+}
+
+
+def refused(room):
+    """A path and a number each; the two limits are met from both sides."""
+    for name, data, number, _ in files.refused():
+        yield put(room, name, data), number
+    tall = files.encode(8, 16)
+    frame = tall.index(b"\xff\xc0") + 5
+    yield put(room, "one pixel too wide", tall[:frame + 2] + (16385).to_bytes(2, "big") + tall[frame + 4:]), 6
+    yield put(room, "as wide as may be, and cut", tall[:frame + 2] + (16384).to_bytes(2, "big") + tall[frame + 4:]), 4
+    # of no bytes but zeros that a disk does not keep; the second is one that no browser could read whole
+    for name, size in (("one byte too long", (256 << 20) + 1), ("far too long", 40 << 30)):
+        path = os.path.join(room, name + ".jpg")
+        with open(path, "wb") as file:
+            file.truncate(size)
+        yield path, 1
+
+
+def test_refusals(browser, room, shots):
+    """A refusal is a sentence with its number, and nothing of another picture stays; the next file is read."""
+    page, wanted = Tillsparrow(browser), list(refused(room))
+    page.drop_all(TRAY)
+    page.choose_all(*(path for path, _ in wanted))
+    held([f"refused {number}" for _, number in wanted], page.texts("#strip .bad .verdict"), "the list")
+    for i, (path, number) in enumerate(wanted):
+        page.select(i + 1)
+        held(SENTENCES[number] + " No picture is shown.", page.text("refused"), os.path.basename(path))
+        held([True, False, False], [page.seen(each) for each in ("refused", "view", "about")], f"{path}: what is seen")
+    held(set(SENTENCES), {number for _, number in wanted}, "the numbers that came up")
+    shots(page, "refused")
+    page.select(0)
+    hold_picture(page, "docs/tray.jpg, behind the refused", tillsparrow.read(TRAY))
+    held([], page.complaints(), "what the browser complains of")
+    page.close()
+    return f"{len(wanted)} refusals, each by its number"
+
+
+# ---- a pixel's values
+
+def test_pixels(browser, room, shots):
+    """The pixel under the pointer, and the one that arrow keys come to."""
+    page = Tillsparrow(browser)
+    grey, other = put(room, "grey", files.encode(120, 90, "-grayscale")), put(room, "tray again", tillsparrow.settled(TRAY))
+    page.drop_all(TRAY, grey, other)
+    picture = tillsparrow.read(TRAY)
+    held(HINT, page.text("values"), "before a pixel is pointed at")
+    for x, y in ((0, 0), (143, 0), (77, 31), (0, 143), (143, 143), (72, 72)):
+        page.over(x, y)
+        held(native.values(picture, x, y), page.text("values"), "under the pointer")
+    page.value("document.getElementById('stage').focus()")
+    for keys, (x, y) in ((("ArrowRight",), (73, 72)), (("ArrowUp", "ArrowUp"), (73, 70)), (("ArrowLeft", "ArrowDown"), (72, 71))):
+        for key in keys:
+            page.key(key)
+        held(native.values(picture, x, y), page.text("values"), f"behind the keys {keys}")
+    for key, count, (x, y) in (("ArrowRight", 3, (102, 71)), ("ArrowDown", 20, (102, 143)), ("ArrowRight", 9, (143, 143))):
+        for _ in range(count):
+            page.key(key, shift=True)
+        held(native.values(picture, x, y), page.text("values"), f"behind {count} times Shift and {key}")
+    red, green, blue = picture.samples[-3:]
+    held(f"rgb({red}, {green}, {blue})", page.value("getComputedStyle(swatch).backgroundColor"), "the colour beside the values")
+    # of the same size: the same place; of another: none
+    page.select(2)
+    held(native.values(picture, 143, 143), page.text("values"), "the same picture in another file")
+    page.select(1)
+    held(HINT, page.text("values"), "a picture of another size")
+    page.over(11, 80)
+    held(native.values(tillsparrow.read(grey), 11, 80), page.text("values"), "of a grey picture")
+    page.close()
+
+
+def test_waiting(browser, room, shots):
+    """While a photograph is read, nothing of the one before it is seen, and no pixel of it told."""
+    page = Tillsparrow(browser)
+    page.drop_all(TRAY, put(room, "noted", files.with_comment(files.encode(144, 144), "other")))
+    page.over(30, 30)
+    spot = page.spot(40, 40)
+    page.worker().value("{ const read = onmessage; onmessage = event => setTimeout(() => read(event), 1500); }")
+    page.key("n")
+    page.mouse("mouseMoved", *spot)
+    held(["noted.jpg", "Reading …", HINT], [page.text(each) for each in ("name", "said", "values")], "what is said meanwhile")
+    held([False, False, []], [page.seen("picture"), page.seen("mark"), page.texts("#facts dd")], "what is seen meanwhile")
+    page.key("p")
+    page.value("globalThis.told = []; new MutationObserver(() => told.push(facts.textContent)).observe(facts, {childList: true}); 0")
+    page.rest()
+    hold_picture(page, "the one before it, gone back to", tillsparrow.read(TRAY))
+    held([page.text("facts")], page.value("told"), "what was described on the way")
+    held([False, []], [page.seen("noted"), page.texts("#notes li")], "the notes of the other")
+    page.close()
+
+
+# ---- zoom
+
+def test_zoom(browser, room, shots):
+    """Wheel, keys, buttons, drag: what is under the pointer stays under it."""
+    page, picture = Tillsparrow(browser), tillsparrow.read(TRAY)
+    page.drop_all(TRAY)
+    fitted = page.scale()
+    x, y = page.spot(54, 80)
+    for delta in (-300, -300, -400, 200):
+        before = page.scale()
+        page.mouse("mouseMoved", x, y)
+        page.mouse("mouseWheel", x, y, deltaX=0, deltaY=delta)
+        page.until(f"new DOMMatrix(getComputedStyle(picture).transform).a {'>' if delta < 0 else '<'} {before}")
+        held(native.values(picture, 54, 80), page.text("values"), "under the pointer, zoomed by the wheel")
+        page.mouse("mouseMoved", x + 1, y)
+        held(native.values(picture, 54, 80), page.text("values"), "under the pointer that moves on a large pixel")
+    shots(page, "zoomed")
+    left = page.spot(0, 0)
+    page.mouse("mousePressed", x, y, button="left", clickCount=1)
+    page.mouse("mouseMoved", x + 2, y + 2, button="left", buttons=1)
+    held(left, page.spot(0, 0), "the picture, when a hand trembles")
+    for step in (10, 25, 40):
+        page.mouse("mouseMoved", x + step, y + step, button="left", buttons=1)
+    page.mouse("mouseReleased", x + 40, y + 40, button="left")
+    held((left[0] + 40, left[1] + 40), page.spot(0, 0), "the picture, dragged")
+    held("pixelated", page.value("getComputedStyle(picture).imageRendering"), "how a large pixel is drawn")
+    for key, wanted in (("1", 1), ("+", 2), ("=", 4), ("-", 2), ("-", 1), ("-", 0.5), ("-", 0.5), ("0", fitted)):
+        page.key(key)
+        held(wanted, page.scale(), f"the scale behind the key {key}")
+    for button, wanted in (("natural", 1), ("closer", 2), ("farther", 1), ("fit", fitted)):
+        page.click("#" + button)
+        held(wanted, page.scale(), f"the scale behind the button {button}")
+        held(f"{round(100 * wanted)} %", page.text("scale"), "the scale that is said")
+    for _ in range(9):
+        page.key("+")
+    held(64, page.scale(), "the largest scale")
+    held([], page.complaints(), "what the browser complains of")
+    page.close()
+
+
+# ---- saved
+
+def hold_png(png, picture, reader, name):
+    """By its head, and by the browser's own reader of PNG files."""
+    kind = {1: 0, 3: 2}[picture.channels]
+    sides = picture.width.to_bytes(4, "big") + picture.height.to_bytes(4, "big")
+    held(b"\x89PNG\r\n\x1a\n\0\0\0\rIHDR" + sides + bytes([8, kind, 0, 0, 0]), png[:29], f"{name}: the head of the PNG file")
+    held([b"IHDR", b"IDAT", b"IEND"], re.findall(rb"IHDR|IDAT|IEND|gAMA|sRGB|iCCP|cHRM", png), f"{name}: the parts of the PNG file")
+    got = reader.value(f"""(async () => {{
+        const image = await createImageBitmap(new Blob([fromBase64("{base64.b64encode(png).decode()}")]), {{colorSpaceConversion: "none"}});
+        const canvas = new OffscreenCanvas(image.width, image.height), context = canvas.getContext("2d");
+        context.drawImage(image, 0, 0);
+        return digestOf(context.getImageData(0, 0, image.width, image.height).data);
+    }})()""")
+    held(native.digest(native.rgba(picture)), got, f"{name}: the samples of the PNG file")
+
+
+def test_saving(browser, room, shots):
+    """PNG files with just the samples, and settled files that are the native library's; a file that cannot be settled is said."""
+    page, reader = Tillsparrow(browser), module.blank(browser, room)
+    named = [(name, data) for name, data, _ in files.shapes()] + [("longer", native.longer_when_settled())]
+    paths = [put(room, name, data) for name, data in named]
+    page.drop_all(*paths)
+    for i, (path, (name, data)) in enumerate(zip(paths, named)):
+        page.select(i)
+        stem = os.path.basename(path)[:-4]
+        page.click("#png")
+        page.rest()
+        png = page.download(stem + ".png")
+        hold_png(png, tillsparrow.read(data), reader, name)
+        held(f"{stem}.png is saved: {len(png):,} bytes.", page.text("said"), "what is said")
+        page.click("#settle")
+        page.rest()
+        held(tillsparrow.settled(data), page.download(stem + ".settled.jpg"), f"{name}: the settled file")
+    page.drop_all(put(room, "unsettled", files.without_end_code()))
+    page.click("#settle")
+    page.rest()
+    held("unsettled.settled.jpg is not saved. Refused (9). The file cannot be settled, for want of an end-of-block code in its own tables. "
+         "Compare pictures instead.", page.text("said"), "a file that cannot be settled")
+    held([], os.listdir(browser.downloads), "what is saved of it")
+    held([], page.complaints(), "what the browser complains of")
+    page.close()
+    reader.close()
+    return f"{len(named)} PNG and {len(named)} settled files"
+
+
+# ---- what goes wrong beside the library
+
+NO_ROOM = "There is not enough memory for this photograph. Close other pages, or use the command ./tillsparrow."
+UNREAD = "It cannot be read: a folder, or a file that was moved or changed. Choose it again; of a folder, the photographs in it."
+
+
+def test_faults(browser, room, shots):
+    """No memory, a worker that ends, a file that goes or changes, a canvas that takes nothing: a sentence, and the next file is read."""
+    page = Tillsparrow(browser)
+    large, changing = put(room, "large", files.encode(640, 480)), put(room, "changing", files.encode(16, 16))
+    page.drop_all(TRAY)
+    for lost, (wrong, sentence) in enumerate((
+            ("WebAssembly.Memory.prototype.grow = () => { throw new RangeError('no memory'); }", NO_ROOM),
+            ("onmessage = () => { throw new Error('lost'); }", "The page failed: Uncaught Error: lost."))):
+        page.worker(lost + 1).value(wrong + "; 0")
+        page.drop_all(large)
+        held(sentence, page.text("refused"), "a fault of the worker")
+        held("not read", page.texts("#strip .verdict")[-1], "the list")
+        page.select(2 * lost + 1)
+        hold_picture(page, "the same file, once more", tillsparrow.read(large))
+        page.drop_all(TRAY)
+        hold_picture(page, "the next file", tillsparrow.read(TRAY))
+    held(3, len(page.workers()), "the workers that were needed")
+    page.drop_all(changing, TRAY)
+    files.write(room, "changing.jpg", files.encode(24, 24, "-quality", "30"))
+    page.select(6)
+    page.select(5)
+    held(UNREAD, page.text("refused"), "a file that was changed")
+    os.remove(changing)
+    page.select(6)
+    page.select(5)
+    held(UNREAD, page.text("refused"), "a file that is gone")
+    page.drop_all(room)
+    held(UNREAD, page.text("refused"), "a folder")
+    held("not read", page.texts("#strip .verdict")[-1], "the list")
+    page.value("HTMLCanvasElement.prototype.getContext = () => null; 0")
+    page.select(0)
+    held("This browser cannot draw so large a picture. It can still be saved.", page.text("said"), "a canvas that takes nothing")
+    page.close()
+
+
+# ---- without a mouse; on a telephone
+
+def test_keyboard(browser, room, shots):
+    """Every part is reached and used by keys alone, and has a name."""
+    page = Tillsparrow(browser)
+    page.key("Tab")
+    held("choose", page.value("document.activeElement.id"), "what the first Tab comes to")
+    paths = [put(room, name, data) for name, data, _ in list(files.shapes())[:4]]
+    page.choose_all(*paths)
+    order = []
+    for _ in range(12):
+        page.key("Tab")
+        order.append(page.value("document.activeElement.id || document.activeElement.tagName"))
+    held(["BUTTON", "next", "farther", "closer", "fit", "natural", "png", "settle", "stage", "SUMMARY", "SUMMARY", "SUMMARY"], order,
+         "the order of Tab")
+    counts = []
+    for key in ("n", "n", "n", "n", "p"):
+        page.key(key)
+        counts.append(page.text("count"))
+    held(["2 of 4", "3 of 4", "4 of 4", "4 of 4", "3 of 4"], counts, "the photographs that n and p come to")
+    page.value("document.querySelector('#strip [aria-current]').focus()")
+    page.key("ArrowLeft")
+    page.rest()
+    held(["2 of 4", os.path.basename(paths[1])], [page.text("count"), page.value("document.activeElement.title")],
+         "the arrow keys of the list")
+    page.value("stage.focus()")
+    page.key("PageDown")
+    page.rest()
+    held(["3 of 4", "stage"], [page.text("count"), page.value("document.activeElement.id")], "Page Down in the picture")
+    tree = [node for node in page.send("Accessibility.getFullAXTree")["nodes"] if not node.get("ignored")]
+    parts = [node for node in tree if node["role"]["value"] in ("button", "application", "DisclosureTriangle", "navigation")]
+    held([], [node["role"]["value"] for node in parts if not node["name"]["value"]], "parts without a name")
+    held(True, len(parts) >= 17, f"{len(parts)} named parts")
+    page.close()
+
+
+def test_telephone(browser, room, shots):
+    """A screen of 360 pixels: nothing sticks out, a tap marks a pixel, two fingers zoom."""
+    for dark in (False, True):
+        page = Tillsparrow(browser, width=360, height=740, dark=dark, touch=True)
+        wide = "Array.from(document.querySelectorAll('html, h2, #notes li'), e => e.scrollWidth > Math.min(360, e.clientWidth))"
+        fits = lambda what: held(False, page.value(wide + ".includes(true)"), f"360 pixels do not hold {what}")  # noqa: E731
+        fits("the empty page")
+        long = put(room, "a" * 120, files.with_segment(files.encode(40, 30), 0xFE, b"w" * 400))
+        page.drop_all(TRAY, long, put(room, "no", b"no"))
+        fits("the tray")
+        page.value("document.querySelectorAll('details').forEach(d => d.open = true); 0")
+        fits("everything unfolded")
+        for i in (1, 2, 0):
+            page.select(i)
+            fits(f"photograph {i}")
+        hold_picture(page, "on a telephone", tillsparrow.read(TRAY))
+        page.touch("touchStart", page.spot(100, 40))
+        page.touch("touchEnd")
+        held(native.values(tillsparrow.read(TRAY), 100, 40), page.text("values"), "a pixel that was tapped")
+        (x, y), before = page.middle("#stage"), page.scale()
+        page.touch("touchStart", (x - 20, y), (x + 20, y))
+        for apart in (25, 30, 40):
+            page.touch("touchMove", (x - apart, y), (x + apart, y))
+        page.touch("touchEnd")
+        held(True, 1.8 < page.scale() / before < 2.2, f"two fingers twice as far apart: scale {before}, then {page.scale()}")
+        shots(page, "telephone-dark" if dark else "telephone")
+        (left, top), scrolled = page.spot(0, 0), page.value("scrollY")
+        page.touch("touchStart", (x, y))
+        for step in (10, 20, 30, 40):
+            page.touch("touchMove", (x - step, y - step))
+        page.touch("touchEnd")
+        held([left - 40, top - 40, scrolled], [*page.spot(0, 0), page.value("scrollY")], "one finger moves the picture, and not the page")
+        held([], page.complaints(), "what the browser complains of")
+        page.close()
