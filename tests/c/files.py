@@ -91,9 +91,9 @@ def near_djpeg(name, pnm, jpeg):
 
 
 def same_as_program(name, jpeg, pnm):
-    """Whether ./tillsparrow, which takes 65,536 bytes and samples, is built and was asked; its bytes are the same."""
+    """Whether ./tillsparrow, which takes 65,536 bytes and samples, was asked; its bytes are the same."""
     numbers = expected.record(jpeg)
-    if len(jpeg) > 65536 or max(numbers[32:34]) > 65536 or not os.path.exists(os.path.join(ROOT, "target", "bin", "tillsparrow")):
+    if len(jpeg) > 65536 or max(numbers[32:34]) > 65536:
         return False
     if run([os.path.join(ROOT, "tillsparrow")], jpeg).stdout != pnm:
         raise Off(f"{name}: ./tillsparrow writes another picture")
