@@ -110,11 +110,10 @@ mod tests {
         let body = header.split(&format!("typedef struct {name} {{")).nth(1).unwrap();
         let mut fields = Vec::new();
         let mut place = 0;
-        for line in body.split('}').next().unwrap().lines() {
-            let (kind, field) = match line.trim().split(';').next().unwrap().split_once(' ') {
-                Some(words) => words,
-                None => continue,
-            };
+        let lines = body.split('}').next().unwrap().lines();
+        let declared = lines.map(|line| line.trim().split(';').next().unwrap());
+        for field in declared.filter(|text| !text.is_empty()) {
+            let (kind, field) = field.split_once(' ').unwrap();
             let (field, count) = field.split_once('[').unwrap_or((field, "1]"));
             fields.push((field.to_string(), place));
             let count: usize = count.trim_end_matches(']').parse().unwrap();
