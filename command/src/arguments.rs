@@ -468,7 +468,10 @@ mod tests {
                 .find(|line| line.trim().starts_with(&format!("{name}) ")))
                 .unwrap_or_else(|| panic!("{name} for bash"));
             for argument in subcommand.get_arguments() {
-                let Some(long) = argument.get_long() else { continue };
+                let long = match argument.get_long() {
+                    Some(long) => long,
+                    None => continue,
+                };
                 let word = argument
                     .get_short()
                     .map_or_else(|| format!("--{long}"), |short| format!("-{short} "));

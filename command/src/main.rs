@@ -10,6 +10,7 @@ mod answer;
 mod arguments;
 mod check;
 mod decode;
+mod errors;
 mod filter;
 mod form;
 mod inspect;

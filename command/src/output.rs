@@ -1,11 +1,11 @@
 //! What is written: to standard output, into a device or a pipe, or to a file that comes whole.
 
 use crate::place::Place;
-use crate::signals;
 use crate::temporary::Temporary;
+use crate::{errors, signals};
 use std::fs::File;
 use std::io::{self, BufWriter, Error, ErrorKind, Result, Write};
-use std::os::fd::AsFd;
+use std::os::unix::io::AsFd;
 use std::path::Path;
 
 pub struct Output {
@@ -67,7 +67,7 @@ impl Write for Output {
 /// Standard output, without the line buffer of the standard library.
 fn standard() -> Result<File> {
     if signals::was_closed(signals::OUTPUT) {
-        return Err(Error::other("it is closed: open it, or take -o FILE"));
+        return Err(errors::told("it is closed: open it, or take -o FILE"));
     }
     Ok(File::from(io::stdout().as_fd().try_clone_to_owned()?))
 }
@@ -80,7 +80,7 @@ pub fn to_standard(bytes: &[u8]) -> Result<()> {
 /// What is there and is no regular file is written in place: a device or a pipe is not replaced.
 fn open_file(path: &Path, replace: bool) -> Result<(Option<Temporary>, File)> {
     match path.metadata() {
-        Ok(about) if about.is_dir() => Err(ErrorKind::IsADirectory.into()),
+        Ok(about) if about.is_dir() => Err(errors::is_a_folder()),
         Ok(about) if !about.is_file() => Ok((None, File::options().write(true).open(path)?)),
         _ => Temporary::new(path, replace).map(|(temporary, file)| (Some(temporary), file)),
     }
@@ -96,13 +96,13 @@ mod tests {
         let mut output = Output::open(&place, true).unwrap();
         let written = output.write_all(&vec![0; 1 << 20]);
         assert!(written.is_err() && output.write(b"more").is_err());
-        assert_eq!(output.finish(Ok(())).unwrap_err().raw_os_error(), Some(28));
+        assert_eq!(output.finish(Ok(())).unwrap_err().raw_os_error(), Some(errors::DISK_FULL));
     }
 
     #[test]
     fn an_error_of_the_last_bytes_is_told() {
         let mut output = Output::open(&Place::File("/dev/full".into()), true).unwrap();
         output.write_all(b"few").unwrap();
-        assert_eq!(output.finish(Ok(())).unwrap_err().kind(), ErrorKind::StorageFull);
+        assert_eq!(output.finish(Ok(())).unwrap_err().raw_os_error(), Some(errors::DISK_FULL));
     }
 }

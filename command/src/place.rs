@@ -2,10 +2,10 @@
 
 use crate::answer::Trouble;
 use crate::source::{self, Identity, Source};
-use crate::{shown, words};
+use crate::{shown, signals, words};
 use std::collections::{HashMap, HashSet};
 use std::ffi::{OsStr, OsString};
-use std::io::{self, IsTerminal};
+use std::io;
 use std::os::unix::ffi::OsStrExt;
 use std::path::{Path, PathBuf};
 
@@ -22,7 +22,10 @@ pub enum Out {
 impl Out {
     /// The meaning of -o for so many files, or why it has none.
     pub fn new(named: Option<OsString>, files: usize) -> Result<Out, String> {
-        let Some(named) = named else { return Ok(Out::Beside) };
+        let named = match named {
+            Some(named) => named,
+            None => return Ok(Out::Beside),
+        };
         if named.is_empty() {
             return Err("-o takes the name of a file or a folder".to_string());
         }
@@ -144,7 +147,7 @@ impl Places {
     /// as free here: what is said of it waits for what the library says of the input.
     pub fn is_free(&self, place: &Place) -> Result<(), Trouble> {
         match place {
-            Place::Standard if io::stdout().is_terminal() => Err(Trouble::Failed(
+            Place::Standard if signals::is_terminal(signals::OUTPUT) => Err(Trouble::Failed(
                 "its bytes are not for a terminal: give -o FILE, or a pipe".to_string(),
             )),
             Place::File(path)
@@ -160,7 +163,7 @@ impl Places {
     }
 
     fn is_input(&self, place: &Place) -> bool {
-        place.identity().is_some_and(|identity| self.inputs.contains(&identity))
+        place.identity().map_or(false, |identity| self.inputs.contains(&identity))
     }
 
     /// Fails where the place is a file that is read in the same call.
@@ -180,7 +183,10 @@ fn clashes(out: &Out, sources: &[Source], naming: Naming) -> Vec<Option<String>>
     let mut folders = HashMap::new();
     let mut firsts: HashMap<(PathBuf, OsString), String> = HashMap::new();
     let mut clash = |source: &Source| {
-        let Source::File(path) = source else { return None };
+        let path = match source {
+            Source::File(path) => path,
+            Source::Standard => return None,
+        };
         let folder = match out {
             Out::Folder(folder) => folder.as_path(),
             _ => path.parent().unwrap_or(path),

@@ -63,7 +63,10 @@ where
     fn toil(&self, send: Sender<(usize, Answer)>) {
         while !self.stop.load(Ordering::Relaxed) {
             let i = self.next.fetch_add(1, Ordering::Relaxed);
-            let Some(source) = self.sources.get(i) else { return };
+            let source = match self.sources.get(i) {
+                Some(source) => source,
+                None => return,
+            };
             let done =
                 panic::catch_unwind(AssertUnwindSafe(|| (self.act)(i, source, &self.phases)));
             let fault = || {

@@ -3,6 +3,7 @@
 use std::fmt::Write;
 use std::os::unix::ffi::OsStrExt;
 use std::path::Path;
+use std::str;
 
 /// Whether a character is shown as it is. Controls are not, nor are the marks that turn the
 /// direction of a line or break it.
@@ -22,17 +23,32 @@ fn push_bytes(line: &mut String, bytes: &[u8]) {
     }
 }
 
+/// The text that bytes begin with, the bytes behind it that are no character, and what is behind these.
+fn split_text(bytes: &[u8]) -> (&str, &[u8], &[u8]) {
+    let error = match str::from_utf8(bytes) {
+        Ok(text) => return (text, &[], &[]),
+        Err(error) => error,
+    };
+    let (text, behind) = bytes.split_at(error.valid_up_to());
+    // No length is told of a character that the end of the bytes cuts short.
+    let (broken, behind) = behind.split_at(error.error_len().unwrap_or(behind.len()));
+    (str::from_utf8(text).expect("it is a text up to there"), broken, behind)
+}
+
 /// Bytes as one line: what can be printed as it is, a newline as `\n`, every other byte as `\xNN`.
 pub fn line(bytes: &[u8]) -> String {
     let mut line = String::new();
-    for chunk in bytes.utf8_chunks() {
-        for character in chunk.valid().chars() {
+    let mut left = bytes;
+    while !left.is_empty() {
+        let (text, broken, behind) = split_text(left);
+        for character in text.chars() {
             match is_plain(character) {
                 true => line.push(character),
                 false => push_bytes(&mut line, character.encode_utf8(&mut [0; 4]).as_bytes()),
             }
         }
-        push_bytes(&mut line, chunk.invalid());
+        push_bytes(&mut line, broken);
+        left = behind;
     }
     line
 }
@@ -114,5 +130,19 @@ mod tests {
             line(b"tray 36\nrow B\r\x07\xff\xc2\x9b \xc3\xa9"),
             "tray 36\\nrow B\\x0d\\x07\\xff\\xc2\\x9b \u{e9}"
         );
+        assert_eq!(line(b""), "");
+    }
+
+    /// A character that is cut short, within a text or at its end, takes nothing else with it.
+    #[test]
+    fn every_byte_that_is_no_text_is_shown() {
+        assert_eq!(line(b"\xe2\x82\xacx\xe2\x82x\xe2\x82"), "\u{20ac}x\\xe2\\x82x\\xe2\\x82");
+        assert_eq!(
+            line(b"\xf0\x9f\x98\xc3\xa9\x80\xed\xa0\x80"),
+            "\\xf0\\x9f\\x98\u{e9}\\x80\\xed\\xa0\\x80"
+        );
+        for byte in 128..=255 {
+            assert_eq!(line(&[b'a', byte, b'b', byte]), format!("a\\x{byte:02x}b\\x{byte:02x}"));
+        }
     }
 }

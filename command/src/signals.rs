@@ -3,7 +3,8 @@
 //!
 //! The declarations are those of the C library, which the standard library is linked with.
 
-use std::ffi::{c_char, c_int, CString};
+use std::ffi::CString;
+use std::os::raw::{c_char, c_int};
 use std::os::unix::ffi::OsStrExt;
 use std::path::Path;
 use std::ptr;
@@ -16,6 +17,7 @@ extern "C" {
     fn write(stream: c_int, bytes: *const u8, length: usize) -> isize;
     fn _exit(status: c_int) -> !;
     fn fcntl(stream: c_int, command: c_int, ...) -> c_int;
+    fn isatty(stream: c_int) -> c_int;
 }
 
 const HANG_UP: c_int = 1;
@@ -36,8 +38,11 @@ pub const MOST_FILES: usize = 256;
 /// The names of the temporary files that are there, each a C string, or null. A string is never
 /// freed, since a handler on another thread may be reading it: a name of some hundred bytes stays
 /// for each file that is written.
-static FILES: [AtomicPtr<c_char>; MOST_FILES] =
-    [const { AtomicPtr::new(ptr::null_mut()) }; MOST_FILES];
+static FILES: [AtomicPtr<c_char>; MOST_FILES] = [NONE; MOST_FILES];
+
+// Each of them is a new one: that is what it is for.
+#[allow(clippy::declare_interior_mutable_const)]
+const NONE: AtomicPtr<c_char> = AtomicPtr::new(ptr::null_mut());
 
 /// A temporary file that is removed where a signal ends the program. Dropping it forgets the file.
 pub struct Kept(&'static AtomicPtr<c_char>);
@@ -124,8 +129,14 @@ pub fn install() {
 
 pub const INPUT: usize = 0;
 pub const OUTPUT: usize = 1;
+pub const ERRORS: usize = 2;
 
-static CLOSED: [AtomicBool; 2] = [const { AtomicBool::new(false) }; 2];
+pub fn is_terminal(stream: usize) -> bool {
+    // SAFETY: asking changes nothing, whatever the number is.
+    unsafe { isatty(stream as c_int) == 1 }
+}
+
+static CLOSED: [AtomicBool; 2] = [AtomicBool::new(false), AtomicBool::new(false)];
 
 /// Whether a stream was closed when the program began. What is written then would go to the null
 /// device, which the standard library opens in its place, and nobody would hear that it is lost.

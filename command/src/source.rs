@@ -1,14 +1,14 @@
 //! The files that come in.
 
 use crate::answer::Trouble;
-use crate::{shown, signals, words};
+use crate::{errors, shown, signals, words};
 use memmap2::Mmap;
 use std::ffi::OsString;
 use std::fs::{File, Metadata};
-use std::io::{Error, ErrorKind, Read, Result};
+use std::io::{Read, Result};
 use std::ops::Deref;
-use std::os::fd::AsFd;
 use std::os::unix::fs::MetadataExt;
+use std::os::unix::io::AsFd;
 use std::path::{Path, PathBuf};
 
 /// A file of more bytes is mapped and not read.
@@ -67,7 +67,7 @@ impl Source {
             Source::File(path) => path.metadata(),
         };
         match about {
-            Ok(about) if about.is_dir() => Err(words::unread(&ErrorKind::IsADirectory.into())),
+            Ok(about) if about.is_dir() => Err(words::unread(&errors::is_a_folder())),
             Ok(_) => Ok(()),
             Err(error) => Err(words::unread(&error)),
         }
@@ -101,7 +101,7 @@ impl Deref for Content {
 
 fn read_standard() -> Result<Content> {
     if signals::was_closed(signals::INPUT) {
-        return Err(Error::other("is closed: give it a file or a pipe"));
+        return Err(errors::told("is closed: give it a file or a pipe"));
     }
     let mut bytes = Vec::new();
     std::io::stdin().lock().read_to_end(&mut bytes)?;
@@ -112,7 +112,7 @@ fn read_file(path: &Path) -> Result<Content> {
     let mut file = File::open(path)?;
     let about = file.metadata()?;
     if about.is_dir() {
-        return Err(ErrorKind::IsADirectory.into());
+        return Err(errors::is_a_folder());
     }
     if about.is_file() && about.len() > MOST_READ {
         // SAFETY: the map is only read here. What the calls are lent must stay as it is, and a file

@@ -1,9 +1,10 @@
 //! A file that nobody meets half-written: it is made under another name in the same folder, and
 //! gets its own name when it is whole.
 
+use crate::errors;
 use crate::signals::{self, Kept};
 use std::fs::{self, File};
-use std::io::{Error, ErrorKind, Result};
+use std::io::{ErrorKind, Result};
 use std::path::{Path, PathBuf};
 use std::process;
 use std::sync::atomic::{AtomicU64, Ordering};
@@ -27,7 +28,7 @@ impl Temporary {
         loop {
             let path = unused(&target);
             let kept = signals::keep(&path).ok_or_else(|| {
-                Error::other("too many files are written at once: take fewer with -j")
+                errors::told("too many files are written at once: take fewer with -j")
             })?;
             match File::options().write(true).create_new(true).open(&path) {
                 Ok(file) => {

@@ -1,6 +1,7 @@
 //! The words of a line on standard error: what happened, and what to do.
 
 use crate::answer::Trouble;
+use crate::errors;
 use std::io::{Error, ErrorKind};
 use tillsparrow::Refused;
 
@@ -73,6 +74,9 @@ pub fn no_memory() -> Trouble {
     Trouble::Failed(NO_MEMORY.to_string())
 }
 
+const MANY_FILES: &str =
+    "too many files are open: take fewer at a time with -j, or raise the limit (ulimit -n)";
+
 /// What the system says of an error, without its number.
 fn said(error: &Error) -> String {
     let text = error.to_string();
@@ -81,46 +85,42 @@ fn said(error: &Error) -> String {
 
 /// A file could not be read.
 pub fn unread(error: &Error) -> Trouble {
-    Trouble::Failed(match error.kind() {
-        ErrorKind::NotFound => "there is no such file: look at its name and its folder".to_string(),
-        ErrorKind::PermissionDenied => "may not be read: have its owner allow it".to_string(),
-        ErrorKind::IsADirectory => {
-            "is a folder: give the files in it, such as FOLDER/*.jpg".to_string()
-        }
-        ErrorKind::OutOfMemory => NO_MEMORY.to_string(),
+    let why = match (error.kind(), error.raw_os_error().unwrap_or_default()) {
+        (_, errors::IS_A_FOLDER) => "is a folder: give the files in it, such as FOLDER/*.jpg",
+        (_, errors::MANY_FILES | errors::MANY_FILES_IN_ALL) => MANY_FILES,
+        (ErrorKind::NotFound, _) => "there is no such file: look at its name and its folder",
+        (ErrorKind::PermissionDenied, _) => "may not be read: have its owner allow it",
+        (ErrorKind::OutOfMemory, _) => NO_MEMORY,
         // The words of this program.
-        ErrorKind::Other => error.to_string(),
-        _ => format!("cannot be read: {}: copy it again from the camera", said(error)),
-    })
+        (ErrorKind::Other, _) => return Trouble::Failed(error.to_string()),
+        _ => {
+            let why = format!("cannot be read: {}: copy it again from the camera", said(error));
+            return Trouble::Failed(why);
+        }
+    };
+    Trouble::Failed(why.to_string())
 }
 
 /// What was to be written to `place` could not be.
 pub fn unwritten(place: &str, error: &Error) -> String {
-    let why = match error.kind() {
-        ErrorKind::StorageFull | ErrorKind::QuotaExceeded => {
-            "the disk is full: make room and run it again".to_string()
+    let why = match (error.kind(), error.raw_os_error().unwrap_or_default()) {
+        (_, errors::DISK_FULL | errors::SHARE_OF_DISK_FULL) => "the disk is full: make room and run it again",
+        (_, errors::FILE_TOO_LARGE) => {
+            "it is too large for a file here: raise the limit (ulimit -f), or take another disk with -o"
         }
-        ErrorKind::FileTooLarge => {
-            "it is too large for a file here: raise the limit (ulimit -f), or take another disk with -o".to_string()
+        (_, errors::DISK_READ_ONLY) => "the disk is read-only: take another folder with -o",
+        (_, errors::IS_A_FOLDER) => "it is a folder: take another name with -o",
+        (_, errors::MANY_FILES | errors::MANY_FILES_IN_ALL) => MANY_FILES,
+        (ErrorKind::BrokenPipe, _) => "the pipe was closed: let its reader read to the end",
+        (ErrorKind::NotFound, _) => "there is no such folder: make it, or take another with -o",
+        (ErrorKind::PermissionDenied, _) => "its folder may not be written to: take another with -o",
+        (ErrorKind::AlreadyExists, _) => {
+            "it is there already: take another name with -o, or --force to replace it"
         }
-        ErrorKind::BrokenPipe => "the pipe was closed: let its reader read to the end".to_string(),
-        ErrorKind::NotFound => {
-            "there is no such folder: make it, or take another with -o".to_string()
-        }
-        ErrorKind::PermissionDenied => {
-            "its folder may not be written to: take another with -o".to_string()
-        }
-        ErrorKind::ReadOnlyFilesystem => {
-            "the disk is read-only: take another folder with -o".to_string()
-        }
-        ErrorKind::IsADirectory => "it is a folder: take another name with -o".to_string(),
-        ErrorKind::AlreadyExists => {
-            "it is there already: take another name with -o, or --force to replace it".to_string()
-        }
-        ErrorKind::OutOfMemory => NO_MEMORY.to_string(),
+        (ErrorKind::OutOfMemory, _) => NO_MEMORY,
         // The words of this program.
-        ErrorKind::Other => error.to_string(),
-        _ => format!("{}: take another place with -o", said(error)),
+        (ErrorKind::Other, _) => return format!("{place} cannot be written: {error}"),
+        _ => return format!("{place} cannot be written: {}: take another place with -o", said(error)),
     };
     format!("{place} cannot be written: {why}")
 }
@@ -141,8 +141,9 @@ mod tests {
     #[test]
     fn a_refusal_has_number_meaning_and_what_to_do() {
         for number in [1, 2, 3, 4, 5, 6, 9] {
-            let Trouble::Refused(line) = line(number, &[255, 216]) else {
-                panic!("{number} is no refusal")
+            let line = match line(number, &[255, 216]) {
+                Trouble::Refused(line) => line,
+                Trouble::Failed(line) => panic!("{number} is no refusal: {line}"),
             };
             let parts: Vec<&str> = line.splitn(3, ": ").collect();
             assert_eq!(parts[0], format!("refused {number}"));
@@ -172,5 +173,36 @@ mod tests {
     fn the_systems_words_come_without_their_number() {
         assert!(unwritten("x", &Error::from_raw_os_error(28)).contains("the disk is full"));
         assert_eq!(said(&Error::from_raw_os_error(5)), "Input/output error");
+    }
+
+    /// The numbers are those of the system: what it calls them is what they are taken for.
+    #[test]
+    fn the_numbers_of_errors_are_the_systems() {
+        let names = [
+            (errors::IS_A_FOLDER, "Is a directory"),
+            (errors::MANY_FILES_IN_ALL, "Too many open files in system"),
+            (errors::MANY_FILES, "Too many open files"),
+            (errors::FILE_TOO_LARGE, "File too large"),
+            (errors::DISK_FULL, "No space left on device"),
+            (errors::DISK_READ_ONLY, "Read-only file system"),
+            (errors::SHARE_OF_DISK_FULL, "Disk quota exceeded"),
+        ];
+        for (number, name) in names {
+            assert_eq!(said(&Error::from_raw_os_error(number)), name);
+            assert!(!unwritten("x", &Error::from_raw_os_error(number)).contains(name), "{name}");
+        }
+    }
+
+    #[test]
+    fn of_too_many_open_files_fewer_are_to_be_taken() {
+        for number in [errors::MANY_FILES, errors::MANY_FILES_IN_ALL] {
+            let error = Error::from_raw_os_error(number);
+            let read = unread(&error);
+            assert!(
+                matches!(&read, Trouble::Failed(line) if line.contains("take fewer at a time with -j") && !line.contains("camera")),
+                "{read:?}"
+            );
+            assert!(unwritten("x", &error).contains("take fewer at a time with -j"));
+        }
     }
 }

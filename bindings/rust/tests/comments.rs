@@ -34,8 +34,9 @@ fn joints(file: &[u8]) -> Vec<usize> {
     let before = one_by_one(file).unwrap().len();
     let is_joint = |&at: &usize| {
         let longer = spliced(file, at, &segment(254, b"joint"));
-        one_by_one(&longer)
-            .is_ok_and(|texts| texts.len() == before + 1 && texts.contains(&&b"joint"[..]))
+        let is_found =
+            |texts: Vec<&[u8]>| texts.len() == before + 1 && texts.contains(&&b"joint"[..]);
+        one_by_one(&longer).map_or(false, is_found)
     };
     (2..start as usize).filter(|&at| file[at] == 255).filter(is_joint).collect()
 }
