@@ -277,7 +277,7 @@ fn form_of(path: &Path, asked: Option<Form>) -> Result<Form, String> {
         }),
         (Some(form), None) | (None, Some(form)) => Ok(form),
         (None, None) => Err(format!(
-            "the ending of {name} says no form: end it with .png, .ppm, .pgm or .pnm, or take -f"
+            "the ending of {name} says no form: end it with .png, .ppm, .pgm or .pnm, with / to have a folder made, or take -f"
         )),
     }
 }

@@ -5,7 +5,8 @@ use crate::source::{self, Identity, Source};
 use crate::{shown, signals, words};
 use std::collections::{HashMap, HashSet};
 use std::ffi::{OsStr, OsString};
-use std::io;
+use std::fs::File;
+use std::io::{self, Read};
 use std::os::unix::ffi::OsStrExt;
 use std::path::{Path, PathBuf};
 
@@ -95,7 +96,8 @@ impl Place {
 /// The places of all outputs of a call.
 pub struct Places {
     out: Out,
-    /// Whether a file that is there is replaced.
+    force: bool,
+    /// Whether a file that is there is replaced, one that is not taken.
     pub replace: bool,
     inputs: HashSet<Identity>,
     /// For each file the name of an earlier one whose output has the same name.
@@ -114,11 +116,11 @@ impl Places {
             std::fs::create_dir_all(folder)
                 .map_err(|error| words::unmade(&shown::name(folder), &error))?;
         }
-        // A file that is named by -o is meant.
+        // A file that is named by -o is meant, but for a photograph.
         let replace = force || matches!(out, Out::File(_));
         let inputs = sources.iter().filter_map(Source::identity).collect();
         let clashes = clashes(&out, sources, naming);
-        Ok(Places { out, replace, inputs, clashes })
+        Ok(Places { out, force, replace, inputs, clashes })
     }
 
     /// Where the output of a source goes, which is file `i` of the call.
@@ -150,15 +152,23 @@ impl Places {
             Place::Standard if signals::is_terminal(signals::OUTPUT) => Err(Trouble::Failed(
                 "its bytes are not for a terminal: give -o FILE, or a pipe".to_string(),
             )),
-            Place::File(path)
-                if !self.replace && path.symlink_metadata().is_ok() && !self.is_input(place) =>
-            {
+            Place::File(path) if self.is_taken(path) && !self.is_input(place) => {
                 let name = place.shown();
                 Err(Trouble::Failed(format!(
                     "{name} is there already: take another name with -o, or --force to replace it"
                 )))
             }
             _ => Ok(()),
+        }
+    }
+
+    /// A photograph is taken though -o names it: where a shell makes `-o a.jpg b.jpg` of `-o *.jpg`,
+    /// nobody means to lose the first.
+    fn is_taken(&self, path: &Path) -> bool {
+        match (self.force, self.replace) {
+            (true, _) => false,
+            (false, true) => is_photograph(path),
+            (false, false) => path.symlink_metadata().is_ok(),
         }
     }
 
@@ -176,6 +186,14 @@ impl Places {
             ))),
         }
     }
+}
+
+/// Whether a regular file begins as a JPEG file does.
+fn is_photograph(path: &Path) -> bool {
+    let mut first = [0; 2];
+    path.is_file()
+        && File::open(path).and_then(|mut file| file.read_exact(&mut first)).is_ok()
+        && first == [255, 216]
 }
 
 /// For each source the name of the first one whose output has the same name in the same folder.
@@ -283,5 +301,19 @@ mod tests {
         let careful = Places::new(Out::Beside, false, &sources, Naming::Own).unwrap();
         assert!(careful.is_free(&Place::File("Cargo.toml".into())).is_err());
         assert!(careful.is_no_input(&Place::File("Cargo.toml".into())).is_ok());
+    }
+
+    #[test]
+    fn a_photograph_is_replaced_by_force_alone() {
+        let sources = sources(&["other.jpg"]);
+        let tray = Place::File("../docs/tray.jpg".into());
+        let named = |force| {
+            Out::new(Some("../docs/tray.jpg".into()), 1)
+                .and_then(|out| Places::new(out, force, &sources, Naming::Own))
+        };
+        assert!(named(false).unwrap().is_free(&tray).is_err());
+        assert!(named(true).unwrap().is_free(&tray).is_ok());
+        assert!(named(false).unwrap().is_free(&Place::File("Cargo.toml".into())).is_ok());
+        assert!(named(false).unwrap().is_free(&Place::File("absent".into())).is_ok());
     }
 }

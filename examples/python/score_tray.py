@@ -2,7 +2,8 @@
 # # Scores a tray of grains
 #
 # Reads a photograph of a seed tray through Tillsparrow, takes the mean of red, green and blue in each well, and writes them as a table
-# (`tray-scored.csv`) and as a picture (`tray-scored.png`). It runs from top to bottom as a script, and cell by cell in a notebook:
+# (`tray-scored.csv`) and as a picture (`tray-scored.png`), both named after the photograph. It runs from top to bottom as a script, and cell
+# by cell in a notebook:
 #
 #     python3 examples/python/score_tray.py                                       # docs/tray.jpg, 6 x 6 wells, into target/scored
 #     python3 examples/python/score_tray.py my.jpg --rows 8 --columns 12 --out scores
@@ -40,8 +41,10 @@ chosen = parser.parse_args([] if IN_NOTEBOOK else None)
 # The samples are those of the proved library: whole numbers from 0 to 255, one or three for each pixel.
 try:
     picture = tillsparrow.read(chosen.input)
-except (OSError, tillsparrow.Refused) as error:
+except OSError as error:
     sys.exit(f"score_tray: {chosen.input}: {error}")
+except tillsparrow.Refused as refused:
+    sys.exit(f"score_tray: {refused}")
 NAMES = ("red", "green", "blue") if picture.channels == 3 else ("grey",)
 pixels = picture.array().reshape(picture.height, picture.width, picture.channels)
 if picture.height < chosen.rows or picture.width < chosen.columns:
@@ -72,7 +75,7 @@ scores = [score(row, column) for row in range(chosen.rows) for column in range(c
 
 # %% Write the table
 chosen.out.mkdir(parents=True, exist_ok=True)
-table = chosen.out / "tray-scored.csv"
+table = chosen.out / f"{Path(chosen.input).stem}-scored.csv"
 with open(table, "w", newline="", encoding="utf-8") as file:
     writer = csv.DictWriter(file, scores[0].keys(), lineterminator="\n")
     writer.writeheader()
@@ -125,6 +128,6 @@ for axes in panels:
     axes.set_xlabel("column")
     axes.tick_params(length=0)
 panels[0].set_ylabel("row")
-drawn = chosen.out / "tray-scored.png"
+drawn = table.with_suffix(".png")
 figure.savefig(drawn, dpi=100, bbox_inches="tight")
 print(drawn)

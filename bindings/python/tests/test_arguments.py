@@ -195,9 +195,21 @@ class Errors(unittest.TestCase):
             tillsparrow.settle(DATA, bytearray())
         self.assertEqual(str(raised.exception), "refused 7: a lent buffer is too short; 141 bytes are needed")
 
+    def test_a_refusal_names_the_path_that_was_given(self):
+        path = files.ROOT / "README.md"
+        for call in (tillsparrow.read, tillsparrow.settled, tillsparrow.comments):
+            for given in (path, str(path)):
+                with self.assertRaises(Refused) as raised:
+                    call(given)
+                self.assertEqual(raised.exception.path, str(path))
+                self.assertTrue(str(raised.exception).startswith(f"{path}: refused 4: "))
+            with self.assertRaises(Refused) as raised:
+                call(path.read_bytes())
+            self.assertIsNone(raised.exception.path)
+
     def test_a_refusal_goes_to_another_process(self):
-        sent = pickle.loads(pickle.dumps(Refused(7, "a lent buffer is too short", 5, 141)))
-        self.assertEqual((sent.number, sent.meaning, sent.left, sent.needed), (7, "a lent buffer is too short", 5, 141))
+        sent = pickle.loads(pickle.dumps(Refused(7, "a lent buffer is too short", 5, 141, "tray.jpg")))
+        self.assertEqual((sent.number, sent.meaning, sent.left, sent.needed, sent.path), (7, "a lent buffer is too short", 5, 141, "tray.jpg"))
 
     def imported(self, library):
         done = subprocess.run([sys.executable, "-c", "import tillsparrow"], env={**os.environ, "TILLSPARROW_LIBRARY": library},

@@ -21,12 +21,12 @@ MACHINE = {"arm64": "aarch64"}.get(platform.machine(), platform.machine())
 PNG = b"\x89PNG\r\n\x1a\n\0\0\0\rIHDR"
 
 
-def scored(*words, out):
+def scored(*words, out, name="tray"):
     """Runs the example; its exit status, what it said, and the lines of its table."""
     done = subprocess.run([sys.executable, str(EXAMPLE), *map(str, words), "--out", str(out)], cwd=out, check=False,
                           env={**os.environ, "PYTHONPATH": str(files.ROOT / "bindings" / "python")},
                           stdout=subprocess.PIPE, stderr=subprocess.PIPE)
-    table = Path(out) / "tray-scored.csv"
+    table = Path(out) / f"{name}-scored.csv"
     lines = list(csv.reader(table.read_text().splitlines())) if table.exists() else []
     return done.returncode, (done.stdout + done.stderr).decode(), lines
 
@@ -77,14 +77,14 @@ class Scores(unittest.TestCase):
         photograph = self.room / "grey tray.jpg"
         photograph.write_bytes(files.encoded(["-grayscale"], files.noise, 97, 61))
         samples = tillsparrow.read(photograph).samples
-        status, said, lines = scored(photograph, "--rows", 1, "--columns", 2, out=self.room)
+        status, said, lines = scored(photograph, "--rows", 1, "--columns", 2, out=self.room, name="grey tray")
         self.assertEqual((status, lines[0]), (0, ["row", "column", "pixels", "sum of grey", "mean of grey"]), said)
         # 61 rows without 10 at either side; 48 and 49 columns without 8.
         for line, (left, right) in zip(lines[1:], ((8, 40), (56, 89))):
             inside = [samples[97 * y + x] for y in range(10, 51) for x in range(left, right)]
             self.assertEqual(line[2:4], [str(len(inside)), str(sum(inside))])
         self.assertEqual(len(lines), 3)
-        self.assertLess(side_of(self.room / "tray-scored.png")[0], 1000)
+        self.assertLess(side_of(self.room / "grey tray-scored.png")[0], 1000)
 
     def test_what_cannot_be_scored_is_said(self):
         cut = self.room / "cut.jpg"

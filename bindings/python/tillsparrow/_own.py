@@ -2,12 +2,13 @@
 from __future__ import annotations
 
 import os
+from contextlib import contextmanager
 from dataclasses import dataclass, field
-from typing import Any, List, Union
+from typing import Any, Iterator, List, Union
 
 from ._calls import decode, inspect, settle
 from ._lent import flat_view
-from ._values import NO_LIMITS, Limits
+from ._values import NO_LIMITS, Limits, Refused
 
 #: The code of a comment segment.
 COMMENT = 254
@@ -44,20 +45,32 @@ def _bytes_of(source: Any) -> Any:
     return source
 
 
+@contextmanager
+def _lent(source: Any) -> Iterator[Any]:
+    """The file's bytes; a refusal names the path that was given."""
+    try:
+        yield _bytes_of(source)
+    except Refused as refused:
+        if not isinstance(source, (str, os.PathLike)):
+            raise
+        raise Refused(refused.number, refused.meaning, refused.left, refused.needed, os.fsdecode(source)) from None
+
+
 def read(source: Union[str, "os.PathLike[str]", Any], limits: Limits = NO_LIMITS) -> Picture:
     """The picture of a file, given by its path or its bytes: grey, or red, green and blue.
 
     Where files come from others, give limits. Refused 7 where there is not enough memory.
     """
-    data = _bytes_of(source)
-    record = inspect(data, True, limits).record
-    output = decode(data, record).output
+    with _lent(source) as data:
+        record = inspect(data, True, limits).record
+        output = decode(data, record).output
     return Picture(record.width, record.height, record.channels, bytes(output))
 
 
 def settled(source: Union[str, "os.PathLike[str]", Any], limits: Limits = NO_LIMITS) -> bytes:
     """The settled file of a file, given by its path or its bytes. Refused 7 where there is not enough memory."""
-    return bytes(settle(_bytes_of(source), None, limits).output)
+    with _lent(source) as data:
+        return bytes(settle(data, None, limits).output)
 
 
 def notes(flat: memoryview, start: int) -> List[memoryview]:
@@ -83,6 +96,6 @@ def notes(flat: memoryview, start: int) -> List[memoryview]:
 def comments(source: Union[str, "os.PathLike[str]", Any]) -> List[memoryview]:
     """The texts of all comments of a file, given by its path or its bytes; each is a part of those bytes, not a copy. The file is
     read once. Refused where inspect refuses, limits aside."""
-    data = _bytes_of(source)
-    record = inspect(data).record
-    return notes(flat_view(data), record.start)
+    with _lent(source) as data:
+        record = inspect(data).record
+        return notes(flat_view(data), record.start)

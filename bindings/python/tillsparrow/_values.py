@@ -36,9 +36,9 @@ def number(name: str, value: int) -> int:
 class Refused(Exception):
     """Why a call did not do what was asked. Every lent buffer is as it was."""
 
-    def __init__(self, number: int, meaning: str, left: int, needed: Optional[int] = None):
+    def __init__(self, number: int, meaning: str, left: int, needed: Optional[int] = None, path: Optional[str] = None):
         # The arguments are kept as they came, so that a refusal can be sent to another process.
-        super().__init__(number, meaning, left, needed)
+        super().__init__(number, meaning, left, needed, path)
         #: 1 to 9.
         self.number = number
         #: What the number means, for people.
@@ -47,9 +47,12 @@ class Refused(Exception):
         self.left = left
         #: The bytes of the settled file, where settle is refused for want of room; else None.
         self.needed = needed
+        #: The file's path, where the call was given one; else None.
+        self.path = path
 
     def __str__(self) -> str:
         line = f"refused {self.number}: {self.meaning}"
+        line = line if self.path is None else f"{self.path}: {line}"
         return line if self.needed is None else f"{line}; {self.needed} bytes are needed"
 
 
