@@ -1,5 +1,5 @@
 """That nothing leaves the page: each way of sending something is tried, from the page and from its worker, at a server that keeps a list
-of what it is asked for. From a page without the policy the same ways do reach it."""
+of what it is asked for. From a page without the policy the page's ways do reach it; the worker's are not tried there."""
 import functools
 import http.server
 import os
