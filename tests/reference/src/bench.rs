@@ -8,7 +8,9 @@ use crate::record::Record;
 fn huffman(class_and_id: u8, codes: &[(usize, u8)]) -> Vec<u8> {
     let mut counts = [0; 16];
     codes.iter().for_each(|&(length, _)| counts[length - 1] += 1);
-    let mut bytes = vec![255, 196, 0, 19 + codes.len() as u8, class_and_id];
+    let mut bytes = vec![255, 196];
+    bytes.extend((19 + codes.len() as u16).to_be_bytes());
+    bytes.push(class_and_id);
     bytes.extend(counts);
     bytes.extend(codes.iter().map(|&(_, symbol)| symbol));
     bytes
@@ -135,15 +137,163 @@ fn empty_file() {
 }
 
 #[test]
-fn p1_to_p5_settled() {
+fn p1_to_p4_settled() {
     assert_eq!(settled(&f()), f());
     let with = |scan: u8| file(ZERO, END_AND_RUN, &[scan]);
     assert_eq!(settled(&with(79)), with(63));
     assert_eq!(settled(&with(84)), with(63));
     // DC 0, then 10 10 10 10 and the end code.
     assert_eq!(number(&file(ZERO, END_AND_RUN, &[0b0101_0101, 0b0011_1111])), 4);
-    let twice: &[(usize, u8)] = &[(1, 0), (2, 0)];
-    assert_eq!(settled(&file(twice, ZERO, &[159])), file(twice, ZERO, &[63]));
+}
+
+/// Refused 4 by the header: inspect and settle take 2n+1 and nothing for the scan.
+fn header_refuses(file: &[u8]) {
+    let price = 2 * file.len() as u64 + 1;
+    let (answer, record) = inspect(file, 1, &Limits::NONE, price + 5000);
+    assert_eq!((answer.number, answer.left, record), (4, 5000, Record::default()));
+    let mut buffer = [3; 1000];
+    let (answer, length) = settle(file, &Limits::NONE, price + 5000, &mut buffer);
+    assert_eq!((answer.number, answer.left, length), (4, 5000, 0));
+    assert_eq!(buffer, [3; 1000]);
+}
+
+#[test]
+fn p5_a_symbol_with_two_codes() {
+    for scan in [63, 159] {
+        let file = file(&[(1, 0), (2, 0)], ZERO, &[scan]);
+        assert_eq!(file.len(), 142);
+        header_refuses(&file);
+    }
+}
+
+const DC_CARELESS: [&[(usize, u8)]; 8] = [
+    &[(2, 0), (2, 0)],
+    &[(1, 0), (2, 1), (3, 0)],
+    &[(1, 0), (2, 1), (16, 1)],
+    &[(1, 0), (2, 11), (3, 11)],
+    &[(1, 0), (2, 12)],
+    &[(1, 0), (2, 15)],
+    &[(1, 0), (2, 16)],
+    &[(1, 0), (2, 255)],
+];
+const DC_CAREFUL: [&[(usize, u8)]; 2] = [&[(1, 0), (2, 11)], &[(1, 0), (2, 11), (3, 1)]];
+const AC_CARELESS: [&[(usize, u8)]; 11] = [
+    &[(1, 0), (2, 0)],
+    &[(2, 0), (2, 0)],
+    &[(1, 0), (2, 240), (16, 240)],
+    &[(1, 0), (2, 1), (3, 2), (4, 1)],
+    &[(1, 0), (2, 16)],
+    &[(1, 0), (2, 224)],
+    &[(1, 0), (2, 11)],
+    &[(1, 0), (2, 15)],
+    &[(1, 0), (2, 251)],
+    &[(1, 0), (2, 239)],
+    &[(1, 0), (2, 255)],
+];
+const AC_CAREFUL: [&[(usize, u8)]; 5] = [
+    &[(1, 0), (2, 240)],
+    &[(1, 0), (2, 250)],
+    &[(1, 0), (2, 10)],
+    &[(1, 0), (2, 241)],
+    &[(1, 0), (2, 1), (3, 17), (4, 234)],
+];
+
+#[test]
+fn careless_tables_in_use() {
+    DC_CARELESS.iter().for_each(|dc| header_refuses(&file(dc, ZERO, &[63])));
+    AC_CARELESS.iter().for_each(|ac| header_refuses(&file(ZERO, ac, &[63])));
+    DC_CAREFUL.iter().for_each(|dc| assert_eq!(number(&file(dc, ZERO, &[63])), 0));
+    AC_CAREFUL.iter().for_each(|ac| assert_eq!(number(&file(ZERO, ac, &[63])), 0));
+}
+
+/// F with these bytes before its Huffman segments.
+fn f_behind(bytes: &[u8]) -> Vec<u8> {
+    let mut file = f();
+    file.splice(84..84, bytes.iter().copied());
+    file
+}
+
+/// F with this table before its own one of that class, in the same segment.
+fn f_with_two(class_and_id: u8, codes: &[(usize, u8)]) -> Vec<u8> {
+    let table = huffman(class_and_id, codes)[4..].to_vec();
+    let mut file = f();
+    let at = if class_and_id < 16 { 84 } else { 106 };
+    file[at + 3] += table.len() as u8;
+    file.splice(at + 4..at + 4, table);
+    file
+}
+
+#[test]
+fn careless_tables_unused_or_replaced() {
+    let each = |codes: &[(usize, u8)], class: u8, test: &dyn Fn(&[u8])| {
+        // Ids 1 and 3 are never used; the table of id 0 is replaced by F's own.
+        for id in [0, 1, 3] {
+            test(&f_behind(&huffman(class + id, codes)));
+            test(&f_with_two(class + id, codes));
+        }
+    };
+    let accepted = |file: &[u8]| assert_eq!(number(file), 0);
+    DC_CARELESS.iter().for_each(|codes| each(codes, 0, &header_refuses));
+    AC_CARELESS.iter().for_each(|codes| each(codes, 16, &header_refuses));
+    DC_CAREFUL.iter().for_each(|codes| each(codes, 0, &accepted));
+    AC_CAREFUL.iter().for_each(|codes| each(codes, 16, &accepted));
+}
+
+#[test]
+fn careless_tables_among_other_faults() {
+    let careless = huffman(1, &[(1, 0), (2, 12)]);
+    // Unsupported before the table, then behind it.
+    let unsupported = [255, 220, 0, 4, 0, 8];
+    assert_eq!(number(&f_behind(&[&unsupported[..], &careless].concat())), 5);
+    assert_eq!(number(&f_behind(&[&careless[..], &unsupported].concat())), 4);
+    // The segment runs past the end of the file.
+    let mut cut = f_behind(&careless);
+    cut.truncate(84 + careless.len() - 1);
+    assert_eq!(number(&cut), 3);
+    // Behind the table the file is cut.
+    let cut = f_behind(&[&careless[..], &[255, 254, 255, 255]].concat());
+    assert_eq!(number(&cut), 4);
+}
+
+#[test]
+fn careless_tables_in_decode() {
+    let careful = file(&[(1, 0), (2, 11)], END_AND_RUN, &[63]);
+    let (_, record) = inspect(&careful, 0, &Limits::NONE, UNLIMITED);
+    let at = |place: usize, symbol: u8| {
+        let mut file = careful.clone();
+        file[place] = symbol;
+        let (mut output, mut scratch) = ([5; 64], [6; 64]);
+        let answer = decode(&file, &record, &mut output, &mut scratch, 3487 + 9);
+        let kept = output == [5; 64] && scratch == [6; 64];
+        (answer.number, answer.left, kept)
+    };
+    // The second symbol of the DC table stands at 106, that of the AC table at 129.
+    assert_eq!(at(106, 11), (0, 9, false));
+    assert_eq!(at(106, 12), (8, 9, true));
+    assert_eq!(at(106, 0), (8, 9, true));
+    assert_eq!(at(129, 250), (0, 9, false));
+    assert_eq!(at(129, 251), (8, 9, true));
+    assert_eq!(at(129, 224), (8, 9, true));
+    assert_eq!(at(129, 0), (8, 9, true));
+}
+
+#[test]
+fn largest_tables() {
+    // The first code has one bit, the next 250 nine, the rest sixteen.
+    let codes = |symbols: &[u8]| -> Vec<(usize, u8)> {
+        let length = |place| if place == 0 { 1 } else { [9, 16][usize::from(place > 250)] };
+        symbols.iter().enumerate().map(|(place, &symbol)| (length(place), symbol)).collect()
+    };
+    let dc: Vec<u8> = (0..=11).collect();
+    let ac: Vec<u8> =
+        (0..=255).filter(|s| [0, 240].contains(s) || (1..=10).contains(&(s % 16))).collect();
+    assert_eq!(ac.len(), 162);
+    assert_eq!(number(&file(&codes(&dc), &codes(&ac), &[63])), 0);
+    header_refuses(&file(&codes(&[&dc[..], &[11]].concat()), ZERO, &[63]));
+    header_refuses(&file(ZERO, &codes(&[&ac[..], &[250]].concat()), &[63]));
+    let all: Vec<u8> = (0..=255).collect();
+    header_refuses(&file(ZERO, &codes(&all), &[63]));
+    header_refuses(&file(ZERO, &codes(&[&all[..], &[0]].concat()), &[63]));
 }
 
 #[test]

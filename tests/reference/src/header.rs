@@ -119,7 +119,8 @@ impl Header<'_> {
         Ok(())
     }
 
-    /// One or more times: class and id, 16 counts, 1 to 256 symbols inside the segment.
+    /// One or more times: class and id, 16 counts, 1 to 256 symbols inside the segment. A
+    /// table is tested when it is read, whether the scan uses it or not.
     fn huffman_tables(&mut self, segment: &Segment) -> Result<(), u8> {
         require(segment.start < segment.end, MALFORMED)?;
         let mut at = segment.start;
@@ -132,6 +133,8 @@ impl Header<'_> {
             require((1..=256).contains(&symbols), MALFORMED)?;
             require(segment.end - at >= 17 + symbols, MALFORMED)?;
             require(huffman::fits(counts), MALFORMED)?;
+            let listed = &self.file[at + 17..at + 17 + symbols];
+            require(huffman::may_list(class, listed), MALFORMED)?;
             if class == 0 {
                 self.record.dc_tables[id] = (at + 1) as u64;
             } else {

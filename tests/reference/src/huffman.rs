@@ -1,4 +1,4 @@
-//! Huffman tables: the test that the codes fit, and the codes both ways.
+//! Huffman tables: the tests on counts and symbols, and the codes both ways.
 
 /// One table's codes in T.81 Annex C order.
 pub struct Codes {
@@ -24,6 +24,24 @@ pub fn fits(counts: &[u8]) -> bool {
 /// How many symbols the sixteen counts announce.
 pub fn total(counts: &[u8]) -> usize {
     counts[..16].iter().map(|&count| usize::from(count)).sum()
+}
+
+/// Whether a table of this class may list these symbols: each one once, and only those that
+/// can be read in a scan.
+pub fn may_list(class: u8, symbols: &[u8]) -> bool {
+    let mut listed = [false; 256];
+    symbols.iter().all(|&symbol| {
+        let twice = std::mem::replace(&mut listed[usize::from(symbol)], true);
+        !twice && readable(class, symbol)
+    })
+}
+
+/// DC: the categories 0 to 11. AC: the end code, 240, and every run with a size of 1 to 10.
+fn readable(class: u8, symbol: u8) -> bool {
+    match class {
+        0 => symbol <= 11,
+        _ => symbol == 0 || symbol == 240 || (1..=10).contains(&(symbol % 16)),
+    }
 }
 
 impl Codes {
@@ -55,7 +73,7 @@ impl Codes {
         Some(self.symbols[self.place[length] + from_first as usize])
     }
 
-    /// "A symbol that a table lists twice takes its first code": its length and bits.
+    /// The code of a symbol, if the table lists it: its length and bits.
     pub fn code(&self, symbol: u8) -> Option<(u32, u32)> {
         let place = self.symbols.iter().position(|&listed| listed == symbol)?;
         let mut length = 16;
@@ -90,19 +108,41 @@ mod tests {
     }
 
     #[test]
+    fn symbols_that_may_be_listed() {
+        let alone = |class| (0..=255).filter(|&symbol| may_list(class, &[symbol])).collect();
+        let (dc, ac): (Vec<u8>, Vec<u8>) = (alone(0), alone(1));
+        assert_eq!(dc, (0..=11).collect::<Vec<u8>>());
+        assert_eq!(ac.len(), 162);
+        for symbol in [0, 1, 10, 17, 26, 240, 241, 250] {
+            assert!(ac.contains(&symbol), "{symbol}");
+        }
+        for symbol in [11, 15, 16, 27, 32, 224, 239, 251, 255] {
+            assert!(!ac.contains(&symbol), "{symbol}");
+        }
+        for (class, all) in [(0, dc), (1, ac)] {
+            assert!(may_list(class, &all));
+            for &symbol in &all {
+                assert!(!may_list(class, &[&all[..], &[symbol]].concat()));
+                assert!(!may_list(class, &[&[symbol], &all[..]].concat()));
+            }
+        }
+    }
+
+    #[test]
     fn annex_c_order() {
         let mut counts = [0; 16];
         counts[1] = 2;
         counts[3] = 2;
-        let codes = table(counts, &[7, 8, 9, 7]);
+        let codes = table(counts, &[7, 8, 9, 6]);
         assert_eq!(codes.symbol(2, 0), Some(7));
         assert_eq!(codes.symbol(2, 1), Some(8));
         assert_eq!(codes.symbol(2, 2), None);
         assert_eq!(codes.symbol(4, 8), Some(9));
-        assert_eq!(codes.symbol(4, 9), Some(7));
+        assert_eq!(codes.symbol(4, 9), Some(6));
         assert_eq!(codes.code(7), Some((2, 0)));
         assert_eq!(codes.code(8), Some((2, 1)));
         assert_eq!(codes.code(9), Some((4, 8)));
+        assert_eq!(codes.code(6), Some((4, 9)));
         assert_eq!(codes.code(1), None);
     }
 }

@@ -7,12 +7,8 @@ use crate::random::Random;
 /// A fault in the scan. Each is written so that a careless reader would go on.
 #[derive(Clone, Copy, Debug, PartialEq, Eq)]
 pub enum Fault {
-    /// A category above 11.
-    Category,
     /// Prediction plus difference is 2048 or -2049.
     Beyond,
-    /// Size above 10, or size 0 with a run of 1 to 14.
-    Size,
     /// Place plus run is 64 or more.
     RunPast,
     /// 240 at place 49 or later.
@@ -41,10 +37,8 @@ pub enum Fault {
     Carried,
 }
 
-pub const FAULTS: [Fault; 20] = [
-    Fault::Category,
+pub const FAULTS: [Fault; 18] = [
     Fault::Beyond,
-    Fault::Size,
     Fault::RunPast,
     Fault::SkipPast,
     Fault::NoCode,
@@ -66,9 +60,8 @@ pub const FAULTS: [Fault; 20] = [
 
 /// A table ready for writing.
 struct Ready {
-    /// Codes by symbol: length and bits.
-    codes: Vec<Vec<(u32, u32)>>,
-    /// The distinct symbols.
+    /// The code of each symbol: length and bits.
+    codes: Vec<Option<(u32, u32)>>,
     listed: Vec<u8>,
     finishes: [bool; 65],
 }
@@ -111,16 +104,16 @@ pub fn scan(shape: &Shape, random: &mut Random, fault: Option<Fault>) -> (Vec<u8
 
 impl Ready {
     fn new(table: &tables::Table) -> Ready {
-        let mut codes = vec![Vec::new(); 256];
+        let mut codes = vec![None; 256];
         for (symbol, length, bits) in table.codes() {
-            codes[symbol as usize].push((length, bits));
+            codes[symbol as usize] = Some((length, bits));
         }
-        let listed = (0..=255).filter(|&symbol| table.lists(symbol)).collect();
+        let listed = table.symbols.clone();
         Ready { codes, listed, finishes: tables::finishes(&table.symbols) }
     }
 
     fn lists(&self, symbol: u8) -> bool {
-        !self.codes[symbol as usize].is_empty()
+        self.codes[symbol as usize].is_some()
     }
 }
 
@@ -165,11 +158,9 @@ impl Coder<'_> {
         (0..length).rev().for_each(|place| self.bit(value >> place & 1));
     }
 
-    /// One of the symbol's codes.
     fn symbol(&mut self, dc: bool, channel: usize, symbol: u8) {
         let ready = if dc { &self.dc[channel] } else { &self.ac[channel] };
-        let codes = &ready.codes[symbol as usize];
-        let (length, bits) = codes[self.random.below(codes.len())];
+        let (length, bits) = ready.codes[symbol as usize].expect("only listed symbols are written");
         self.bits(length, bits);
     }
 
@@ -304,8 +295,7 @@ impl Coder<'_> {
         let wrong = |&symbol: &u8| {
             let (run, size) = (symbol / 16, symbol % 16);
             match fault {
-                Fault::Size => size > 10 || (size == 0 && (1..15).contains(&run)),
-                Fault::RunPast => (1..=10).contains(&size) && place + usize::from(run) >= 64,
+                Fault::RunPast => size > 0 && place + usize::from(run) >= 64,
                 Fault::SkipPast => symbol == 240 && place > 48,
                 _ => false,
             }
@@ -323,9 +313,6 @@ impl Coder<'_> {
 
     /// The first symbol and its field, often towards the edges -2048 and 2047.
     fn first(&mut self, channel: usize) {
-        if self.wanted(Fault::Category) && self.unusable_category(channel) {
-            return;
-        }
         let predictor = self.predictors[channel];
         let difference = self.difference(channel, predictor);
         self.predictors[channel] = (predictor + difference).clamp(-2048, 2047);
@@ -335,36 +322,12 @@ impl Coder<'_> {
         self.bits(size.into(), field as u32);
     }
 
-    /// A category above 11 where the table lists one. Category 12 gets a difference that
-    /// stays within -2048..2047.
-    fn unusable_category(&mut self, channel: usize) -> bool {
-        let listed = &self.dc[channel].listed;
-        let unusable: Vec<u8> = listed.iter().copied().filter(|&symbol| symbol > 11).collect();
-        if unusable.is_empty() {
-            return false;
-        }
-        self.fault = None;
-        let symbol = if unusable.contains(&12) { 12 } else { self.random.pick(&unusable) };
-        self.symbol(true, channel, symbol);
-        if symbol == 12 {
-            let low = self.predictors[channel] >= 0;
-            self.predictors[channel] += if low { -2048 } else { 2048 };
-            self.bits(12, if low { 2047 } else { 2048 });
-        } else {
-            let field = self.field(symbol.min(16).into());
-            self.bits(symbol.min(16).into(), field);
-        }
-        true
-    }
-
     /// A difference whose category the table lists.
     fn difference(&mut self, channel: usize, predictor: i32) -> i32 {
         if let Some(difference) = self.steered(channel, predictor) {
             return difference;
         }
-        let listed = self.dc[channel].listed.iter().copied();
-        let usable: Vec<u8> = listed.filter(|&symbol| symbol <= 11).collect();
-        let size = self.random.pick(&usable);
+        let size = self.random.pick(&self.dc[channel].listed);
         if size == 0 {
             return 0;
         }

@@ -1,9 +1,13 @@
-//! That the valid files really hold what they are meant to hold.
+//! That the valid files really hold what they are meant to hold, and that careless tables
+//! come up in every way.
 
-use super::files;
+use super::flaws::{self, Flaw};
+use super::{files, Generator};
+use crate::answer;
 use crate::bits::{meaning, Bits};
 use crate::calls::{self, Limits, UNLIMITED};
-use crate::huffman::Codes;
+use crate::header;
+use crate::huffman::{self, Codes};
 use crate::layout;
 use crate::random::Random;
 use crate::record::Record;
@@ -15,16 +19,14 @@ fn note(seen: &mut Seen, what: &str) {
     *seen.entry(what.to_string()).or_default() += 1;
 }
 
-/// The next symbol, noting its code's length and whether it is not the symbol's first.
+/// The next symbol, noting its code's length.
 fn symbol(bits: &mut Bits, codes: &Codes, seen: &mut Seen) -> u8 {
     let mut code = 0;
     for length in 1..=16 {
         code = 2 * code + bits.bit().unwrap();
         if let Some(symbol) = codes.symbol(length, code) {
             note(seen, &format!("code of {length} bits"));
-            if codes.code(symbol) != Some((length as u32, code)) {
-                note(seen, "later code of a repeated symbol");
-            }
+            assert_eq!(codes.code(symbol), Some((length as u32, code)));
             return symbol;
         }
     }
@@ -102,12 +104,18 @@ fn look(file: &[u8], record: &Record, seen: &mut Seen) {
     if (0..4).any(|id| record.quantizers[id as usize] != 0 && !used.contains(&id)) {
         note(seen, "unused quantizer");
     }
+    let total = |&place: &u64| huffman::total(&file[place as usize..]);
+    if record.dc_tables.iter().any(|place| *place != 0 && total(place) == 12) {
+        note(seen, "DC table of 12 symbols");
+    }
+    if record.ac_tables.iter().any(|place| *place != 0 && total(place) == 162) {
+        note(seen, "AC table of 162 symbols");
+    }
 }
 
 /// Everything that must come up at least ten times.
 fn wanted() -> Vec<String> {
     let mut list: Vec<String> = [
-        "later code of a repeated symbol",
         "first value -2048",
         "first value 2047",
         "end code",
@@ -119,6 +127,8 @@ fn wanted() -> Vec<String> {
         "255 in the data",
         "255 as the last byte before a marker",
         "unused quantizer",
+        "DC table of 12 symbols",
+        "AC table of 162 symbols",
         "settle 7 Less",
         "settle 7 Equal",
         "settle 7 Greater",
@@ -147,8 +157,135 @@ fn valid_files_hold_everything() {
         look(&file, &record, &mut seen);
         walk(&file, &record, &mut seen);
     }
-    for what in wanted() {
-        let times = seen.get(&what).copied().unwrap_or(0);
+    each_ten_times(&wanted(), &seen);
+}
+
+fn each_ten_times(wanted: &[String], seen: &Seen) {
+    for what in wanted {
+        let times = seen.get(what).copied().unwrap_or(0);
         assert!(times >= 10, "{what}: {times} times");
     }
+}
+
+/// The header's number, 0 where it gives a record.
+fn header_number(file: &[u8]) -> u8 {
+    header::read(file, 0).err().unwrap_or(0)
+}
+
+/// What one careless symbol is to the file that has it.
+fn look_at_flaw(file: &[u8], flaw: &Flaw, seen: &mut Seen) {
+    let number = header_number(file);
+    let Some(mended) = flaw.mended(file) else {
+        // The table lists all symbols of its class.
+        if number == 4 {
+            note(seen, &format!("one symbol again in a table of {}", flaw.symbols.len()));
+        }
+        return;
+    };
+    let otherwise = header_number(&mended);
+    assert!(number == 4 || number == otherwise, "{number} where it would be {otherwise}");
+    note(seen, &format!("{number} where it would be {otherwise}"));
+    if otherwise != 0 {
+        return;
+    }
+    assert_eq!(number, 4);
+    let scan = calls::inspect(&mended, 0, &Limits::NONE, UNLIMITED).0.number;
+    either(seen, scan == 0, "nothing else is wrong", "the scan is wrong too");
+    note(seen, &format!("{}, {}", flaw.kind(), flaw.place));
+    match flaw.twin() {
+        Some(twin) => {
+            let last = flaw.symbols.len() - 1;
+            let (one, other) = (flaw.length(twin), flaw.length(flaw.at));
+            either(seen, one == other, "twice, at one length", "twice, at two lengths");
+            either(seen, twin + 1 == flaw.at, "twice, neighbours", "twice, apart");
+            either(seen, (twin, flaw.at) == (0, last), "twice, at both ends", "twice, elsewhere");
+        }
+        None => {
+            let symbol = flaw.symbols[flaw.at];
+            note(seen, &format!("{} {symbol}", ["DC", "AC"][flaw.class]));
+            note(seen, &format!("{} size {}", ["DC", "AC"][flaw.class], symbol % 16));
+        }
+    }
+}
+
+/// Everything about careless tables that must come up at least ten times.
+fn wanted_of_flaws() -> Vec<String> {
+    let mut list: Vec<String> = [
+        "one symbol again in a table of 13",
+        "one symbol again in a table of 163",
+        "a table of 256",
+        "a table of 257",
+        "4 where it would be 0",
+        "4 where it would be 3",
+        "4 where it would be 4",
+        "4 where it would be 5",
+        "3 where it would be 3",
+        "5 where it would be 5",
+        "nothing else is wrong",
+        "the scan is wrong too",
+        "twice, at one length",
+        "twice, at two lengths",
+        "twice, neighbours",
+        "twice, at both ends",
+        "twice, elsewhere",
+        "no flaw, DC 11",
+        "no flaw, AC 10",
+        "no flaw, AC 240",
+        "no flaw, AC 250",
+    ]
+    .map(String::from)
+    .to_vec();
+    for kind in ["DC symbol twice", "AC symbol twice", "DC above 11", "AC never taken"] {
+        list.extend(flaws::PLACES.map(|place| format!("{kind}, {place}")));
+    }
+    list.extend([12, 15, 16, 255].map(|symbol| format!("DC {symbol}")));
+    list.extend((1..=14).map(|run| format!("AC {}", 16 * run)));
+    list.extend((11..=15).map(|size| format!("AC size {size}")));
+    list.extend([11, 251].map(|symbol| format!("AC {symbol}")));
+    list
+}
+
+#[test]
+fn careless_tables_come_up() {
+    let (mut random, mut seen) = (Random::new(22), Seen::new());
+    for _ in 0..40_000 {
+        for file in files::group(&mut random) {
+            let tables = flaws::tables(&file);
+            let found = flaws::flaws(&file);
+            if let [flaw] = &found[..] {
+                look_at_flaw(&file, flaw, &mut seen);
+            }
+            let refused = header_number(&file);
+            for (class, symbols) in tables {
+                if found.is_empty() && refused == 0 {
+                    let class = ["DC", "AC"][class];
+                    symbols.iter().for_each(|s| note(&mut seen, &format!("no flaw, {class} {s}")));
+                } else if refused == 4 && symbols.len() > 255 {
+                    note(&mut seen, &format!("a table of {}", symbols.len()));
+                }
+            }
+        }
+    }
+    each_ten_times(&wanted_of_flaws(), &seen);
+}
+
+/// The record from before the damage is not the file's: the table is refused when read.
+#[test]
+fn decode_meets_careless_tables() {
+    let (mut generator, mut met) = (Generator::new(Random::new(23)), 0);
+    for _ in 0..60_000 {
+        let case = generator.next();
+        let (Some(record), [flaw]) = (&case.record, &flaws::flaws(&case.file)[..]) else {
+            continue;
+        };
+        let before =
+            flaw.mended(&case.file).and_then(|file| header::read(&file, record.colour).ok());
+        if before.as_ref() == Some(record) {
+            let line = answer::line(&case);
+            let number = line.split(' ').nth(1).unwrap();
+            assert!(["2", "7", "8"].contains(&number), "{line}");
+            met += u32::from(number == "8");
+        }
+    }
+    assert!(met >= 50, "{met} times");
 }

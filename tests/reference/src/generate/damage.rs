@@ -1,13 +1,16 @@
 //! Damage: to fields of the head one at a time, and to bytes anywhere.
 
+use super::careless;
 use super::draft::Draft;
 use super::plan::{Length, Segment};
+use super::tables;
+use crate::huffman;
 use crate::random::Random;
 
 type Damage = fn(&mut Draft, &mut Random);
 
 /// Each changes one thing around a boundary of the rules.
-const HEAD_DAMAGE: [Damage; 31] = [
+const HEAD_DAMAGE: [Damage; 33] = [
     frame_field,
     frame_field,
     frame_sampling,
@@ -26,12 +29,14 @@ const HEAD_DAMAGE: [Damage; 31] = [
     table_gone,
     front_huffman,
     front_huffman,
+    front_full,
     front_empty,
     quantizer_field,
     quantizer_body,
     huffman_field,
     huffman_counts,
     huffman_body,
+    huffman_symbol,
     interval_body,
     marker_code,
     length_field,
@@ -311,7 +316,7 @@ fn huffman_counts(draft: &mut Draft, random: &mut Random) {
     if segment.body.len() < 17 {
         return;
     }
-    let old: usize = segment.body[1..17].iter().map(|&count| usize::from(count)).sum();
+    let old = huffman::total(&segment.body[1..]);
     match random.below(4) {
         0 => segment.body[1..17].fill(0),
         1 => {
@@ -325,11 +330,19 @@ fn huffman_counts(draft: &mut Draft, random: &mut Random) {
             (segment.body[15], segment.body[16]) = (random.pick(&[255, 254]), last);
         }
     }
-    let new: usize = segment.body[1..17].iter().map(|&count| usize::from(count)).sum();
+    let new = huffman::total(&segment.body[1..]);
     let kept = random.chance(1, 4);
-    for _ in old..if kept { old } else { new } {
-        segment.body.insert(17, 0);
+    for total in old..if kept { old } else { new } {
+        add_symbol(random, &mut segment.body, total);
     }
+}
+
+/// One symbol more in the first table, which has so many; one that it may list, if there is
+/// any left.
+fn add_symbol(random: &mut Random, body: &mut Vec<u8>, total: usize) {
+    let end = (17 + total).min(body.len());
+    let symbol = careless::spare(body[0] / 16, &body[17..end], random).unwrap_or(0);
+    body.insert(17, symbol);
 }
 
 /// Gives one length just as many codes as fit there, or one more.
@@ -346,7 +359,6 @@ fn fill_length(random: &mut Random, body: &mut [u8]) {
 /// A table at the very front, where it is unused or replaced: right at the edge of what
 /// fits, or one past it, or with no symbol, 256 or 257.
 fn front_huffman(draft: &mut Draft, random: &mut Random) {
-    let mut body = vec![random.pick(&[0, 1, 2, 3, 16, 17, 18, 19])];
     let mut counts = [0u8; 16];
     let any = random.between(1, 16) as usize;
     let length = random.pick(&[any, any, 16]);
@@ -369,9 +381,33 @@ fn front_huffman(draft: &mut Draft, random: &mut Random) {
         }
         _ => counts[length - 1] = 1 + over,
     }
-    let symbols: usize = counts.iter().map(|&count| usize::from(count)).sum();
-    body.extend(counts);
-    body.extend((0..symbols).map(|_| random.byte()));
+    let class = if huffman::total(&counts) > 12 { 1 } else { random.pick(&[0, 1]) };
+    front_table(draft, random, class, &counts);
+}
+
+/// A table at the very front with all symbols of its class, or with one more, which is then
+/// listed twice.
+fn front_full(draft: &mut Draft, random: &mut Random) {
+    let class = random.pick(&[0, 1]);
+    let more = random.below(2);
+    let counts = tables::counts(random, tables::usable(class).len() + more);
+    front_table(draft, random, class, &counts);
+}
+
+/// Lists usable symbols as far as there are any, then one of them again or unusable ones.
+fn front_table(draft: &mut Draft, random: &mut Random, class: u8, counts: &[u8; 16]) {
+    let mut symbols = tables::usable(class);
+    let all = symbols.len();
+    random.shuffle(&mut symbols);
+    let total = huffman::total(counts);
+    if total == all + 1 {
+        symbols.push(random.pick(&symbols));
+    }
+    symbols.extend((0..=255).filter(|&symbol| !tables::usable(class).contains(&symbol)));
+    symbols.push(0);
+    symbols.truncate(total);
+    let id = random.between(0, 3) as u8;
+    let body = [&[16 * class + id][..], counts, &symbols].concat();
     draft.segments.insert(0, Segment::new(196, body));
 }
 
@@ -384,6 +420,17 @@ fn front_empty(draft: &mut Draft, random: &mut Random) {
 fn huffman_body(draft: &mut Draft, random: &mut Random) {
     if let Some(segment) = find(draft, random, &[196]) {
         resize(random, &mut segment.body, &[0, 1, 16, 17, 18, 19]);
+    }
+}
+
+/// A symbol that makes a table careless, or nearly does.
+fn huffman_symbol(draft: &mut Draft, random: &mut Random) {
+    let Some(place) = careless::one(&mut draft.segments, random) else {
+        return;
+    };
+    // A length past the file's end comes before what the segment holds.
+    if random.chance(1, 6) {
+        draft.segments[place.segment].length = Length::ToEnd(random.pick(&[0, 1, 1, 2]));
     }
 }
 

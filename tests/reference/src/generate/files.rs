@@ -1,5 +1,7 @@
-//! Random files: valid, with one fault in the scan, with a damaged head, with damaged bytes.
+//! Random files: valid, with one fault in the scan, with a damaged head, with damaged bytes;
+//! and now and then any of these with a careless table besides.
 
+use super::careless;
 use super::coder::{self, Fault, FAULTS};
 use super::damage;
 use super::draft::Draft;
@@ -14,10 +16,11 @@ pub type Group = Vec<Vec<u8>>;
 pub fn group(random: &mut Random) -> Group {
     loop {
         let group = match random.between(1, 100) {
-            1..=24 => valid_group(random),
-            25..=46 => vec![faulty(random)],
-            47..=86 => vec![damaged_head(random)],
-            87..=98 => vec![damaged_bytes(random)],
+            1..=25 => valid_group(random),
+            26..=27 => twins(random),
+            28..=46 => vec![faulty(random)],
+            47..=87 => vec![damaged_head(random)],
+            88..=98 => vec![damaged_bytes(random)],
             _ => vec![scrap(random)],
         };
         if group.iter().all(|file| file.len() as u64 <= MOST) {
@@ -41,6 +44,29 @@ fn valid_group(random: &mut Random) -> Group {
         group.push(sibling(random, &plan));
     }
     group
+}
+
+/// A valid file, and files that differ from it in one symbol of a table, mostly a careless
+/// one: the record of the first would be theirs too.
+pub fn twins(random: &mut Random) -> Group {
+    let plan = plan::plan(random);
+    let (scan, _) = coder::scan(&plan.shape, random, None);
+    let mut draft = Draft::new(&plan, scan);
+    let place = careless::prepare(&mut draft.segments, random).expect("a plan has tables");
+    let mut group = vec![draft.bytes()];
+    for _ in 0..random.between(1, 3) {
+        let mut twin = draft.clone();
+        careless::spoil(&mut twin.segments, place, random);
+        group.push(twin.bytes());
+    }
+    group
+}
+
+/// Spoils a table of one file in forty, whatever else is wrong with it.
+fn sometimes_careless(random: &mut Random, draft: &mut Draft) {
+    if random.chance(1, 40) {
+        careless::one(&mut draft.segments, random);
+    }
 }
 
 /// Another file with the same head, or nearly the same.
@@ -75,33 +101,43 @@ fn change_unrecorded(random: &mut Random, segment: &mut Segment, change: usize) 
 /// A file with one fault in its scan; a few heads are tried until it comes about.
 fn faulty(random: &mut Random) -> Vec<u8> {
     let fault = random.pick(&FAULTS);
-    faulty_with(random, fault).0
+    let (mut draft, _) = faulty_with(random, fault);
+    sometimes_careless(random, &mut draft);
+    draft.bytes()
 }
 
 /// The file, and whether the fault came about.
-pub fn faulty_with(random: &mut Random, fault: Fault) -> (Vec<u8>, bool) {
+pub fn faulty_with(random: &mut Random, fault: Fault) -> (Draft, bool) {
     let mut tries = 8;
     loop {
         let plan = plan::plan(random);
         let (scan, came) = coder::scan(&plan.shape, random, Some(fault));
         tries -= 1;
         if came || tries == 0 {
-            return (Draft::new(&plan, scan).bytes(), came);
+            return (Draft::new(&plan, scan), came);
         }
     }
 }
 
-fn damaged_head(random: &mut Random) -> Vec<u8> {
+/// A file on which nothing is wrong but, now and then, a careless table.
+fn to_damage(random: &mut Random) -> Draft {
     let plan = plan::plan(random);
     let (scan, _) = coder::scan(&plan.shape, random, None);
     let mut draft = Draft::new(&plan, scan);
+    sometimes_careless(random, &mut draft);
+    draft
+}
+
+fn damaged_head(random: &mut Random) -> Vec<u8> {
+    let mut draft = to_damage(random);
     damage::head(&mut draft, random);
     draft.bytes()
 }
 
 fn damaged_bytes(random: &mut Random) -> Vec<u8> {
-    let (plan, mut file) = valid(random);
-    let head = Draft::new(&plan, Vec::new()).bytes().len();
+    let draft = to_damage(random);
+    let mut file = draft.bytes();
+    let head = file.len() - draft.scan.len();
     damage::bytes(&mut file, head, random);
     file
 }

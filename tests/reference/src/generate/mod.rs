@@ -1,6 +1,7 @@
 //! The generator of cases: the same ones for the same seed and part.
 
 mod bounds;
+mod careless;
 mod coder;
 mod damage;
 mod draft;
@@ -10,6 +11,8 @@ mod tables;
 
 #[cfg(test)]
 mod coverage;
+#[cfg(test)]
+mod flaws;
 #[cfg(test)]
 mod tests;
 
@@ -88,6 +91,8 @@ impl Generator {
                 (true, ..) => (1, 1),
                 (_, true, _) => (2, 4),
                 (_, _, INSPECT | SETTLE) => (1, 2),
+                // A damaged head, while the record from before the damage is at hand.
+                (_, _, DECODE_GIVEN) if facts.head.is_none() && first.is_some() => (1, 2),
                 _ => (0, 1),
             };
             let count = self.random.between(low, high);
@@ -144,7 +149,8 @@ impl Generator {
     /// A record for job 4.
     fn given(&mut self, facts: &Facts, first: Option<&Record>) -> Record {
         let random = &mut self.random;
-        let own = facts.head.clone().unwrap_or_else(|| random_of(random, &self.records));
+        let own = facts.head.as_ref().or(first).cloned();
+        let own = own.unwrap_or_else(|| random_of(random, &self.records));
         let mut record = match random.below(10) {
             0..=2 => own,
             3..=5 => {

@@ -51,7 +51,7 @@ impl Table {
 }
 
 /// Counts for so many symbols (1 to 256) that fit, in one of several shapes.
-fn counts(random: &mut Random, total: usize) -> [u8; 16] {
+pub fn counts(random: &mut Random, total: usize) -> [u8; 16] {
     let shape = random.below(5);
     let mut counts = [0; 16];
     let (mut next, mut left) = (0u64, total as u64);
@@ -96,7 +96,7 @@ pub fn quantizer(random: &mut Random, manner: Manner) -> [u8; 64] {
     }
 }
 
-/// A DC table with at least one usable category.
+/// A DC table.
 pub fn dc_table(random: &mut Random, manner: Manner) -> Table {
     let most = if manner.mild { 6 } else { 11 };
     let mut symbols = match random.below(5) {
@@ -109,14 +109,7 @@ pub fn dc_table(random: &mut Random, manner: Manner) -> Table {
     if symbols.is_empty() || manner.short {
         symbols.push(0);
     }
-    let unusable = |random: &mut Random| {
-        if random.chance(1, 2) {
-            12
-        } else {
-            random.between(12, 255) as u8
-        }
-    };
-    finish(random, manner, symbols, unusable)
+    finish(random, manner, symbols)
 }
 
 /// An AC table with which every block can be ended.
@@ -128,16 +121,7 @@ pub fn ac_table(random: &mut Random, manner: Manner) -> Table {
     if !finishes(&symbols)[1] {
         symbols.push(if random.chance(2, 3) { 0 } else { 1 });
     }
-    let unusable = |random: &mut Random| {
-        let run = random.between(0, 15) as u8;
-        let size = random.pick(&[0, 11, 12, 13, 14, 15]);
-        if size == 0 {
-            16 * run.clamp(1, 14)
-        } else {
-            16 * run + size
-        }
-    };
-    finish(random, manner, symbols, unusable)
+    finish(random, manner, symbols)
 }
 
 fn ac_symbols(random: &mut Random, manner: Manner) -> Vec<u8> {
@@ -186,26 +170,20 @@ pub fn step(symbol: u8, place: usize) -> Option<usize> {
     ((1..=10).contains(&size) && place + run < 64).then_some(place + run + 1)
 }
 
-/// Adds unusable and repeated symbols, mixes the order and gives codes.
-fn finish(
-    random: &mut Random,
-    manner: Manner,
-    mut symbols: Vec<u8>,
-    unusable: impl Fn(&mut Random) -> u8,
-) -> Table {
-    let usable = symbols.clone();
-    if random.chance(1, 3) {
-        (0..random.between(1, 4)).for_each(|_| symbols.push(unusable(random)));
-    }
-    if random.chance(1, 4) {
-        (0..random.between(1, 6)).for_each(|_| symbols.push(random.pick(&usable)));
-    }
-    if random.chance(1, 60) {
-        let full = random.pick(&[256, 255]).max(symbols.len());
-        while symbols.len() < full {
-            symbols.push(if random.chance(1, 2) { random.pick(&usable) } else { unusable(random) });
-        }
-    }
+/// All symbols that a table of this class (0 for DC, 1 for AC) may list: those that some place
+/// of a block takes.
+pub fn usable(class: u8) -> Vec<u8> {
+    let taken = |symbol: u8| match class {
+        0 => symbol <= 11,
+        _ => symbol == 0 || step(symbol, 1).is_some(),
+    };
+    (0..=255).filter(|&symbol| taken(symbol)).collect()
+}
+
+/// Lists each symbol once, mixes the order and gives codes.
+fn finish(random: &mut Random, manner: Manner, mut symbols: Vec<u8>) -> Table {
+    symbols.sort_unstable();
+    symbols.dedup();
     random.shuffle(&mut symbols);
     if manner.short || random.chance(1, 3) {
         // Frequent symbols first: smaller files.
@@ -223,7 +201,7 @@ mod tests {
     fn tables_fit_and_use_every_length() {
         let mut random = Random::new(1);
         let mut used = [false; 16];
-        let mut largest = 0;
+        let mut largest = [0; 2];
         for round in 0..4000 {
             let manner = Manner {
                 mild: round % 2 == 0,
@@ -231,16 +209,19 @@ mod tests {
                 short: round % 5 == 0,
                 length: 4,
             };
-            for table in [dc_table(&mut random, manner), ac_table(&mut random, manner)] {
+            let pair = [dc_table(&mut random, manner), ac_table(&mut random, manner)];
+            for (class, table) in pair.iter().enumerate() {
                 assert!(huffman::fits(&table.counts));
+                assert!(huffman::may_list(class as u8, &table.symbols));
                 assert_eq!(huffman::total(&table.counts), table.symbols.len());
                 assert_eq!(table.codes().len(), table.symbols.len());
-                largest = largest.max(table.symbols.len());
+                largest[class] = largest[class].max(table.symbols.len());
                 (0..16).for_each(|i| used[i] |= table.counts[i] > 0);
             }
         }
         assert_eq!(used, [true; 16]);
-        assert_eq!(largest, 256);
+        assert_eq!(largest, [12, 162]);
+        assert_eq!([usable(0).len(), usable(1).len()], largest);
     }
 
     #[test]

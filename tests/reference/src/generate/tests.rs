@@ -5,6 +5,7 @@ use super::coder::FAULTS;
 use super::*;
 use crate::answer;
 use crate::calls::{self, Limits, UNLIMITED};
+use crate::header;
 use crate::scan;
 
 fn inspect(file: &[u8]) -> (u8, Record) {
@@ -62,8 +63,8 @@ fn faults_are_refused() {
     for fault in FAULTS {
         let (mut came, mut refused) = (0, 0);
         for _ in 0..200 {
-            let (file, happened) = files::faulty_with(&mut random, fault);
-            let number = inspect(&file).0;
+            let (draft, happened) = files::faulty_with(&mut random, fault);
+            let number = inspect(&draft.bytes()).0;
             assert!(number == 0 || number == 4, "{fault:?} gives {number}");
             came += u32::from(happened);
             refused += u32::from(happened && number == 4);
@@ -72,6 +73,27 @@ fn faults_are_refused() {
         let steady = fault == super::coder::Fault::Carried || refused == came;
         assert!(steady || refused * 10 > came * 8, "{fault:?}: {refused} of {came}");
     }
+}
+
+#[test]
+fn twins_have_the_record_of_the_first_or_are_refused() {
+    let (mut random, mut refused) = (Random::new(16), 0);
+    for _ in 0..1000 {
+        let group = files::twins(&mut random);
+        let (number, record) = inspect(&group[0]);
+        assert_eq!(number, 0);
+        for twin in &group[1..] {
+            assert_eq!(twin.len(), group[0].len());
+            match header::read(twin, 1) {
+                Ok(own) => assert_eq!(own, record),
+                Err(number) => {
+                    assert_eq!(number, 4);
+                    refused += 1;
+                }
+            }
+        }
+    }
+    assert!(refused >= 1000, "{refused} refused");
 }
 
 #[test]
