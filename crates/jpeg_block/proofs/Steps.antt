@@ -17,12 +17,12 @@ use Rattle.reading.specs.declared.NumberRead.the-variants as number
 use Rattle.reading.specs.declared.AmplitudeRead.{AmplitudeRead}
 use Rattle.reading.specs.declared.AmplitudeRead.the-variants as amplitude
 use Rattle.reading.specs.Reader.{Read, got, fault, onward, rule, _>>_, give}
-use Rattle.reading.specs.Tests.{_and_, within}
 use Rattle.reading.specs.Bits.{one, amplitude}
 use Rattle.reading.specs.Code.Fields.{shortAmplitude}
 use Rattle.reading.specs.Huffman.{tableAt, symbol}
 use Rattle.reading.specs.Block.{Ask, end, skip, value, wrong, asked, predictable}
 use Rattle.reading.specs.Code.Answers.{numberRead, amplitudeRead}
+use Rattle.reading.proofs.Taken.{Says, asked-says}
 use Rattle.jpeg_block.specs.declared.Asked.{Asked}
 use Rattle.jpeg_block.specs.declared.Asked.the-variants as asked
 use Rattle.jpeg_block.specs.declared.StepRead.{StepRead}
@@ -43,25 +43,13 @@ Possible place (value run size) = Room place run size
 Possible place wrong = Unit {0}
 
 pub asked-possible : (place x : ℕ) → Possible place (asked place x)
-asked-possible place x = at-end (eqb x 0)
+asked-possible place x = go (asked place x) (asked-says place x)
   where
-    number : (a b c : Bool) → leb 1 (x % 16) ≡ a → leb (x % 16) 10 ≡ b → ltb (place + x / 16) 64 ≡ c → Possible place (cond ((a and b) and c) (value (x / 16) (x % 16)) wrong)
-    number true true true d e f = record { few = omega (arith, leb-true (x % 16) 10 e); inside = ltb-true _ _ f; sized = λ _. leb-true 1 (x % 16) d }
-    number true true false d e f = tt
-    number true false c d e f = tt
-    number false b c d e f = tt
-
-    zeros : (t : Bool) → leb place 48 ≡ t → Possible place (cond t skip wrong)
-    zeros true e = leb-true place 48 e
-    zeros false e = tt
-
-    at-240 : (t : Bool) → Possible place (cond t (cond (leb place 48) skip wrong) (cond (within 1 10 (x % 16) and ltb (place + x / 16) 64) (value (x / 16) (x % 16)) wrong))
-    at-240 true = zeros (leb place 48) refl
-    at-240 false = number (leb 1 (x % 16)) (leb (x % 16) 10) (ltb (place + x / 16) 64) refl refl refl
-
-    at-end : (t : Bool) → Possible place (cond t end (cond (eqb x 240) (cond (leb place 48) skip wrong) (cond (within 1 10 (x % 16) and ltb (place + x / 16) 64) (value (x / 16) (x % 16)) wrong)))
-    at-end true = tt
-    at-end false = at-240 (eqb x 240)
+    go : (a : Ask) → Says place x a → Possible place a
+    go end h = tt
+    go skip h = h .1
+    go (value run size) h = record { few = omega (arith, h .few); inside = h .inside; sized = λ _. h .some }
+    go wrong h = tt
 
 pub ask-possible : (place x : ℕ) → Possible place (askAt place x)
 unfolding askAt

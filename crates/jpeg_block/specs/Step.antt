@@ -2,22 +2,22 @@
 -- the same step, at place 0.
 use Prim.Native.Nat.{ℕ, _+_}
 use mathlib.Core.Bool.{cond}
-use lib.Dec.{leb, eqb}
+use lib.Dec.{eqb}
 use lib.IntN.{ℤ, _+ℤ_}
 use Rattle.reading.specs.declared.Bits.{Bits}
 use Rattle.reading.specs.declared.Fault.the-variants.{Broken}
 use Rattle.reading.specs.Reader.{Read, got, fault, Reader, _>>=_, _>>_, give, fail, rule}
 use Rattle.reading.specs.Bits.{amplitude}
 use Rattle.reading.specs.Huffman.{Table, symbol}
-use Rattle.reading.specs.Block.{Ask, end, skip, value, wrong, asked, predictable}
+use Rattle.reading.specs.Block.{Ask, end, skip, value, wrong, dcTaken, asked, predictable}
 use Rattle.jpeg_block.specs.declared.Asked.{Asked}
 use Rattle.jpeg_block.specs.declared.Asked.the-variants as asked
 use Rattle.jpeg_block.specs.declared.StepRead.{StepRead}
 use Rattle.jpeg_block.specs.declared.StepRead.the-variants as read
 
--- what a symbol asks for: the first one is a category 0..11
+-- what a symbol asks for: the first one is a category
 unfoldable pub askAt : ℕ → ℕ → Ask
-askAt place x = cond (eqb place 0) (cond (leb x 11) (value 0 x) wrong) (asked place x)
+askAt place x = cond (eqb place 0) (cond (dcTaken x) (value 0 x) wrong) (asked place x)
 
 abbrev pub askedFor : Asked → Ask
 askedFor asked.End = end

@@ -1,6 +1,6 @@
 -- Each test on a body by its ways out, as the code finds them: one law for each way.
-use Prim.Native.Nat.{ℕ, _+_, _*_, _/_, _%_, _<_, _≤_}
-use mathlib.Core.Path.{_≡_, sym}
+use Prim.Native.Nat.{ℕ, _+_, _-_, _*_, _/_, _%_, _<_, _≤_}
+use mathlib.Core.Path.{_≡_, refl, sym}
 use mathlib.Core.Bool.{Bool, true, false, cond}
 use mathlib.Core.List.{List, [], _∷_}
 use native.Mathlib.Omega.{arith}
@@ -9,11 +9,11 @@ use lib.ListN.{length, take, drop, getD, length-take}
 use borrow.Author.Tests.{le-leb, lt-leb, lt-ltb, le-ltb, eq-eqb, ne-eqb}
 use Rattle.reading.specs.declared.Frame.{Frame}
 use Rattle.reading.specs.declared.Record.{Record}
-use Rattle.reading.specs.Tests.{_and_, _or_, all, within}
+use Rattle.reading.specs.Tests.{_and_, _or_, apart, all, within}
 use Rattle.reading.specs.Huffman.{sum}
 use Rattle.jpeg_huffman.specs.Fitting.{countsFit}
 use Rattle.reading.specs.Tables.{quantAt, dcAt, acAt}
-use Rattle.reading.specs.Header.{byte, word, each, quantizerFits, countsOf, tableFits, frameKnown, acrossOf, downOf, quantsFit, threeFit, frameOf, frameFits, dcId, acId, sequential, scanKnown}
+use Rattle.reading.specs.Header.{byte, word, each, quantizerFits, countsOf, symbolsOf, listable, tableFits, frameKnown, acrossOf, downOf, quantsFit, threeFit, frameOf, frameFits, dcId, acId, sequential, scanKnown}
 
 -- a chain of tests, by one that fails, and behind one that passes
 pub and-no : (a b : Bool) → a ≡ false → (a and b) ≡ false
@@ -60,10 +60,33 @@ module _ (b : List ℕ) where
             pub table-past : length b < 17 + sum (countsOf b) → false ≡ tableFits b
             table-past h = rw (le-leb 17 (length b) long, le-leb (byte b 0 / 16) 1 class, le-leb (byte b 0 % 16) 3 id, le-leb 1 (sum (countsOf b)) some, le-leb (sum (countsOf b)) 256 few, lt-leb (17 + sum (countsOf b)) (length b) h)
 
-            pub table-codes : 17 + sum (countsOf b) ≤ length b → countsFit (countsOf b) ≡ tableFits b
-            table-codes h =
-                let short : length (countsOf b) ≤ 16 = rw (length-take 16 (drop 1 b)) (omega arith) in
-                rw (le-leb 17 (length b) long, le-leb (byte b 0 / 16) 1 class, le-leb (byte b 0 % 16) 3 id, le-leb 1 (sum (countsOf b)) some, le-leb (sum (countsOf b)) 256 few, le-leb (17 + sum (countsOf b)) (length b) h, le-leb (length (countsOf b)) 16 short)
+-- a table that passed these: what is left is asked of its codes and of its symbols
+pub record Whole (b : List ℕ) : Type 0 where
+  pub long : 17 ≤ length b
+  pub class : byte b 0 / 16 ≤ 1
+  pub id : byte b 0 % 16 ≤ 3
+  pub some : 1 ≤ sum (countsOf b)
+  pub few : sum (countsOf b) ≤ 256
+  pub inside : 17 + sum (countsOf b) ≤ length b
+
+module _ (b : List ℕ) (w : Whole b) where
+  codes-on : (r : Bool) → (countsFit (countsOf b) and apart (symbolsOf b) and all (listable (byte b 0 / 16)) (symbolsOf b)) ≡ r → r ≡ tableFits b
+  codes-on r e =
+      let short : length (countsOf b) ≤ 16 = rw (length-take 16 (drop 1 b)) (omega arith) in
+      rw (le-leb 17 (length b) (w .long), le-leb (byte b 0 / 16) 1 (w .class), le-leb (byte b 0 % 16) 3 (w .id))
+      (rw (le-leb 1 (sum (countsOf b)) (w .some), le-leb (sum (countsOf b)) 256 (w .few), le-leb (17 + sum (countsOf b)) (length b) (w .inside))
+      (rw (le-leb (length (countsOf b)) 16 short) at (sym e)))
+
+  pub table-codes : countsFit (countsOf b) ≡ false → false ≡ tableFits b
+  table-codes h = codes-on false (and-no (countsFit (countsOf b)) _ h)
+
+  -- `part`: the symbols as the code takes them
+  pub table-symbols :
+      countsFit (countsOf b) ≡ true → {k n : ℕ} → k ≡ byte b 0 → n ≡ sum (countsOf b)
+      → (let part = take (17 + n - 17) (drop 17 b) in apart part and all (listable (k / 16)) part) ≡ tableFits b
+  table-symbols h {k} {n} ek en =
+      let same : 17 + n - 17 ≡ sum (countsOf b) = omega arith in
+      rw (same, ek) (codes-on _ (and-on (countsFit (countsOf b)) _ _ h refl))
 
 -- ---- the frame's tests
 

@@ -6,10 +6,10 @@ ghost use mathlib.Core.Bool.{cond};
 ghost use mathlib.Core.List.{[], _∷_};
 ghost use lib.Dec.{ltb, eqb};
 ghost use lib.ListN.{getD};
-ghost use Rattle.reading.specs.Tests.{all};
+ghost use Rattle.reading.specs.Tests.{_and_, apart, all};
 ghost use Rattle.reading.specs.Huffman.{sum};
 ghost use Rattle.reading.specs.Tables.{chosen};
-ghost use Rattle.reading.specs.Header.{byte, word, each, quantizerFits, countsOf, tableFits, frameKnown, frameOf, quantsFit, threeFit, frameFits, scanKnown, inOrder, selected, complete};
+ghost use Rattle.reading.specs.Header.{byte, word, each, quantizerFits, countsOf, listable, tableFits, frameKnown, frameOf, quantsFit, threeFit, frameFits, scanKnown, inOrder, selected, complete};
 use reading::Frame;
 use reading::Record;
 
@@ -97,7 +97,43 @@ pub fn symbols(body: &[u8]) -> usize
     total
 }
 
-// class 0 or 1, id 0..3, 16 counts, 1 to 256 symbols, all inside the body, and the codes fit
+// whether a table of a class may list a symbol: one that a block takes from it
+fn listable(class: usize, x: usize) -> bool
+    ensures { λ r. ⌜ r ≡ listable class x ⌝ }
+{
+    if class == 0 {
+        return x <= 11;
+    }
+    if x == 0 {
+        return true;
+    }
+    if x == 240 {
+        return true;
+    }
+    reading::within(1, 10, x % 16)
+}
+
+// no symbol twice, and each one that a block takes: a symbol that was met is marked, so the list is walked once
+fn symbols_fit(class: usize, symbols: &[u8]) -> bool
+    ensures { λ r. ⌜ r ≡ (apart (now (symbols .entry)) and all (listable class) (now (symbols .entry))) ⌝ }
+{
+    let mut met = [false; 256];
+    let mut i: usize = 0;
+    while i < symbols.len() {
+        let x = symbols[i] as usize;
+        if met[x] {
+            return false;
+        }
+        if !listable(class, x) {
+            return false;
+        }
+        met[x] = true;
+        i += 1;
+    }
+    true
+}
+
+// class 0 or 1, id 0..3, 16 counts, 1 to 256 symbols, all inside the body, the codes fit, and so do the symbols
 pub fn table_fits(body: &[u8]) -> bool
     ensures { λ r. ⌜ r ≡ tableFits (now (body .entry)) ⌝ }
 {
@@ -121,7 +157,10 @@ pub fn table_fits(body: &[u8]) -> bool
     if body.len() < 17 + count {
         return false;
     }
-    jpeg_huffman::fits(&body[1..17])
+    if !jpeg_huffman::fits(&body[1..17]) {
+        return false;
+    }
+    symbols_fit(first / 16, &body[17..17 + count])
 }
 
 // ---- the frame

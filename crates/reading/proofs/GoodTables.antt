@@ -1,6 +1,6 @@
--- The tables of an accepted record stand before the first coded byte, and their codes fit.
+-- The tables of an accepted record stand before the first coded byte, their codes fit, and they list what a block takes, each symbol once.
 use Prim.Native.Nat.{ℕ, zero, suc, _+_, _*_, _-_, _/_, _%_, _<_, _≤_, zero-le, min}
-use mathlib.Core.Path.{_≡_, refl, sym, ap, _∙_, subst, subst⁻¹}
+use mathlib.Core.Path.{_≡_, refl, sym, ap, ap₂, _∙_, subst, subst⁻¹}
 use mathlib.Core.Bool.{Bool, true, false, not, cond}
 use mathlib.Core.List.{List, [], _∷_}
 use native.Mathlib.Omega.{arith}
@@ -13,6 +13,7 @@ use Rattle.reading.specs.Tables.{shapeIn, quantAt, dcAt, acAt}
 use Rattle.reading.proofs.ScanWritten.{GoodPlan}
 use lib.Dec.{T, eqb, ltb, leb, eqb→eq, leb→le, ltb→lt, lit<}
 use lib.ListN.{length, take, drop, getD, set, replicate, length-take, length-drop}
+use lib.Seq.{drop-drop}
 use Rattle.reading.specs.declared.Refusal.{Refusal}
 use Rattle.reading.specs.declared.Refusal.the-variants.{CutShort, Malformed, Unsupported}
 use Rattle.reading.specs.declared.Case.{Case}
@@ -21,21 +22,24 @@ use Rattle.reading.specs.declared.Kind.{Kind}
 use Rattle.reading.specs.declared.Kind.the-variants.{Quants, Tables, Frames, Scans, Intervals, Skips, Others}
 use Rattle.reading.specs.declared.Header.{Header}
 use Rattle.reading.specs.declared.Record.{Record}
-use Rattle.reading.specs.Tests.{_and_, _or_, within, all}
+use Rattle.reading.specs.Tests.{_and_, _or_, within, apart, all}
 use Rattle.reading.specs.Huffman.{tableAt, sum, codesFit}
-use Rattle.reading.specs.Header.{Stage, more, done, stop, byte, word, moved, window, quantizerFits, withQuantizer, countsOf, put, tableFits, withTable, frame, frameOf, frameFits, withFrame, withInterval, recordOf, complete, hasFrame, kindOf, segment, segmentEnd, marker, stepIn, step, opens, started, opening, header}
+use Rattle.reading.specs.Header.{Stage, more, done, stop, byte, word, moved, window, quantizerFits, withQuantizer, countsOf, symbolsOf, listable, put, tableFits, withTable, frame, frameOf, frameFits, withFrame, withInterval, recordOf, complete, hasFrame, kindOf, segment, segmentEnd, marker, stepIn, step, opens, started, opening, header}
 use Rattle.reading.proofs.Plain.{and-left, and-right, Good}
 use Rattle.reading.proofs.Fits.{within-known, TableKnown, table-known, all-at}
 use Rattle.reading.proofs.HeaderEnds.{is-so, segment-room, window-short, header-within}
 use Rattle.reading.proofs.HeaderPrefix.{take-drop-take}
 use Rattle.reading.proofs.Stages.{stop-or, chosen-or, steps-hold}
 
--- the place of a table that ends by `at`
-pub record TableOk (s : List ℕ) (at x : ℕ) : Type 0 where
+-- the place of a table of a class that ends by `at`
+pub record TableOk (class : ℕ) (s : List ℕ) (at x : ℕ) : Type 0 where
   pub fitting : T (codesFit (take 16 (drop x s)) 0 0)
   pub by : x + 16 + sum (take 16 (drop x s)) ≤ at
   -- 1 to 256 symbols
   pub some : (1 ≤ sum (take 16 (drop x s))) × (sum (take 16 (drop x s)) ≤ 256)
+  -- none twice, and each one that a block takes from a table of the class
+  pub alone : T (apart (tableAt s x .symbols))
+  pub taken : T (all (listable class) (tableAt s x .symbols))
 
 -- the place of a quantizer that ends by `at`
 pub record QuantOk (s : List ℕ) (at x : ℕ) : Type 0 where
@@ -64,14 +68,14 @@ places-at P (x ∷ l) (suc i) h k = places-at P l i (h .1) k
 module _ (s : List ℕ) (colour : Bool) where
   -- what holds of a header's state
   pub record Inv (h : Header) : Type 0 where
-    pub dcs : Places (TableOk s (h .at)) (h .dcs)
-    pub acs : Places (TableOk s (h .at)) (h .acs)
+    pub dcs : Places (TableOk 0 s (h .at)) (h .dcs)
+    pub acs : Places (TableOk 1 s (h .at)) (h .acs)
     pub quants : Places (QuantOk s (h .at)) (h .quants)
     pub lum : 0 < h .frame .channels → 0 < h .frame .hs * h .frame .vs
 
   pub record Ready (r : Record) : Type 0 where
-    pub dcs : Places (TableOk s (r .start)) (r .dcs)
-    pub acs : Places (TableOk s (r .start)) (r .acs)
+    pub dcs : Places (TableOk 0 s (r .start)) (r .dcs)
+    pub acs : Places (TableOk 1 s (r .start)) (r .acs)
     pub quants : Places (QuantOk s (r .start)) (r .quants)
     pub whole : T (complete r)
     pub some-channel : 0 < r .channels
@@ -83,15 +87,15 @@ module _ (s : List ℕ) (colour : Bool) where
     ready : (r : Record) → Ready r → Kept (done r)
     off : (x : Refusal) → Kept (stop x)
 
-  later : (a b : ℕ) → a ≤ b → (x : ℕ) → TableOk s a x → TableOk s b x
-  later a b h x t = record { fitting = t .fitting; by = le-trans (t .by) h; some = t .some }
+  later : {class : ℕ} (a b : ℕ) → a ≤ b → (x : ℕ) → TableOk class s a x → TableOk class s b x
+  later a b h x t = record { fitting = t .fitting; by = le-trans (t .by) h; some = t .some; alone = t .alone; taken = t .taken }
 
   later-q : (a b : ℕ) → a ≤ b → (x : ℕ) → QuantOk s a x → QuantOk s b x
   later-q a b h x t = record { nonzero = t .nonzero; by = le-trans (t .by) h }
 
   -- tables kept at a later place
   kept : (h : Header) → Inv h → (i : Header) → h .dcs ≡ i .dcs → h .acs ≡ i .acs → h .quants ≡ i .quants → h .at ≤ i .at → (0 < i .frame .channels → 0 < i .frame .hs * i .frame .vs) → Inv i
-  kept h v i d a q k l = record { lum = l; quants = subst (Places (QuantOk s (i .at))) q (places-map _ _ (later-q (h .at) (i .at) k) (h .quants) (v .quants)); dcs = subst (Places (TableOk s (i .at))) d (places-map _ _ (later (h .at) (i .at) k) (h .dcs) (v .dcs)); acs = subst (Places (TableOk s (i .at))) a (places-map _ _ (later (h .at) (i .at) k) (h .acs) (v .acs)) }
+  kept h v i d a q k l = record { lum = l; quants = subst (Places (QuantOk s (i .at))) q (places-map _ _ (later-q (h .at) (i .at) k) (h .quants) (v .quants)); dcs = subst (Places (TableOk 0 s (i .at))) d (places-map _ _ (later (h .at) (i .at) k) (h .dcs) (v .dcs)); acs = subst (Places (TableOk 1 s (i .at))) a (places-map _ _ (later (h .at) (i .at) k) (h .acs) (v .acs)) }
 
   frame-lum : (b : List ℕ) → T (frameFits b (frameOf b)) → 0 < frameOf b .hs * frameOf b .vs
   frame-lum b t = go (eqb (byte b 5) 1)
@@ -145,15 +149,22 @@ module _ (s : List ℕ) (colour : Bool) where
   counts-same : (p e : ℕ) → 17 ≤ e - p → countsOf (window s p e) ≡ take 16 (drop (p + 1) s)
   counts-same p e h = take-drop-take 1 16 (e - p) (drop p s) (omega (arith, h)) ∙ ap (take 16) (drop-next s p)
 
-  put-kept : (b : Bool) (at : ℕ) (l : List ℕ) (i x : ℕ) → Places (TableOk s at) l → TableOk s at x → Places (TableOk s at) (put b l i x)
-  put-kept true at l i x h k = places-set (TableOk s at) l i x h k
+  symbols-same : (p e : ℕ) → 17 + sum (countsOf (window s p e)) ≤ e - p → symbolsOf (window s p e) ≡ tableAt s (p + 1) .symbols
+  symbols-same p e h =
+      let far : p + 17 ≡ p + 1 + 16 = omega arith in
+      take-drop-take 17 (sum (countsOf (window s p e))) (e - p) (drop p s) h
+      ∙ ap₂ (λ (n : ℕ) (l : List ℕ). take n l) (ap sum (counts-same p e (omega arith))) (drop-drop 17 p s ∙ ap (λ k. drop k s) far)
+
+  -- a table is put in its place where it is of the class
+  put-kept : {class : ℕ} (b : Bool) (at : ℕ) (l : List ℕ) (i x : ℕ) → Places (TableOk class s at) l → (b ≡ true → TableOk class s at x) → Places (TableOk class s at) (put b l i x)
+  put-kept true at l i x h k = places-set _ l i x h (k refl)
   put-kept false at l i x h k = h
 
   table-kept : (h : Header) → Inv h → (e : ℕ) → T (tableFits (window s (h .at) e)) → Inv (withTable (window s (h .at) e) h)
   table-kept h v e t =
       record {
-        dcs = put-kept (eqb (byte w 0 / 16) 0) (h .at + (17 + sum (countsOf w))) (h .dcs) (byte w 0 % 16) (h .at + 1) (places-map _ _ (later (h .at) (h .at + (17 + sum (countsOf w))) (omega arith)) (h .dcs) (v .dcs)) ok;
-        acs = put-kept (eqb (byte w 0 / 16) 1) (h .at + (17 + sum (countsOf w))) (h .acs) (byte w 0 % 16) (h .at + 1) (places-map _ _ (later (h .at) (h .at + (17 + sum (countsOf w))) (omega arith)) (h .acs) (v .acs)) ok;
+        dcs = put-kept (eqb (byte w 0 / 16) 0) (h .at + (17 + sum (countsOf w))) (h .dcs) (byte w 0 % 16) (h .at + 1) (places-map _ _ (later (h .at) (h .at + (17 + sum (countsOf w))) (omega arith)) (h .dcs) (v .dcs)) (λ c. ok 0 (eqb→eq _ 0 (subst⁻¹ T c tt)));
+        acs = put-kept (eqb (byte w 0 / 16) 1) (h .at + (17 + sum (countsOf w))) (h .acs) (byte w 0 % 16) (h .at + 1) (places-map _ _ (later (h .at) (h .at + (17 + sum (countsOf w))) (omega arith)) (h .acs) (v .acs)) (λ c. ok 1 (eqb→eq _ 1 (subst⁻¹ T c tt)));
         quants = places-map _ _ (later-q (h .at) (h .at + (17 + sum (countsOf w))) (omega arith)) (h .quants) (v .quants);
         lum = v .lum;
       }
@@ -167,12 +178,17 @@ module _ (s : List ℕ) (colour : Bool) where
       same : countsOf w ≡ take 16 (drop (h .at + 1) s)
       same = counts-same (h .at) e (le-trans (known .long) (window-short s (h .at) e))
 
-      ok : TableOk s (h .at + (17 + sum (countsOf w))) (h .at + 1)
-      ok =
+      listed : symbolsOf w ≡ tableAt s (h .at + 1) .symbols
+      listed = symbols-same (h .at) e (le-trans (known .whole) (window-short s (h .at) e))
+
+      ok : (class : ℕ) → byte w 0 / 16 ≡ class → TableOk class s (h .at + (17 + sum (countsOf w))) (h .at + 1)
+      ok class c =
           record {
             fitting = subst (λ l. T (codesFit l 0 0)) same (known .codes);
             by = subst (λ l. h .at + 1 + 16 + sum l ≤ h .at + (17 + sum (countsOf w))) same (omega arith);
             some = subst (λ l. (1 ≤ sum l) × (sum l ≤ 256)) same (known .some);
+            alone = subst (λ l. T (apart l)) listed (known .alone);
+            taken = subst (λ l. T (all (listable class) l)) listed (subst (λ k. T (all (listable k) (symbolsOf w))) c (known .taken));
           }
 
   quant-kept : (h : Header) → Inv h → (e : ℕ) → T (quantizerFits (window s (h .at) e)) → Inv (withQuantizer (window s (h .at) e) h)
@@ -215,7 +231,7 @@ module _ (s : List ℕ) (colour : Bool) where
   stepIn-kept h v (Huffman e) =
       chosen-or Kept (eqb (h .at) e) _ _
       (λ t. on _ (kept h v (moved h e Marker) refl refl refl (omega (arith, eqb→eq (h .at) e (subst⁻¹ T t tt))) (v .lum)))
-      (λ t. stop-or Kept off (not (tableFits (window s (h .at) e))) Malformed _ (λ u. on _ (table-kept h v e (is-so (tableFits (window s (h .at) e)) u))))
+      (λ t. stop-or Kept off _ Malformed _ (λ u. on _ (table-kept h v e (is-so (tableFits (window s (h .at) e)) u))))
 
   pub step-kept : (h : Header) → Inv h → Kept (step s colour h)
   step-kept h v = stepIn-kept h v (h .case)
@@ -226,7 +242,7 @@ module _ (s : List ℕ) (colour : Bool) where
       zero-quants : Places (QuantOk s 2) (replicate 4 0)
       zero-quants = ((λ k. absurd (not-suc-le-zero k)), ((λ k. absurd (not-suc-le-zero k)), ((λ k. absurd (not-suc-le-zero k)), ((λ k. absurd (not-suc-le-zero k)), tt))))
 
-      zero-places : Places (TableOk s 2) (replicate 4 0)
+      zero-places : {class : ℕ} → Places (TableOk class s 2) (replicate 4 0)
       zero-places = ((λ k. absurd (not-suc-le-zero k)), ((λ k. absurd (not-suc-le-zero k)), ((λ k. absurd (not-suc-le-zero k)), ((λ k. absurd (not-suc-le-zero k)), tt))))
 
   goes-on : (h : Header) → Kept (more h) → Kept (step s colour h)
@@ -244,7 +260,7 @@ module _ (s : List ℕ) (colour : Bool) where
 -- ---- the plan of an accepted record
 
 -- a table that ends by m is read alike from the first m bytes, and is good
-pub good-table : (s : List ℕ) (m x : ℕ) → m ≤ length s → TableOk s m x → Good (tableAt (take m s) x)
+pub good-table : {class : ℕ} (s : List ℕ) (m x : ℕ) → m ≤ length s → TableOk class s m x → Good (tableAt (take m s) x)
 good-table s m x h t = record { fitting = subst⁻¹ (λ l. T (codesFit l 0 0)) same (t .fitting); full = full }
   where
     same : take 16 (drop x (take m s)) ≡ take 16 (drop x s)
@@ -265,8 +281,8 @@ good-table s m x h t = record { fitting = subst⁻¹ (λ l. T (codesFit l 0 0)) 
 -- what an accepted record says of the tables of one channel of its picture
 pub record Stands (s : List ℕ) (r : Record) (c : ℕ) : Type 0 where
   pub quant : QuantOk s (r .start) (quantAt r c)
-  pub dc : TableOk s (r .start) (dcAt r c)
-  pub ac : TableOk s (r .start) (acAt r c)
+  pub dc : TableOk 0 s (r .start) (dcAt r c)
+  pub ac : TableOk 1 s (r .start) (acAt r c)
 
 pub tables-stand : (s : List ℕ) (colour : Bool) (r : Record) → header s colour ≡ done r → (k : ℕ) → Stands s r (channelOf (shapeIn r) k)
 tables-stand s colour r e k =

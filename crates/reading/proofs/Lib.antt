@@ -9,6 +9,7 @@ pub mod Plain
 pub mod Written
 pub mod BlockWritten
 pub mod Readings
+pub mod Taken
 pub mod Same
 pub mod Stages
 pub mod Fits
@@ -36,6 +37,7 @@ pub mod Zigzag
 pub mod Levels
 pub mod OnePicture
 pub mod WantOfCode
+pub mod OneCode
 pub mod SettledLength
 pub mod Decodings
 pub mod Choice

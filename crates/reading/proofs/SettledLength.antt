@@ -29,7 +29,8 @@ use Rattle.reading.proofs.Inside.{Stands, one-leads}
 use Rattle.reading.proofs.Unstuffed.{length-bitsOf}
 use Rattle.reading.proofs.Written.{absurd-some}
 use Rattle.reading.proofs.FineRead.{minus, file-bits, from}
-use Rattle.reading.proofs.WantOfCode.{amplitude-size, zeros-run, Says, asked-of, table-bytes}
+use Rattle.reading.proofs.WantOfCode.{amplitude-size, zeros-run, table-bytes}
+use Rattle.reading.proofs.Taken.{Says, asked-says}
 
 -- ---- how many bits are written
 
@@ -319,15 +320,15 @@ module _ (s : List ℕ) (ac : Table) (ab : AllBytes (ac .symbols)) (few : length
             (paid-then 0 16 (some (valueBits v)) (restBits (codeOf ac) l 0) c d t (value-paid v n c d a hs) behind))
 
     answered-later : (place : ℕ) (m : ℕ → Reader Bits (List ℤ)) → ((i : ℕ) (d : Bits) → Gives (λ l t. Later l d t) (m i d))
-        → (a : Ask) → Says x a → Gives (λ l t. Later l b t) (answered (one s) place m a c)
+        → (a : Ask) → Says place x a → Gives (λ l t. Later l b t) (answered (one s) place m a c)
     answered-later place m more end e = later-end (64 - place)
     answered-later place m more skip e =
-        gives-then (λ l t. Later l c t) (λ l t. Later l b t) (m (place + 16) c) _ (more (place + 16) c) (λ l t r. later-skip e l t r)
+        gives-then (λ l t. Later l c t) (λ l t. Later l b t) (m (place + 16) c) _ (more (place + 16) c) (λ l t r. later-skip (e .0) l t r)
     answered-later place m more (value run n) e =
         gives-then (λ v d. Ahead n c d × (size v ≡ n)) (λ l t. Later l b t) (amplitude (one s) n c) _
-        (amplitude-ahead s n (omega (arith, e .3)) c)
+        (amplitude-ahead s n (omega (arith, e .few)) c)
         (λ v d h. gives-then (λ l t. Later l d t) (λ l t. Later l b t) (m (place + run + 1) d) _ (more (place + run + 1) d)
-        (λ l t r. later-value run n (e .0) (e .1) (e .2) v d (h .0) (h .1) l t r))
+        (λ l t r. later-value run n (e .run-is) (e .size-is) (e .some) v d (h .0) (h .1) l t r))
     answered-later place m more wrong e = tt
 
   rest-paid : (n place : ℕ) (b : Bits) → Gives (λ l t. Later l b t) (rest (one s) ac n place b)
@@ -340,7 +341,7 @@ module _ (s : List ℕ) (ac : Table) (ab : AllBytes (ac .symbols)) (few : length
       go true ih = later-nil b
       go false ih =
           gives-then (λ x c. Paid 0 (codeOf ac x) b c × (x < 256)) (λ l t. Later l b t) (symbol (one s) ac b) _ (symbol-paid s ac ab b)
-          (λ x c h. answered-later x (h .1) b c (h .0) place (rest (one s) ac n) ih (asked place x) (asked-of place x))
+          (λ x c h. answered-later x (h .1) b c (h .0) place (rest (one s) ac n) ih (asked place x) (asked-says place x))
 
 -- ---- a block
 

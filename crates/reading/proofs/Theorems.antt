@@ -1,7 +1,7 @@
 -- What is shown of the calls: the page to open first. Each statement has its names on a line, then a premise a line, and its conclusion last;
 -- the words in it that are not of a call (`ReadsAs`, `Enough`, `Priced` ..) are explained in specs/Words, and those of a file as a
 -- whole (`settledIn`, `coefficientsIn` ..) in specs/Files. The proofs stand in the modules that are named behind each.
-use Prim.Native.Nat.{ℕ, _+_, _*_, _<_, _≤_}
+use Prim.Native.Nat.{ℕ, _+_, _*_, _/_, _<_, _≤_}
 use mathlib.Core.Path.{_≡_, sym, ap, _∙_}
 use mathlib.Core.Bool.{Bool, true, false}
 use mathlib.Core.List.{List}
@@ -27,13 +27,17 @@ use Rattle.reading.specs.Reader.{got}
 use Rattle.reading.specs.Transform.{sampleOf, samples}
 use Rattle.reading.specs.Scan.{planOf, levels}
 use Rattle.reading.specs.Settled.{settledScan}
-use Rattle.reading.specs.Header.{header}
+use Rattle.reading.specs.Huffman.{tableAt}
+use Rattle.reading.specs.Block.{dcTaken, acTaken}
+use Rattle.reading.specs.Layout.{channelOf}
+use Rattle.reading.specs.Tables.{shapeIn}
+use Rattle.reading.specs.Header.{done, byte, listable, tableFits, header}
 use Rattle.reading.specs.Reading.{accepted, reading, allSamples, picture}
 use Rattle.reading.specs.Calls.{headerPrice, inspect, Decoded, decode, Rewritten, settle}
 use Rattle.reading.specs.Comments.{comments, commentPart, comment, hasComment}
 use Rattle.reading.specs.Prices.{filePrice, decodePrice}
 use Rattle.reading.specs.Files.{headIn, coefficientsIn, samplesIn, pictureIn, settledIn, lacksEndIn}
-use Rattle.reading.specs.Words.{Not, AllBytes, doubleSum, ReadsAs, reread, SettlesTo, Enough, Roomy, InspectRefuses, Inspects, Priced, Alike}
+use Rattle.reading.specs.Words.{Not, AllBytes, Careful, doubleSum, ReadsAs, reread, SettlesTo, Enough, Roomy, InspectRefuses, Inspects, Priced, Alike}
 use Rattle.reading.proofs.HeaderEnds.{finished, header-ends}
 use Rattle.reading.proofs.Choice.{reading-choice}
 use Rattle.reading.proofs.Judgement as J
@@ -45,6 +49,7 @@ use Rattle.reading.proofs.Prices as P
 use Rattle.reading.proofs.DoubleSum as S
 use Rattle.reading.proofs.SettledLength as L
 use Rattle.reading.proofs.Comments as N
+use Rattle.reading.proofs.OneCode as O
 
 -- ---- Every call: one answer, at its price
 
@@ -135,6 +140,22 @@ pub header-finishes :
     (s : List ℕ) (colour : Bool)
     → T (finished (header s colour))
 header-finishes s colour = header-ends s colour
+
+-- ---- Huffman tables (`OneCode`). `Careful`: every symbol has at most one code, it is the one that settling writes, and a block takes it
+
+-- every table that is read, used or not: `b` is what is left of its segment, with the table in front
+pub table-careful :
+    (b : List ℕ)
+    → T (tableFits b)
+    → Careful (listable (byte b 0 / 16)) (tableAt b 1)
+table-careful b t = O.read-careful b t
+
+-- the two tables by which block k of a file is read
+pub tables-careful :
+    (s : List ℕ) (colour : Bool) (r : Record) (k : ℕ)
+    → header s colour ≡ done r
+    → Careful dcTaken (planOf s r .channels (channelOf (shapeIn r) k) .dc) × Careful acTaken (planOf s r .channels (channelOf (shapeIn r) k) .ac)
+tables-careful s colour r k e = O.careful-channel s colour r e k
 
 -- ---- Inspect (`Judgement`, `Refusals`)
 

@@ -56,9 +56,13 @@ F = square (oneCode 0) (oneCode 0) (63 ∷ [])
 abbrev runs : List ℕ → List ℕ
 runs coded = square (oneCode 0) (twoCodes 0 240) coded
 
--- both codes mean 0
+-- both DC codes mean 0
 abbrev twice : List ℕ → List ℕ
 twice coded = square (twoCodes 0 0) (oneCode 0) coded
+
+-- F with another DC table before its own
+abbrev after-table : List ℕ → List ℕ
+after-table table = file 8 (replicate 64 1) (segment 196 table) (oneCode 0) (oneCode 0) (63 ∷ [])
 
 -- 240, and a run of 14 with a value of a size: no end code
 abbrev long : ℕ → List ℕ → List ℕ
@@ -94,6 +98,10 @@ plenty = holding 1000000
 -- inspect's number and what it leaves of the budget
 abbrev inspected : List ℕ → ℕ → List ℕ
 inspected s budget = let i = inspect s false wide (holding budget) in number (i .verdict) ∷ i .budget .left ∷ []
+
+-- inspect's number of an 8 x 8 file with these tables
+abbrev judged : List ℕ → List ℕ → List ℕ
+judged dc ac = take 1 (inspected (square dc ac (63 ∷ [])) 10000)
 
 -- settle's number and its buffer, which had room for the file and held zeros
 abbrev settled : List ℕ → List ℕ
@@ -171,8 +179,23 @@ table =
     ∷ gives (settled (runs (79 ∷ []))) (0 ∷ runs (63 ∷ []))
     ∷ gives (settled (runs (84 ∷ []))) (0 ∷ runs (63 ∷ []))
     ∷ gives (settled (runs (85 ∷ 127 ∷ []))) (4 ∷ replicate 143 0)
-    -- P5: a symbol that is listed twice
-    ∷ gives (settled (twice (159 ∷ []))) (0 ∷ twice (63 ∷ []))
+    -- P5: a table that lists a symbol twice
+    ∷ gives (settled (twice (159 ∷ []))) (4 ∷ replicate 142 0)
+    ∷ gives (inspected (twice (63 ∷ [])) 10000) (4 ∷ (10000 - 285) ∷ [])
+    ∷ gives (judged (oneCode 0) (twoCodes 0 0)) (4 ∷ [])
+    -- a DC symbol above 11
+    ∷ gives (judged (twoCodes 0 12) (oneCode 0)) (4 ∷ [])
+    ∷ gives (judged (twoCodes 0 11) (oneCode 0)) (0 ∷ [])
+    -- an AC symbol that no block takes: size 0 behind a run other than 0 and 15, a size above 10
+    ∷ gives (judged (oneCode 0) (twoCodes 0 16)) (4 ∷ [])
+    ∷ gives (judged (oneCode 0) (twoCodes 0 224)) (4 ∷ [])
+    ∷ gives (judged (oneCode 0) (twoCodes 0 240)) (0 ∷ [])
+    ∷ gives (judged (oneCode 0) (twoCodes 0 11)) (4 ∷ [])
+    ∷ gives (judged (oneCode 0) (twoCodes 0 250)) (0 ∷ [])
+    -- a table that is never used, and one that a later table replaces
+    ∷ gives (take 1 (inspected (after-table (3 ∷ twoCodes 0 0)) 10000)) (4 ∷ [])
+    ∷ gives (take 1 (inspected (after-table (0 ∷ twoCodes 0 12)) 10000)) (4 ∷ [])
+    ∷ gives (take 1 (inspected (after-table (0 ∷ twoCodes 0 11)) 10000)) (0 ∷ [])
     -- P6 to P10: a block with only a DC coefficient
     ∷ gives (flat (pos 4)) (replicate 64 128)
     ∷ gives (flat (pos 5)) (replicate 64 129)

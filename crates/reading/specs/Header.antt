@@ -13,8 +13,9 @@ use Rattle.reading.specs.declared.Kind.the-variants.{Quants, Tables, Fra
 use Rattle.reading.specs.declared.Frame.{Frame}
 use Rattle.reading.specs.declared.Header.{Header}
 use Rattle.reading.specs.declared.Record.{Record}
-use Rattle.reading.specs.Tests.{_and_, _or_, within, all, allFrom}
+use Rattle.reading.specs.Tests.{_and_, _or_, within, apart, all, allFrom}
 use Rattle.reading.specs.Huffman.{sum, codesFit}
+use Rattle.reading.specs.Block.{dcTaken, acTaken}
 use Rattle.reading.specs.Tables.{quantAt, dcAt, acAt}
 use Rattle.reading.specs.Layout.{Shape, factorsOf, blockCount, outputLength, workOf}
 
@@ -61,11 +62,21 @@ quantizer b h e =
 abbrev pub countsOf : List ℕ → List ℕ
 countsOf b = take 16 (drop 1 b)
 
--- a Huffman table is class 0 or 1, id 0..3, 16 counts, 1 to 256 symbols, inside its segment, and its codes fit
+-- the symbols behind them
+abbrev pub symbolsOf : List ℕ → List ℕ
+symbolsOf b = take (sum (countsOf b)) (drop 17 b)
+
+-- what a table of a class may list: DC tables (class 0) and AC tables what a block takes from them
+abbrev pub listable : ℕ → ℕ → Bool
+listable class x = cond (eqb class 0) (dcTaken x) (acTaken x)
+
+-- a Huffman table is class 0 or 1, id 0..3, 16 counts, 1 to 256 symbols, inside its segment; its codes fit, no symbol is listed twice,
+-- and none that a block does not take
 abbrev pub tableFits : List ℕ → Bool
 tableFits b =
     leb 17 (length b) and leb (byte b 0 / 16) 1 and leb (byte b 0 % 16) 3 and within 1 256 (sum (countsOf b))
     and leb (17 + sum (countsOf b)) (length b) and codesFit (countsOf b) 0 0
+    and apart (symbolsOf b) and all (listable (byte b 0 / 16)) (symbolsOf b)
 
 abbrev pub put : Bool → List ℕ → ℕ → ℕ → List ℕ
 put true l i x = set l i x

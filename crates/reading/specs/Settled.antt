@@ -16,7 +16,7 @@ use Rattle.reading.specs.Tests.{_and_, _or_, isNone}
 abbrev pub Written : Type 0
 Written = Option (List ℕ)
 
--- how a symbol is written: its first code, or none. One definition serves a table and whatever stands in for it
+-- how a symbol is written: its code, or none. One definition serves a table and whatever stands in for it
 abbrev pub Coder : Type 0
 Coder = ℕ → Written
 

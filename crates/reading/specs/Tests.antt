@@ -16,13 +16,22 @@ a or b = a || b
 abbrev pub within : ℕ → ℕ → ℕ → Bool
 within lo hi n = leb lo n and leb n hi
 
--- the first place of x in a list, counted from i
+abbrev pub isNone : {A : Type 0} → Option A → Bool
+isNone none = true
+isNone (some a) = false
+
+-- the place of x in a list, counted from i: the first one, where there are several
 abbrev pub placeFrom : List ℕ → ℕ → ℕ → Option ℕ
 placeFrom [] x i = none
 placeFrom (y ∷ ys) x i = cond (eqb x y) (some i) (placeFrom ys x (suc i))
 
 abbrev pub placeOf : List ℕ → ℕ → Option ℕ
 placeOf ys x = placeFrom ys x 0
+
+-- no number stands twice in a list
+abbrev pub apart : List ℕ → Bool
+apart [] = true
+apart (x ∷ xs) = isNone (placeOf xs x) and apart xs
 
 -- the option holds the number given
 abbrev pub holds : Option ℕ → ℕ → Bool
@@ -42,10 +51,6 @@ all p (x ∷ xs) = p x and all p xs
 abbrev pub orZero : Option ℕ → ℕ
 orZero none = 0
 orZero (some n) = n
-
-abbrev pub isNone : {A : Type 0} → Option A → Bool
-isNone none = true
-isNone (some a) = false
 
 -- what is left behind in a buffer: what is written, then the old tail
 abbrev pub over : List ℕ → List ℕ → List ℕ

@@ -4,8 +4,9 @@ use Prim.Native.Nat.{ℕ, zero, suc, _+_, _*_, _^_, _<_, _≤_}
 use mathlib.Core.Path.{_≡_}
 use mathlib.Core.Bool.{Bool}
 use mathlib.Core.List.{List, [], _∷_}
-use mathlib.Core.Logic.{_⊎_}
+use mathlib.Core.Logic.{_⊎_, _↔_}
 use mathlib.Core.Option.{Option, some}
+use lib.Dec.{T}
 use lib.IntN.{ℤ, pos, _+ℤ_, _*ℤ_}
 use lib.ListN.{length}
 use Rattle.reading.specs.declared.Budget.{Budget}
@@ -17,7 +18,9 @@ use Rattle.reading.specs.declared.Verdict.{Verdict}
 use Rattle.reading.specs.declared.Verdict.the-variants.{Accepted}
 use Rattle.whole.specs.Expressions.{at}
 use Rattle.basis.specs.Basis.{basis, basisAt}
-use Rattle.reading.specs.Reader.{fault}
+use Rattle.reading.specs.declared.Fault.the-variants.{RanOut}
+use Rattle.reading.specs.Reader.{Reader, got, fault}
+use Rattle.reading.specs.Huffman.{Table, symbol, codeOf}
 use Rattle.reading.specs.Header.{done, stop, header}
 use Rattle.reading.specs.Scan.{levels}
 use Rattle.reading.specs.Reading.{Reading, accepted, refused, reading}
@@ -33,6 +36,32 @@ Not A = A → ⊥
 abbrev pub AllBytes : List ℕ → Type 0
 AllBytes [] = Unit {0}
 AllBytes (x ∷ l) = (x < 256) × AllBytes l
+
+-- ---- the codes of a table
+
+-- each number is a bit
+abbrev pub AllBits : List ℕ → Type 0
+AllBits [] = Unit {0}
+AllBits (b ∷ l) = (b < 2) × AllBits l
+
+-- a list of bits, from its first one on
+abbrev pub nextIn : Reader (List ℕ) ℕ
+nextIn [] = fault RanOut
+nextIn (b ∷ l) = got b l
+
+-- bits are a code of a symbol: by the table they are read as the symbol, to the last of them
+pub record IsCode (t : Table) (x : ℕ) (bits : List ℕ) : Type 0 where
+  pub bitwise : AllBits bits
+  pub reads : symbol nextIn t bits ≡ got x []
+
+-- what is known of a table that was read, by the rule for what it may list
+pub record Careful (listed : ℕ → Bool) (t : Table) : Type 0 where
+  -- every symbol has at most one code
+  pub one-code : (x : ℕ) (v w : List ℕ) → IsCode t x v → IsCode t x w → v ≡ w
+  -- the code is what settling writes
+  pub the-code : (x : ℕ) (w : List ℕ) → IsCode t x w ↔ codeOf t x ≡ some w
+  -- a symbol that has one is one that a block takes
+  pub taken : (x : ℕ) (w : List ℕ) → IsCode t x w → T (listed x)
 
 -- ---- the double sum of a block, as one sum of 64 products
 

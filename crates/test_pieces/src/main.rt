@@ -134,7 +134,7 @@ fn settle(name: &[u8], s: &[u8], at: usize) {
     end_line();
 }
 
-// the settled pieces: the coded byte is 63 in each that is accepted, and nothing is written of the one that is refused
+// the settled pieces: the coded byte is 63 in each that is accepted, and nothing is written of those that are refused
 fn settled() {
     let mut one = [1u8; 141];
     block(&mut one, &DC, &AC, b"\x3f");
@@ -144,15 +144,46 @@ fn settled() {
     settle(b"P2, byte 79", &runs, 139);
     block(&mut runs, &DC, &RUNS, b"\x54");
     settle(b"P3, byte 84", &runs, 139);
+    settle(b"P3, the first byte", &runs, 0);
+    settle(b"P3, the last byte", &runs, 141);
+    settle(b"P3, the byte behind", &runs, 142);
     let mut fourth = [1u8; 143];
     block(&mut fourth, &DC, &RUNS, b"\x55\x7f");
     settle(b"P4, a fourth run", &fourth, 139);
     let mut twice = [1u8; 142];
     block(&mut twice, &TWO_ZEROS, &AC, b"\x9f");
-    settle(b"P5, byte 159", &twice, 139);
-    settle(b"P5, the first byte", &twice, 0);
-    settle(b"P5, the last byte", &twice, 141);
-    settle(b"P5, the byte behind", &twice, 142);
+    settle(b"P5, a symbol twice", &twice, 139);
+}
+
+// F with a DC table that has the code 10 for one symbol more
+fn with_dc(name: &[u8], symbol: u8) {
+    let mut table = TWO_ZEROS;
+    table[22] = symbol;
+    let mut s = [1u8; 142];
+    block(&mut s, &table, &AC, b"\x3f");
+    inspect(name, &s, tillsparrow_streams::limits(), 10000);
+}
+
+// the same of its AC table
+fn with_ac(name: &[u8], symbol: u8) {
+    let mut table = RUNS;
+    table[22] = symbol;
+    let mut s = [1u8; 142];
+    block(&mut s, &DC, &table, b"\x3f");
+    inspect(name, &s, tillsparrow_streams::limits(), 10000);
+}
+
+// tables that list a symbol twice, or one that a block never takes, and their neighbours
+fn tables() {
+    with_dc(b"DC 0 and 0", 0);
+    with_dc(b"DC 0 and 11", 11);
+    with_dc(b"DC 0 and 12", 12);
+    with_ac(b"AC 0 and 0", 0);
+    with_ac(b"AC 0 and 11", 11);
+    with_ac(b"AC 0 and 16", 16);
+    with_ac(b"AC 0 and 224", 224);
+    with_ac(b"AC 0 and 240", 240);
+    with_ac(b"AC 0 and 250", 250);
 }
 
 fn main() {
@@ -199,4 +230,5 @@ fn main() {
     file(&mut s, &LARGEST, &DC, &AC, &THREE_SCAN, b"\x3f");
     largest(&s);
     settled();
+    tables();
 }
