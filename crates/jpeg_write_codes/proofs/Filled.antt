@@ -1,4 +1,4 @@
--- One pass over a table's symbols gives each its first code: what a symbol's word is, by the word it has so far and by the part of
+-- One pass over a table's symbols gives each its code: what a symbol's word is, by the word it has so far and by the part of
 -- the table that is to come.
 use Prim.Native.Nat.{ℕ, zero, suc, _+_, _*_, _-_, _%_, _^_, _<_, _≤_}
 use mathlib.Core.Path.{_≡_, refl, sym, ap, ap₂, _∙_, subst}
