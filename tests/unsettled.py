@@ -1,6 +1,7 @@
 """Files of one picture in more than one form, made from nothing: a bit writer, tables and blocks of our own, written from the rules
-alone. A block may have runs of 16 zeros before its end code, or up to its last place instead of one, and a symbol that a table
-lists twice may take its second code. `plain` takes no such choice: it is the form that settling must give.
+alone. A block may have runs of 16 zeros before its end code, or up to its last place instead of one; nothing else is free, since a
+table has one code for a symbol. `plain` takes no such choice: it is the form that settling must give. `careless` makes files whose
+tables are refused.
 """
 import random
 
@@ -8,7 +9,8 @@ END, RUN = 0, 240
 
 
 class Table:
-    """A Huffman table: symbols by the length of their codes. A symbol that is listed twice has two codes."""
+    """A Huffman table: symbols by the length of their codes. Of one that is listed twice, for which the table is refused, the coder
+    takes the first code."""
 
     def __init__(self, by_length):
         self.counts = [len(by_length.get(n, [])) for n in range(1, 17)]
@@ -17,7 +19,7 @@ class Table:
         code = 0
         for n in range(1, 17):
             for x in by_length.get(n, []):
-                self.codes.setdefault(x, []).append((code, n))
+                self.codes.setdefault(x, (code, n))
                 code += 1
             assert code < 2 ** n, "all ones is no code"
             code *= 2
@@ -50,7 +52,7 @@ class Writer:
 
 
 def plain(choices):
-    """The first code, and no run that is not needed."""
+    """No run that is not needed."""
     return 0
 
 
@@ -69,8 +71,7 @@ class Coder:
         self.choose, self.writer = choose, Writer()
 
     def symbol(self, table, x):
-        codes = table.codes[x]
-        self.writer.put(*codes[self.choose(len(codes))])
+        self.writer.put(*table.codes[x])
 
     def value(self, table, run, value):
         size = size_of(value)
@@ -138,10 +139,10 @@ class Picture:
 
 
 def tables(source):
-    """Every category and every pair of run and size, some of them twice, in an order and at lengths of no other table."""
-    categories = list(range(12)) + source.sample(range(12), 4)
-    pairs = [16 * run + size for run in range(16) for size in range(1, 11)]
-    more = pairs + source.sample(pairs, 40) + [END, RUN, RUN]
+    """The largest that are taken: every category, and every pair of run and size, each once, in an order and at lengths of no other
+    table."""
+    categories = list(range(12))
+    more = [16 * run + size for run in range(16) for size in range(1, 11)] + [RUN]
     source.shuffle(categories)
     source.shuffle(more)
     dc = Table({2: categories[:1], 3: categories[1:3], 5: categories[3:9], 7: categories[9:]})
@@ -174,3 +175,17 @@ def without_end_code(end):
     """One block that ends at place 15: a table with no end code, or with a long one, and 240 as the code 0."""
     ac = Table({1: [RUN], 2: [16 * 14 + 1], 16: [END] if end else []})
     return Picture(8, 8, (1, 1), 1, 0, [(Table({1: [0]}), ac)], [[0] * 15 + [1] + [0] * 48])
+
+
+def flat(dc=(0, 1), ac=(END, 1)):
+    """One block of zeros. Of each table the code 0 is taken, and the code 10 never: its symbol may be any."""
+    pair = Table({1: dc[:1], 2: dc[1:]}), Table({1: ac[:1], 2: ac[1:]})
+    return Picture(8, 8, (1, 1), 1, 0, [pair], [[0] * 64]).form(plain)
+
+
+def careless():
+    """A name and a file each, refused 4. It differs from `flat()`, which is accepted, in one symbol, and its block does not take it."""
+    yield "a DC table lists a symbol twice", flat(dc=(0, 0))
+    yield "an AC table lists a symbol twice", flat(ac=(END, END))
+    yield "a DC table lists the symbol 12", flat(dc=(0, 12))
+    yield "an AC table lists the symbol 16", flat(ac=(END, 16))

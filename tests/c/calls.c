@@ -316,6 +316,18 @@ static void test_accepted(const char *name, const char *record, const char *draw
     give_back(s.file);
 }
 
+/* What is refused writes nothing, however much room it is lent. */
+static void test_nothing_written(const struct subject *s, uint64_t number, uint64_t spent) {
+    tillsparrow_record other = {.output = 64, .scratch = 64};
+    struct lent room = lend_filled(4 * s->file.length + 4096, 165);
+    tillsparrow_settled made = settle_into(s->file, room, PLENTY);
+    hold_answer(made.number, made.left, number, PLENTY - spent, "settle");
+    hold(made.length == 0, "settle refuses %llu and says length %llu", (unsigned long long)number, (unsigned long long)made.length);
+    hold(is_filled(room.bytes, room.length, 165), "settle refuses %llu and has changed the buffer", (unsigned long long)number);
+    hold_refused(s, other, 64, 64, PLENTY, 8);
+    give_back(room);
+}
+
 static void test_refused(uint64_t number, uint64_t spent, const char *name) {
     tillsparrow_record none = {0};
     /* no record is the file's; the subject has one that is not given */
@@ -324,6 +336,7 @@ static void test_refused(uint64_t number, uint64_t spent, const char *name) {
     hold_admitted(&s, unlimited, PLENTY, number, PLENTY - spent);
     hold_admitted(&s, unlimited, spent, number, 0);
     hold_refused(&s, none, 0, 0, PLENTY, 8);
+    test_nothing_written(&s, number, spent);
     for (size_t i = 0; i < 2; i++) {
         tillsparrow_part part = tillsparrow_comment(s.file.bytes, s.file.length, i);
         hold(part.at == 0 && part.length == 0, "a refused file has comment %zu", i);

@@ -158,6 +158,13 @@ def refused():
     yield "a byte behind the end", plain + b"\0", 4, plain
     yield "progressive", encode(64, 64, "-progressive"), 5, None
     yield "arithmetic", encode(64, 64, "-arithmetic"), 5, None
+    for name, jpeg in unsettled.careless():
+        yield name, jpeg, 4, None
+
+
+def careful():
+    """What the files with a table that is refused for one of its symbols differ from."""
+    return unsettled.flat()
 
 
 def without_end_code():

@@ -20,6 +20,8 @@ import sys
 from pathlib import Path
 
 CUT, MALFORMED, UNSUPPORTED = 3, 4, 5
+# the symbols that a block takes, by class: categories, and the end, 16 zeros, or a run and a size
+TAKEN = [list(range(12)), [0, 240] + [16 * run + size for run in range(16) for size in range(1, 11)]]
 FOLDER = Path(__file__).resolve().parents[2] / "crates" / "test_header"
 
 
@@ -78,6 +80,8 @@ def huffman_places(body, place):
         for length, count in enumerate(counts, 1):
             spent += count << (16 - length)
             demand(spent <= (1 << 16) - (1 << (16 - length)), MALFORMED)
+        symbols = body[k + 17 : k + 17 + sum(counts)]
+        demand(len(set(symbols)) == len(symbols) and set(symbols) <= set(TAKEN[kind]), MALFORMED)
         found[kind, name] = place + k + 1
         k += 17 + sum(counts)
     return found
@@ -354,7 +358,8 @@ vector("quantizers: replaced behind the frame", grey_with(after=dqt((0, [2] * 64
 vector("quantizers: thrice", grey_with(after=dqt((0, [2] * 64), (1, ONES)) + dqt((0, [3] * 64))), 0)
 vector("quantizers: only behind the frame", grey(GREY_FRAME, DC0, AC0, Q0, GREY_SCAN), 0)
 
-# Huffman tables: class 0 or 1, id 0..3, 16 counts, 1 to 256 symbols, inside the segment; all ones is no code; else 4.
+# Huffman tables: class 0 or 1, id 0..3, 16 counts, 1 to 256 symbols, inside the segment; all ones is no code; each symbol once, and
+# one that a block takes; else 4.
 vector("tables: empty", grey_with(dc=segment(196, b"")), MALFORMED)
 for first in (4, 15, 20, 32, 33, 240):
     vector(f"table's first byte {first}", grey_with(dc=dht(table(first))), MALFORMED)
@@ -367,16 +372,18 @@ vector("table: fifteen counts", grey_with(dc=segment(196, bytes([0] + ONE_CODE[:
 vector("table: counts, and no symbol", grey_with(dc=segment(196, bytes([0] + ONE_CODE))), MALFORMED)
 vector("table: a symbol too few", grey_with(dc=dht(table(0, [0, 3] + [0] * 14, (1, 2)))), MALFORMED)
 vector("table: a symbol too many", grey_with(dc=dht(table(0, ONE_CODE, (1, 2)))), MALFORMED)
-vector("table: 256 symbols", grey_with(dc=dht(table(0, [0] * 14 + [1, 255], range(256)))), 0)
+vector("table: 12 symbols, the most of a DC table", grey_with(dc=dht(table(0, [0] * 15 + [12], TAKEN[0]))), 0)
+vector("table: 162 symbols, the most of an AC table", grey_with(ac=dht(table(16, [0] * 15 + [162], TAKEN[1]))), 0)
+vector("table: 256 symbols, every byte once", grey_with(ac=dht(table(16, [0] * 14 + [1, 255], range(256)))), MALFORMED)
 vector("table: 257 symbols", grey_with(dc=dht(table(0, [0] * 14 + [2, 255], [0] * 257))), MALFORMED)
 vector("table: both codes of one bit", grey_with(dc=dht(table(0, [2] + [0] * 15, (0, 1)))), MALFORMED)
 vector("table: one code of one bit, one of two", grey_with(dc=dht(table(0, [1, 1] + [0] * 14, (0, 1)))), 0)
 vector("table: all codes of two bits", grey_with(dc=dht(table(0, [0, 4] + [0] * 14, range(4)))), MALFORMED)
 vector("table: three codes of two bits", grey_with(dc=dht(table(0, [0, 3] + [0] * 14, range(3)))), 0)
-vector("table: one code of each length", grey_with(dc=dht(table(0, [1] * 16, range(16)))), 0)
-vector("table: and all ones of sixteen", grey_with(dc=dht(table(0, [1] * 15 + [2], range(17)))), MALFORMED)
-vector("table: more codes than there are", grey_with(dc=dht(table(0, [1, 0, 200] + [0] * 13, range(201)))), MALFORMED)
-vector("table: symbols that no block can use, and twice", grey_with(dc=dht(table(0, [0, 3] + [0] * 14, (255, 200, 200)))), 0)
+vector("table: one code of each length", grey_with(ac=dht(table(16, [1] * 16, TAKEN[1][:16]))), 0)
+vector("table: one code of each length from five bits on", grey_with(dc=dht(table(0, [0] * 4 + [1] * 12, TAKEN[0]))), 0)
+vector("table: and all ones of sixteen", grey_with(ac=dht(table(16, [1] * 15 + [2], TAKEN[1][:17]))), MALFORMED)
+vector("table: more codes than there are", grey_with(ac=dht(table(16, [1, 0, 100] + [0] * 13, TAKEN[1][:101]))), MALFORMED)
 vector("tables: DC and AC in one segment", grey(Q0, GREY_FRAME, dht(table(0), table(16)), GREY_SCAN), 0)
 vector("tables: a bad one that is never used", grey_with(after=dht(table(19, [2] + [0] * 15, (0, 1)))), MALFORMED)
 for extra in (1, 16, 17):
@@ -385,6 +392,93 @@ vector("tables: DC replaced in its segment", grey_with(dc=dht(table(0), table(0,
 vector("tables: AC replaced by a later segment", grey_with(after=dht(table(16))), 0)
 vector("tables: another id does not replace", grey_with(after=dht(table(1), table(17))), 0)
 vector("tables: only before the frame", grey(DC0, AC0, Q0, GREY_FRAME, GREY_SCAN), 0)
+
+# Every symbol, alone in its table: a DC table has none above 11; an AC table has 0, 240, or a size of 1 to 10 in its low four bits.
+DC_SYMBOL, AC_SYMBOL = 105, 127
+for byte in range(256):
+    vector(f"DC symbol {byte}", F, 0 if byte <= 11 else MALFORMED, patches=[(DC_SYMBOL, byte)])
+    fits = byte in (0, 240) or 1 <= byte % 16 <= 10
+    vector(f"AC symbol {byte}", F, 0 if fits else MALFORMED, patches=[(AC_SYMBOL, byte)])
+
+
+def all_but(symbols, place, symbol):
+    """Counts and symbols of a table: the symbols in codes of 16 bits, one of them replaced."""
+    return [0] * 15 + [len(symbols)], [*symbols[:place], symbol, *symbols[place + 1 :]]
+
+
+# The same beside others, at the first, a middle and the last place of the largest tables.
+for first, kind, symbol in ((0, "DC", 12), (16, "AC", 16), (16, "AC", 251)):
+    symbols = TAKEN[first // 16]
+    for place in (0, len(symbols) // 2, len(symbols) - 1):
+        bad = table(first, *all_but(symbols, place, symbol))
+        vector(f"{kind} symbol {symbol} at place {place}", grey_with(after=dht(bad)), MALFORMED)
+
+
+def twice(symbols, one, other):
+    """Tables that list a symbol twice: a name, counts and symbols."""
+    last = len(symbols) - 1
+    for place, again in ((1, 0), (last, last - 1), (last, 0), (0, last), (last // 2, 0), (last, last // 2)):
+        yield f"the symbol of place {again} again at {place}", *all_but(symbols, place, symbols[again])
+    yield "every symbol, and the first again", [0] * 15 + [last + 2], symbols + symbols[:1]
+    yield "neighbours", [0, 3] + [0] * 14, (one, one, other)
+    yield "first and last", [0, 3] + [0] * 14, (one, other, one)
+    yield "codes of one bit and of two", [1, 1] + [0] * 14, (one, one)
+    yield "codes of one bit and of sixteen", [1] + [0] * 14 + [2], (one, other, one)
+    yield "0 and 0", [1, 1] + [0] * 14, (0, 0)
+
+
+for first, kind, one, other in ((0, "DC", 5, 3), (16, "AC", 240, 225)):
+    for name, counts, symbols in twice(TAKEN[first // 16], one, other):
+        vector(f"{kind}, twice: {name}", grey_with(after=dht(table(first, counts, symbols))), MALFORMED)
+    vector(f"{kind}, each once", grey_with(after=dht(table(first, [1] + [0] * 14 + [2], (one, other, 0)))), 0)
+
+# A symbol is listed twice by one table alone: others may have it too.
+SAME = [1, 1] + [0] * 13 + [2], (0, 1, 2, 3)
+EVERY = [table(first + name, *SAME) for first in (0, 16) for name in range(4)]
+vector("tables: the same symbols in every table of a segment", grey_with(after=dht(*EVERY)), 0)
+vector("tables: the same symbols in a segment each", grey_with(after=b"".join(dht(each) for each in EVERY)), 0)
+vector("tables: one table again and again", grey_with(after=dht(EVERY[0], EVERY[0]) + dht(EVERY[0])), 0)
+
+
+def around(first, listed):
+    """Where a table may stand: a name, the file, and its number where this table is taken. Where that is a number at all, it is that of
+    a fault behind the table."""
+    this, good = table(first, *listed), table(first)
+    for name in (1, 2, 3):
+        yield f"never used, id {name}", grey_with(after=dht(table(first + name, *listed))), 0
+    yield "before the frame", grey_with(before=dht(this)), 0
+    yield "first of all", grey(dht(this), Q0, GREY_FRAME, DC0, AC0, GREY_SCAN), 0
+    yield "replaced in its segment", grey_with(after=dht(this, good)), 0
+    yield "replaced by a later segment", grey_with(after=dht(this) + dht(good)), 0
+    yield "replaces one of its segment", grey_with(after=dht(good, this)), 0
+    yield "replaces one of an earlier segment", grey_with(after=dht(good) + dht(this)), 0
+    yield "a segment behind it is cut", grey_with(after=dht(this) + segment(254, b"", 900)), CUT
+    yield "the file ends in the marker behind it", SOI + dht(this) + b"\xff\xdb\x00", CUT
+    yield "a code that is not read behind it", grey_with(before=dht(this), frame=sof(8, 8, GREY, code=194)), UNSUPPORTED
+    yield "the frame's precision behind it", grey_with(before=dht(this), frame=sof(8, 8, GREY, precision=12)), UNSUPPORTED
+    yield "the scan's table ids behind it", grey_with(after=dht(this), scan=sos([(1, 64)])), UNSUPPORTED
+
+
+def behind_a_fault(first, listed):
+    """A table that is not come to: a name, the file and its number, whatever the table lists."""
+    this = dht(table(first, *listed))
+    yield "its own segment is cut", grey_with(after=segment(196, table(first, *listed), 900)), CUT
+    yield "a segment before it is cut", grey_with(before=segment(254, b"", 900), after=this), CUT
+    yield "a code that is not read before it", grey_with(frame=sof(8, 8, GREY, code=194), after=this), UNSUPPORTED
+    yield "the frame's precision before it", grey_with(frame=sof(8, 8, GREY, precision=12), after=this), UNSUPPORTED
+    yield "the scan's header before it, where the header ends", grey_with(scan=GREY_SCAN + this), 0
+
+
+# A table that is refused for its symbols is refused where it is read, used or not, replaced later or not; the first fault met counts.
+TWO = [1, 1] + [0] * 14
+for first, what, bad, mended in ((0, "DC 3 twice", (TWO, (3, 3)), (TWO, (3, 4))), (0, "DC 12", (ONE_CODE, (12,)), (ONE_CODE, (11,))),
+                                 (16, "AC 3 twice", (TWO, (3, 3)), (TWO, (3, 4))), (16, "AC 16", (ONE_CODE, (16,)), (ONE_CODE, (17,)))):
+    for name, file, number in around(first, bad):
+        vector(f"{what}: {name}" + (f": not {number}, the table is met first" if number else ""), file, MALFORMED)
+    for name, file, number in around(first, mended):
+        vector(f"{what}, mended: {name}", file, number)
+    for name, file, number in behind_a_fault(first, bad):
+        vector(f"{what}: {name}: not 4, the table is not come to", file, number)
 
 # The frame. A second one: 4; body under 6, precision, channels: 5; body not 6 + 3 x channels: 4; the rest: 5.
 vector("frame 193", grey_with(frame=sof(8, 8, GREY, code=193)), 0)

@@ -170,8 +170,8 @@ def test_notes(browser, room, shots):
 SENTENCES = {
     1: "Refused (1). The file is longer than this page takes, which is 256 MiB. The command ./tillsparrow takes files of any size.",
     3: "Refused (3). The file ends before its picture begins. Copy it again from the camera.",
-    4: "Refused (4). The file breaks a rule of the format: often a cut or damaged copy, or no JPEG file at all. Copy it again; "
-       "a file that stays so cannot be trusted.",
+    4: "Refused (4). The file breaks a rule of the format: often a cut or damaged copy, seldom faulty Huffman tables, or no JPEG file at all. "
+       "Copy it again; a file that stays so cannot be trusted.",
     5: "Refused (5). This is a form of JPEG that is not read: progressive, four channels, 12 bits or the like. "
        "Have the camera write baseline files.",
     6: "Refused (6). The picture is larger than this page shows, which is 16,384 pixels a side. "

@@ -40,6 +40,23 @@ class Rules(unittest.TestCase):
         self.assertEqual(at(dataclasses.replace(OWN, work=MOST - 283), 64, 64, MOST), (8, 0))
         self.assertEqual(at(dataclasses.replace(OWN, output=MOST), 64, 64, 1), (7, 1))
 
+    def test_a_table_lists_a_symbol_once(self):
+        """A table that lists a symbol twice is refused where it is read, though the block takes neither code; its neighbour, which
+        lists another symbol there, is accepted."""
+        careful, careless = files.small(((1, 0), (2, 1))), files.small(((1, 0), (2, 0)))
+        seen = tillsparrow.inspect(careful, budget=3485)
+        self.assertEqual((seen.record.start, seen.left, tillsparrow.settled(careful)), (139, 0, careful))
+        room, output, scratch = bytearray(b"\x03" * 200), bytearray(b"\x03" * 64), bytearray(b"\x03" * 64)
+        for call in (lambda: tillsparrow.inspect(careless, budget=302), lambda: tillsparrow.has_comment(careless, 0, budget=302),
+                     lambda: tillsparrow.settle(careless, room, budget=302)):
+            with self.assertRaises(Refused) as raised:
+                call()
+            self.assertEqual((raised.exception.number, raised.exception.left, raised.exception.needed), (4, 17, None))
+        with self.assertRaises(Refused) as raised:
+            tillsparrow.decode(careless, seen.record, output, scratch, 3485)
+        self.assertEqual((raised.exception.number, raised.exception.left), (8, 0))
+        self.assertEqual({*room, *output, *scratch}, {3})
+
     def test_samples_go_to_the_front_of_the_buffers(self):
         output, scratch = bytearray(b"\x09" * 65), bytearray(b"\x07" * 66)
         drawn = tillsparrow.decode(SMALL, OWN, output, scratch, 3484)

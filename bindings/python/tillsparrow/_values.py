@@ -8,7 +8,8 @@ from typing import Optional, Tuple
 #: The largest number that a call takes: as a limit no limit, and as a budget enough for every file.
 MOST = 2**64 - 1
 
-#: What each number of a refusal means.
+#: What each number of a refusal means. 4 is also that of a Huffman table, used or not, that lists a symbol twice or a symbol that no
+#: block takes.
 MEANINGS = {
     1: "more bytes than the limit on input",
     2: "the price is above the budget",

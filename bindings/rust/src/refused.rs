@@ -22,7 +22,8 @@ impl Refused {
     pub const OVER_BUDGET: u64 = 2;
     /// The header is cut short.
     pub const CUT_SHORT: u64 = 3;
-    /// A rule of the format is broken, in the header or in the scan.
+    /// A rule of the format is broken, in the header or in the scan; also the number of a Huffman
+    /// table, used or not, that lists a symbol twice or a symbol that no block takes.
     pub const MALFORMED: u64 = 4;
     /// A form of JPEG that is not read.
     pub const UNSUPPORTED: u64 = 5;

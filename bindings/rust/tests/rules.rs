@@ -97,6 +97,26 @@ fn decode_refuses_in_order() {
     assert_eq!(at(Record { output: u64::MAX, ..own }, (64, 64), 1), (7, 1));
 }
 
+/// A table that lists a symbol twice is refused where it is read, though the block takes neither
+/// code; its neighbour, which lists another symbol there, is accepted.
+#[test]
+fn a_table_lists_a_symbol_once() {
+    let (careful, careless) = (file(&[(1, 0), (2, 1)], &[63]), file(&[(1, 0), (2, 0)], &[63]));
+    let seen = inspect(&careful, Colour::RedGreenBlue, Limits::NONE, 3485).unwrap();
+    assert_eq!((seen.record.start, seen.left), (139, 0));
+    assert_eq!(settled(&careful), Ok(careful.clone()));
+    let refused = Refused { number: Refused::MALFORMED, left: 17, needed: None };
+    let mut room = [3; 200];
+    assert_eq!(inspect(&careless, Colour::RedGreenBlue, Limits::NONE, 302), Err(refused));
+    assert_eq!(has_comment(&careless, 0, Limits::NONE, 302), Err(refused));
+    assert_eq!(settle(&careless, Limits::NONE, 302, &mut room), Err(refused));
+    assert_eq!(read(&careless).unwrap_err().number, 4);
+    let (mut output, mut scratch) = ([3; 64], [3; 64]);
+    let drawn = decode(&careless, &seen.record, &mut output, &mut scratch, 3485).unwrap_err();
+    assert_eq!((drawn.number, drawn.left), (8, 0));
+    assert!(room.iter().chain(&output).chain(&scratch).all(|&byte| byte == 3));
+}
+
 #[test]
 fn samples_go_to_the_front_of_the_buffers() {
     let (mut output, mut scratch) = ([9; 65], [7; 66]);
