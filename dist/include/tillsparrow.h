@@ -18,7 +18,7 @@
 extern "C" {
 #endif
 
-/* The numbers of an answer. */
+/* The numbers of an answer. 4 is also that of a Huffman table, used or not, that lists a symbol twice or a symbol that no block takes. */
 enum tillsparrow_number {
     TILLSPARROW_ACCEPTED = 0,
     TILLSPARROW_TOO_LONG = 1,       /* more bytes than the limit on input */
