@@ -1,5 +1,5 @@
 /* Changes that leave a JPEG file mostly well formed, so that they come past the head: bits of the scan, whole segments moved, copied
- * and cut, lengths, comments, restarts, the frame's fields; and libFuzzer's own changes beside them. */
+ * and cut, lengths, comments, restarts, the frame's fields, tables' symbols; and libFuzzer's own changes beside them. */
 #include "harness.h"
 
 #include <string.h>
@@ -167,6 +167,44 @@ static void change_frame(struct draft *d) {
     }
 }
 
+/* The symbols of a table, each as likely as the others: their place, and how many there are. */
+static uint8_t *some_symbols(struct draft *d, size_t *count) {
+    uint8_t *symbols = NULL;
+    uint64_t met = 0;
+    for (size_t i = 0; i < d->count; i++) {
+        const struct segment *s = &d->segments[i];
+        for (size_t at = s->at + 4; s->code == 196 && at + 17 < s->end;) {
+            size_t listed = 0;
+            for (size_t length = 1; length <= 16; length++)
+                listed += d->file[at + length];
+            if (listed == 0 || listed > s->end - at - 17)
+                break;
+            if (below(d, ++met) == 0) {
+                symbols = d->file + at + 17;
+                *count = listed;
+            }
+            at += 17 + listed;
+        }
+    }
+    return symbols;
+}
+
+/* A symbol exchanged with another of its table, so that the table is still taken; or the other's once more, or one at an edge of what a
+ * block takes. */
+static void change_symbol(struct draft *d) {
+    static const uint8_t edges[] = {0, 10, 11, 12, 16, 224, 240, 241, 250, 251, 255};
+    size_t count = 0;
+    uint8_t *symbols = some_symbols(d, &count);
+    if (symbols == NULL)
+        return;
+    uint8_t *one = &symbols[below(d, count)], *other = &symbols[below(d, count)], kept = *one;
+    switch (below(d, 4)) {
+    case 0: *one = *other; break;
+    case 1: *one = edges[below(d, sizeof edges)]; break;
+    default: *one = *other, *other = kept; break;
+    }
+}
+
 static bool accepted(const uint8_t *file, size_t length) {
     return tillsparrow_inspect(file, length, false, UINT64_MAX, UINT64_MAX, 65536, UINT64_MAX).number == 0;
 }
@@ -197,7 +235,7 @@ static void find_end(struct draft *d) {
 static void change_file(struct draft *d) {
     static void (*const changes[])(struct draft *) = {flip_scan_bits,  flip_scan_bits, change_scan,   change_scan, put_in_scan,
                                                       move_segment,    cut_segment,    change_length, change_body, insert_comment,
-                                                      insert_interval, insert_fill,    change_frame};
+                                                      insert_interval, insert_fill,    change_frame,  change_symbol};
     take_apart(d);
     changes[below(d, sizeof changes / sizeof changes[0])](d);
 }
