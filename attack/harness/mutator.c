@@ -167,7 +167,7 @@ static void change_frame(struct draft *d) {
     }
 }
 
-/* The symbols of a table, each as likely as the others: their place, and how many there are. */
+/* The symbols of one table, every table as likely as the others: their place, and how many there are. */
 static uint8_t *some_symbols(struct draft *d, size_t *count) {
     uint8_t *symbols = NULL;
     uint64_t met = 0;

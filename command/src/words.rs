@@ -28,7 +28,7 @@ fn to_do(number: u64, bytes: &[u8]) -> &'static str {
         Refused::CUT_SHORT => "copy it again from the camera",
         Refused::MALFORMED if bytes.is_empty() => "the file is empty; copy it again from the camera",
         Refused::MALFORMED if !bytes.starts_with(&[255, 216]) => is_not_jpeg(bytes),
-        Refused::MALFORMED => "copy it again from the camera; a file that stays so is damaged, or its Huffman tables are faulty, and cannot be trusted",
+        Refused::MALFORMED => "copy it again from the camera; a file that stays so is damaged, or the tables in its head are faulty, and cannot be trusted",
         Refused::UNSUPPORTED => "have the camera write baseline files (progressive, 12-bit and four-channel ones are not read)",
         Refused::NO_END_CODE => "it cannot be settled; compare the pictures that decode writes",
         _ => "please report it",
@@ -167,7 +167,7 @@ mod tests {
         assert!(said(b"\0\0\0\x18ftypheic").contains("HEIF"));
         assert!(said(b"tray 7").contains("not a JPEG file"));
         assert!(!said(b"\xff\xd8\xff").contains("not a JPEG"));
-        assert!(said(b"\xff\xd8\xff").contains("damaged, or its Huffman tables are faulty"));
+        assert!(said(b"\xff\xd8\xff").contains("damaged, or the tables in its head are faulty"));
     }
 
     #[test]

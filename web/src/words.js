@@ -6,7 +6,7 @@ const REFUSALS = {
     1: "The file is longer than this page takes, which is 256 MiB. The command ./tillsparrow takes files of any size.",
     2: "The price of reading it is above the budget.",
     3: "The file ends before its picture begins. Copy it again from the camera.",
-    4: "The file breaks a rule of the format: often a cut or damaged copy, seldom faulty Huffman tables, or no JPEG file at all. " +
+    4: "The file breaks a rule of the format: often a cut or damaged copy, seldom faulty tables in its head, or no JPEG file at all. " +
         "Copy it again; a file that stays so cannot be trusted.",
     5: "This is a form of JPEG that is not read: progressive, four channels, 12 bits or the like. Have the camera write baseline files.",
     6: "The picture is larger than this page shows, which is 16,384 pixels a side. The command ./tillsparrow takes pictures of any size.",

@@ -170,7 +170,7 @@ def test_notes(browser, room, shots):
 SENTENCES = {
     1: "Refused (1). The file is longer than this page takes, which is 256 MiB. The command ./tillsparrow takes files of any size.",
     3: "Refused (3). The file ends before its picture begins. Copy it again from the camera.",
-    4: "Refused (4). The file breaks a rule of the format: often a cut or damaged copy, seldom faulty Huffman tables, or no JPEG file at all. "
+    4: "Refused (4). The file breaks a rule of the format: often a cut or damaged copy, seldom faulty tables in its head, or no JPEG file at all. "
        "Copy it again; a file that stays so cannot be trusted.",
     5: "Refused (5). This is a form of JPEG that is not read: progressive, four channels, 12 bits or the like. "
        "Have the camera write baseline files.",

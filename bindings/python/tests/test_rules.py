@@ -41,7 +41,7 @@ class Rules(unittest.TestCase):
         self.assertEqual(at(dataclasses.replace(OWN, output=MOST), 64, 64, 1), (7, 1))
 
     def test_a_table_lists_a_symbol_once(self):
-        """A table that lists a symbol twice is refused where it is read, though the block takes neither code; its neighbour, which
+        """A table that lists a symbol twice is refused where it is read, though the block takes the first of its two codes alone; its neighbour, which
         lists another symbol there, is accepted."""
         careful, careless = files.small(((1, 0), (2, 1))), files.small(((1, 0), (2, 0)))
         seen = tillsparrow.inspect(careful, budget=3485)

@@ -97,8 +97,8 @@ fn decode_refuses_in_order() {
     assert_eq!(at(Record { output: u64::MAX, ..own }, (64, 64), 1), (7, 1));
 }
 
-/// A table that lists a symbol twice is refused where it is read, though the block takes neither
-/// code; its neighbour, which lists another symbol there, is accepted.
+/// A table that lists a symbol twice is refused where it is read, though the block takes the first
+/// of its two codes alone; its neighbour, which lists another symbol there, is accepted.
 #[test]
 fn a_table_lists_a_symbol_once() {
     let (careful, careless) = (file(&[(1, 0), (2, 1)], &[63]), file(&[(1, 0), (2, 0)], &[63]));

@@ -19,7 +19,7 @@ fn clear(words: &mut [u32])
     }
 }
 
-// The word that a symbol has stays: only in a table that no header read is it given another.
+// The word that a symbol has stays. A table that a header read lists no symbol twice; of any other the first code counts.
 fn keep(words: &mut [u32], x: usize, word: u32)
     ensures { λ r. ⌜ now (words .exit) ≡ kept (now (words .entry)) x word ⌝ }
 {
@@ -62,7 +62,7 @@ fn fill(t: &[u8], base: usize, words: &mut [u32])
 }
 
 // For each symbol below the number of words its code in the table at `base` of t: 65536 times its length, and the code; 0 where the
-// table lists no such symbol. A table that the header read has one code at most for each; of any other the first one counts.
+// table lists no such symbol.
 pub fn codes(t: &[u8], base: usize, words: &mut [u32])
     ensures { λ r. ⌜ now (words .exit) ≡ codeWords (tableAt (now (t .entry)) base) (length (now (words .entry))) ⌝ }
 {

@@ -1,6 +1,6 @@
 -- How long a settled scan can be. What is written of a block has at most 16 bits more than what was read of it: every code that is
--- written is the first one of a symbol that was read, and no longer than the one that was read; only an end code may come new. So
--- a settled scan has at most twice the bytes from the first coded byte to the end of the file, and 4 bytes for each block.
+-- written is that of a symbol that was read, and no longer than the one that was read (a table that no header read may have two); only an
+-- end code may come new. So a settled scan has at most twice the bytes from the first coded byte to the end of the file, and 4 bytes for each block.
 use Prim.Native.Nat.{ℕ, zero, suc, _+_, _*_, _-_, _/_, _%_, _^_, _<_, _≤_}
 use mathlib.Core.Path.{_≡_, refl, sym, ap, _∙_, subst, subst⁻¹}
 use mathlib.Core.Bool.{Bool, true, false, cond}

@@ -1,12 +1,12 @@
--- What a block takes of a later symbol: one law for whatever reads, writes or counts it; and that a table may list exactly what a block
--- takes.
+-- What a block takes of a later symbol: one law for whatever reads, writes or counts it; and that an AC table may list exactly what a
+-- block takes. (Of the first symbol the block asks `dcTaken` itself.)
 use Prim.Native.Nat.{ℕ, _+_, _/_, _%_, _<_, _≤_}
-use mathlib.Core.Path.{_≡_, refl, subst, subst⁻¹}
+use mathlib.Core.Path.{_≡_, refl, subst⁻¹}
 use mathlib.Core.Bool.{Bool, true, false, not, cond}
 use native.Mathlib.Omega.{arith}
 use lib.Dec.{T, leb, ltb, eqb, eqb→eq, leb→le, ltb→lt}
 use borrow.Author.Tests.{lt-ltb}
-use Rattle.reading.specs.Tests.{_and_, _or_, within}
+use Rattle.reading.specs.Tests.{_and_, _or_}
 use Rattle.reading.specs.Block.{Ask, end, skip, value, wrong, acTaken, asked}
 
 -- a run and a size, and room for the value at its place

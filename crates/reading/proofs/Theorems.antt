@@ -141,9 +141,9 @@ pub header-finishes :
     → T (finished (header s colour))
 header-finishes s colour = header-ends s colour
 
--- ---- Huffman tables (`OneCode`). `Careful`: every symbol has at most one code, it is the one that settling writes, and a block takes it
+-- ---- Huffman tables (`OneCode`). `Careful`: every symbol has at most one code, the one that settling writes, and what has one a block takes
 
--- every table that is read, used or not: `b` is what is left of its segment, with the table in front
+-- every table that is read, used or not: `b` is what is left of its segment, with the table in front. The header goes on only where it fits
 pub table-careful :
     (b : List ℕ)
     → T (tableFits b)

@@ -60,9 +60,9 @@ runs coded = square (oneCode 0) (twoCodes 0 240) coded
 abbrev twice : List ℕ → List ℕ
 twice coded = square (twoCodes 0 0) (oneCode 0) coded
 
--- F with another DC table before its own
-abbrev after-table : List ℕ → List ℕ
-after-table table = file 8 (replicate 64 1) (segment 196 table) (oneCode 0) (oneCode 0) (63 ∷ [])
+-- F with another table, first byte and all, before its own
+abbrev afterTable : List ℕ → List ℕ
+afterTable body = file 8 (replicate 64 1) (segment 196 body) (oneCode 0) (oneCode 0) (63 ∷ [])
 
 -- 240, and a run of 14 with a value of a size: no end code
 abbrev long : ℕ → List ℕ → List ℕ
@@ -193,9 +193,9 @@ table =
     ∷ gives (judged (oneCode 0) (twoCodes 0 11)) (4 ∷ [])
     ∷ gives (judged (oneCode 0) (twoCodes 0 250)) (0 ∷ [])
     -- a table that is never used, and one that a later table replaces
-    ∷ gives (take 1 (inspected (after-table (3 ∷ twoCodes 0 0)) 10000)) (4 ∷ [])
-    ∷ gives (take 1 (inspected (after-table (0 ∷ twoCodes 0 12)) 10000)) (4 ∷ [])
-    ∷ gives (take 1 (inspected (after-table (0 ∷ twoCodes 0 11)) 10000)) (0 ∷ [])
+    ∷ gives (take 1 (inspected (afterTable (3 ∷ twoCodes 0 0)) 10000)) (4 ∷ [])
+    ∷ gives (take 1 (inspected (afterTable (0 ∷ twoCodes 0 12)) 10000)) (4 ∷ [])
+    ∷ gives (take 1 (inspected (afterTable (0 ∷ twoCodes 0 11)) 10000)) (0 ∷ [])
     -- P6 to P10: a block with only a DC coefficient
     ∷ gives (flat (pos 4)) (replicate 64 128)
     ∷ gives (flat (pos 5)) (replicate 64 129)

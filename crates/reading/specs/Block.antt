@@ -13,7 +13,7 @@ use Rattle.reading.specs.Huffman.{Table, symbol}
 use Rattle.reading.specs.Tests.{_and_, _or_, within}
 
 -- the symbols that a block takes: as its first one a category 0..11; later the end, 16 zeros, or any run of zeros with a value of size 1..10.
--- A table may list these alone (`Header.listable`)
+-- A table may list no others (`Header.listable`)
 abbrev pub dcTaken : ℕ → Bool
 dcTaken x = leb x 11
 

@@ -66,7 +66,7 @@ countsOf b = take 16 (drop 1 b)
 abbrev pub symbolsOf : List ℕ → List ℕ
 symbolsOf b = take (sum (countsOf b)) (drop 17 b)
 
--- what a table of a class may list: DC tables (class 0) and AC tables what a block takes from them
+-- what a table of a class may list: what a block takes from it, as its first symbol (DC, class 0) or later (AC)
 abbrev pub listable : ℕ → ℕ → Bool
 listable class x = cond (eqb class 0) (dcTaken x) (acTaken x)
 

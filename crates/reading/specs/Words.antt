@@ -1,4 +1,4 @@
--- The words in which the theorems are said (proofs/Theorems): what a file reads as, which limits, budget and room suffice for it, by which
+-- The words in which the theorems are said (proofs/Theorems): the codes of a table, what a file reads as, which limits, budget and room suffice for it, by which
 -- rule a call refuses, and what it means that an answer took its listed price. No call is defined by them.
 use Prim.Native.Nat.{ℕ, zero, suc, _+_, _*_, _^_, _<_, _≤_}
 use mathlib.Core.Path.{_≡_}

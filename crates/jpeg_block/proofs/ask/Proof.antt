@@ -1,4 +1,4 @@
--- `ask`: the tests stand in the definition's order.
+-- `ask`: the definition asks first whether the symbol is taken; of that the code's own tests tell on each way out.
 use borrow.Author.Tests.{eq-eqb, ne-eqb, le-leb, lt-leb, lt-ltb, le-ltb}
 use borrow.Author.Needs.{needs}
 use Rattle.jpeg_block.specs.Step.{askAt}
