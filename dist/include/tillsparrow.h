@@ -24,7 +24,7 @@ enum tillsparrow_number {
     TILLSPARROW_TOO_LONG = 1,       /* more bytes than the limit on input */
     TILLSPARROW_OVER_BUDGET = 2,    /* the price is above the budget */
     TILLSPARROW_CUT_SHORT = 3,      /* the header is cut short */
-    TILLSPARROW_MALFORMED = 4,      /* a rule of the format is broken, in the header, its tables or the scan */
+    TILLSPARROW_MALFORMED = 4,      /* a rule of the format is broken, in header, tables or scan */
     TILLSPARROW_UNSUPPORTED = 5,    /* a form of JPEG that is not read */
     TILLSPARROW_TOO_LARGE = 6,      /* a side, or the samples, above a limit */
     TILLSPARROW_SHORT_ROOM = 7,     /* a lent buffer is too short */

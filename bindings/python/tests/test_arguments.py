@@ -189,7 +189,7 @@ class Errors(unittest.TestCase):
         with self.assertRaises(Refused) as raised:
             tillsparrow.read(b"GIF89a")
         refused = raised.exception
-        self.assertEqual(str(refused), "refused 4: a rule of the format is broken, in the header, its tables or the scan")
+        self.assertEqual(str(refused), "refused 4: a rule of the format is broken, in header, tables or scan")
         self.assertEqual((refused.number, refused.left, refused.needed), (4, MOST - 13, None))
         with self.assertRaises(Refused) as raised:
             tillsparrow.settle(DATA, bytearray())

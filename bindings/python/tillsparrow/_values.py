@@ -14,7 +14,7 @@ MEANINGS = {
     1: "more bytes than the limit on input",
     2: "the price is above the budget",
     3: "the header is cut short",
-    4: "a rule of the format is broken, in the header, its tables or the scan",
+    4: "a rule of the format is broken, in header, tables or scan",
     5: "a form of JPEG that is not read",
     6: "a side, or the samples, above a limit",
     7: "a lent buffer is too short",

@@ -22,7 +22,7 @@ impl Refused {
     pub const OVER_BUDGET: u64 = 2;
     /// The header is cut short.
     pub const CUT_SHORT: u64 = 3;
-    /// A rule of the format is broken, in the header, its tables or the scan; also by a Huffman
+    /// A rule of the format is broken, in header, tables or scan; also by a Huffman
     /// table, used or not, that lists a symbol twice or a symbol that no block takes.
     pub const MALFORMED: u64 = 4;
     /// A form of JPEG that is not read.
@@ -42,7 +42,7 @@ impl Refused {
             Refused::TOO_LONG => "more bytes than the limit on input",
             Refused::OVER_BUDGET => "the price is above the budget",
             Refused::CUT_SHORT => "the header is cut short",
-            Refused::MALFORMED => "a rule of the format is broken, in the header, its tables or the scan",
+            Refused::MALFORMED => "a rule of the format is broken, in header, tables or scan",
             Refused::UNSUPPORTED => "a form of JPEG that is not read",
             Refused::TOO_LARGE => "a side, or the samples, above a limit",
             Refused::SHORT_ROOM => "a lent buffer is too short",
