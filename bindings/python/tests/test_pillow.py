@@ -185,7 +185,7 @@ class Refusing(WithPillow):
 
     def test_pillows_decoder_is_never_taken_instead(self):
         source, accepted, theirs = random.Random(7), 0, 0
-        for _ in range(200):
+        for _ in range(500):
             data = bytearray(files.docs_tray())
             for _ in range(source.randrange(1, 4)):
                 data[source.randrange(2, source.choice((620, len(data))))] = source.randrange(256)
