@@ -8,10 +8,10 @@ use mathlib.Core.Logic.{_↔_}
 use mathlib.Core.Option.{Option, none, some}
 use native.Mathlib.Omega.{arith}
 use native.Mathlib.Nat.{not-suc-le-zero, le-of-suc-le-suc}
-use lib.Dec.{T, eqb, ltb}
+use lib.Dec.{T, ltb}
 use lib.ListN.{length, take, drop, getD, length-take, length-drop}
-use borrow.Author.Tests.{eq-eqb, lt-ltb, le-ltb, ltb-true, ltb-false}
-use Rattle.reading.specs.Tests.{isNone, placeOf, placeFrom, apart, all}
+use borrow.Author.Tests.{lt-ltb, le-ltb, ltb-true, ltb-false}
+use Rattle.reading.specs.Tests.{isNone, placeOf, apart, all}
 use Rattle.reading.specs.Reader.{Read, got, fault, onward, give}
 use Rattle.reading.specs.Huffman.{Table, tableAt, sum, bitsOf, codeFrom, symbol, codeAt, codeOf}
 use Rattle.reading.specs.declared.Record.{Record}
@@ -24,36 +24,32 @@ use Rattle.reading.specs.Words.{AllBits, nextIn, IsCode, Careful}
 use Rattle.reading.proofs.Plain.{and-left, and-right, Plain, pop, bitsOf-last, Good, Found}
 use Rattle.reading.proofs.Readings.{Two, two, no-fault, got-val}
 use Rattle.reading.proofs.Written.{plain, found, some-list, absurd-some, symbol-written}
+use Rattle.reading.proofs.ScanWritten.{Bits?, codeOf-bits}
 use Rattle.reading.proofs.Fits.{table-known}
 use Rattle.reading.proofs.HeaderEnds.{header-within}
 use Rattle.reading.proofs.HeaderPrefix.{take-drop-take}
+use Rattle.reading.proofs.WantOfCode.{there}
 use Rattle.reading.proofs.GoodTables.{TableOk, good-table, tables-stand}
 
 -- ---- a list with no number twice
 
 -- what stands in a list has a place in it
-has-place : (l : List ℕ) (x i j : ℕ) → i < length l → getD l i 0 ≡ x → isNone (placeFrom l x j) ≡ false
-has-place [] x i j h e = absurd (not-suc-le-zero h)
-has-place (y ∷ l) x zero j h e = rw (eq-eqb x y (sym e))
-has-place (y ∷ l) x (suc i) j h e = go (eqb x y) (has-place l x i (suc j) (le-of-suc-le-suc h) e)
-  where
-    go : (b : Bool) → isNone (placeFrom l x (suc j)) ≡ false → isNone (cond b (some j) (placeFrom l x (suc j))) ≡ false
-    go true k = refl
-    go false k = k
+has-place : (l : List ℕ) (x i : ℕ) → i < length l → getD l i 0 ≡ x → isNone (placeOf l x) ≡ false
+has-place l x i h e = subst (λ y. isNone (placeOf l y) ≡ false) e (ap isNone (there l i 0 h .1))
 
 -- so it has one place at most
 one-place : (l : List ℕ) → T (apart l) → (i j : ℕ) → i < length l → j < length l → getD l i 0 ≡ getD l j 0 → i ≡ j
 one-place [] t i j h k e = absurd (not-suc-le-zero h)
 one-place (y ∷ l) t zero zero h k e = refl
 one-place (y ∷ l) t zero (suc j) h k e =
-    absurd (subst T (has-place l y j 0 (le-of-suc-le-suc k) (sym e)) (and-left (isNone (placeOf l y)) (apart l) t))
+    absurd (subst T (has-place l y j (le-of-suc-le-suc k) (sym e)) (and-left (isNone (placeOf l y)) (apart l) t))
 one-place (y ∷ l) t (suc i) zero h k e =
-    absurd (subst T (has-place l y i 0 (le-of-suc-le-suc h) e) (and-left (isNone (placeOf l y)) (apart l) t))
+    absurd (subst T (has-place l y i (le-of-suc-le-suc h) e) (and-left (isNone (placeOf l y)) (apart l) t))
 one-place (y ∷ l) t (suc i) (suc j) h k e =
     ap suc (one-place l (and-right (isNone (placeOf l y)) (apart l) t) i j (le-of-suc-le-suc h) (le-of-suc-le-suc k) e)
 
 the-place : (l : List ℕ) (x i : ℕ) → T (apart l) → i < length l → getD l i 0 ≡ x → placeOf l x ≡ some i
-the-place l x i t h e = go (placeOf l x) refl (has-place l x i 0 h e)
+the-place l x i t h e = go (placeOf l x) refl (has-place l x i h e)
   where
     go : (o : Option ℕ) → placeOf l x ≡ o → isNone o ≡ false → o ≡ some i
     go none p n = absurd (subst T n tt)
@@ -145,20 +141,6 @@ bare-symbol t bits = rw (bare-code (t .counts) 0 0 0 bits) (go (codeFrom pop (t 
     go (got i s) = refl
     go (fault f) = refl
 
--- ---- codes are bits
-
-bits-below : (n v : ℕ) → AllBits (bitsOf n v)
-bits-below zero v = tt
-bits-below (suc n) v = (omega arith, bits-below n v)
-
-code-below : (cs : List ℕ) (m f i : ℕ) → AllBits (codeAt cs m f i)
-code-below [] m f i = tt
-code-below (c ∷ cs) m f i = go (ltb i c) (code-below cs (suc m) (2 * f + c) (i - c))
-  where
-    go : (b : Bool) → AllBits (codeAt cs (suc m) (2 * f + c) (i - c)) → AllBits (cond b (bitsOf (suc m) (2 * f + i)) (codeAt cs (suc m) (2 * f + c) (i - c)))
-    go true later = bits-below (suc m) (2 * f + i)
-    go false later = later
-
 -- ---- the code
 
 module _ (t : Table) (g : Good t) (alone : T (apart (t .symbols))) (x : ℕ) (w : List ℕ) where
@@ -175,19 +157,11 @@ module _ (t : Table) (g : Good t) (alone : T (apart (t .symbols))) (x : ℕ) (w 
           (ap some (sym (back .code ∙ ap (codeAt (t .counts) 0 0) own)))
 
   code-reads : codeOf t x ≡ some w → IsCode t x w
-  unfolding codeOf
   code-reads e =
       record {
-        bitwise = listed;
+        bitwise = subst Bits? e (codeOf-bits t x);
         reads = bare-symbol t w ∙ ap bare (ap (λ l. symbol pop t (plain l [])) (sym (append-nil w)) ∙ symbol-written t g x w [] [] e);
       }
-    where
-      listed : AllBits w
-      listed = go (placeOf (t .symbols) x) refl
-        where
-          go : (o : Option ℕ) → placeOf (t .symbols) x ≡ o → AllBits w
-          go none p = absurd (absurd-some w (rw p at e))
-          go (some i) p = subst AllBits (some-list (rw p at e)) (code-below (t .counts) 0 0 i)
 
   the-code : IsCode t x w ↔ codeOf t x ≡ some w
   the-code = (code-so, code-reads)
