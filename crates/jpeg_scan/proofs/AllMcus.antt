@@ -18,7 +18,7 @@ use Rattle.jpeg_scan_plan.specs.declared.Halt.{Halt}
 use Rattle.jpeg_scan_plan.specs.declared.Halt.the-variants.{No, Yes}
 use Rattle.jpeg_scan_plan.specs.declared.CursorRead.{CursorRead}
 use Rattle.jpeg_scan_plan.specs.Plans.{Stands}
-use Rattle.jpeg_scan_plan.specs.Restart.{restarted}
+use Rattle.jpeg_scan_plan.specs.Marks.{restarted}
 use Rattle.jpeg_scan.specs.Steps.{ahead, resumed, before, inked, Passed, Behind, Went}
 use Rattle.jpeg_scan_plan.proofs.Marks.{restart-done}
 use Rattle.jpeg_scan.proofs.Onward.{before-none, before-before, before-fault, before-got, ahead-none, wentBy, went-by, restart-next}

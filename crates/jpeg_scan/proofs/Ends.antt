@@ -11,12 +11,14 @@ use Rattle.reading.specs.declared.Fault.{Fault}
 use Rattle.reading.specs.declared.Fault.the-variants.{Broken}
 use Rattle.reading.specs.declared.Record.{Record}
 use Rattle.reading.specs.Tests.{over}
-use Rattle.reading.specs.Reader.{got, fault, Reader, onward, give, rule}
-use Rattle.reading.specs.Bits.{file, ended}
+use Rattle.reading.specs.Reader.{got, fault, Reader, onward, _>>_, give}
+use Rattle.reading.specs.Bits.{file, firstBit}
 use Rattle.reading.specs.Reading.{allSamples}
-use Rattle.reading.specs.Scan.{planOf, blocks, levels}
+use Rattle.reading.specs.Scan.{planOf, blocks, closed, levels}
 use Rattle.reading.specs.Code.Scans.{atStart, readable, scanOf}
 use Rattle.reading.proofs.Readings.{got-val, no-fault}
+use Rattle.jpeg_scan_plan.specs.Marks.{closes}
+use Rattle.jpeg_scan_plan.proofs.Marks.{end-there, end-not}
 use Rattle.jpeg_scan.specs.Steps.{ahead, placed, inked, Left}
 use Rattle.jpeg_scan.proofs.Samples.{inked-not}
 
@@ -24,7 +26,7 @@ use Rattle.jpeg_scan.proofs.Samples.{inked-not}
 
 -- blocks that were read, and the end behind them
 abbrev closing : List ℕ → List (List ℤ) → Reader Bits (List (List ℤ))
-closing s ls = λ b. onward (rule (ended s b) b) (λ _. give ls)
+closing s ls = closed (file s) >> give ls
 
 module _ (s : List ℕ) (r : Record) (e : readable s r ≡ true) where
   scan-is : scanOf s r ≡ onward (ahead s (planOf s r) (r .blocks) (atStart (r .start))) (closing s)
@@ -35,11 +37,11 @@ module _ (s : List ℕ) (r : Record) (e : readable s r ≡ true) where
   scan-stop g = scan-is ∙ rw g
 
   module _ {ls : List (List ℤ)} {b : Bits} (g : ahead s (planOf s r) (r .blocks) (atStart (r .start)) ≡ got ls b) where
-    pub scan-done : ended s b ≡ true → scanOf s r ≡ got ls b
-    scan-done h = scan-is ∙ rw g (rw h)
+    pub scan-done : closes s b ≡ true → scanOf s r ≡ got ls (firstBit (length s))
+    scan-done h = scan-is ∙ rw g (rw (end-there s b h))
 
-    pub scan-open : ended s b ≡ false → scanOf s r ≡ fault Broken
-    scan-open h = scan-is ∙ rw g (rw h)
+    pub scan-open : closes s b ≡ false → scanOf s r ≡ fault Broken
+    scan-open h = scan-is ∙ rw g (rw (end-not s b h))
 
 -- ---- the scratch
 

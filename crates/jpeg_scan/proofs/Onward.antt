@@ -18,7 +18,7 @@ use Rattle.reading.specs.declared.Fault.the-variants.{Broken}
 use Rattle.reading.specs.declared.ScanCursor.{ScanCursor}
 use Rattle.reading.specs.Tests.{_and_, isAt}
 use Rattle.reading.specs.Reader.{Read, got, fault, onward, _>>_, give}
-use Rattle.reading.specs.Bits.{one, file, mark, padded}
+use Rattle.reading.specs.Bits.{one, file, mark}
 use Rattle.reading.specs.Huffman.{Table, tableAt}
 use Rattle.reading.specs.Block.{block}
 use Rattle.reading.specs.Code.Places.{places}
@@ -32,7 +32,7 @@ use Rattle.jpeg_scan_plan.specs.declared.Halt.{Halt}
 use Rattle.jpeg_scan_plan.specs.declared.Halt.the-variants.{No, Yes}
 use Rattle.jpeg_scan_plan.specs.declared.CursorRead.{CursorRead}
 use Rattle.jpeg_scan_plan.specs.Plans.{chan, Stands}
-use Rattle.jpeg_scan_plan.specs.Restart.{marked, onTo, behindMarker, restarted}
+use Rattle.jpeg_scan_plan.specs.Marks.{onTo, behindMarker, restarted}
 use Rattle.jpeg_scan.specs.Steps.{begun, ahead, resumed, before}
 
 -- ---- blocks put before a reading
@@ -176,7 +176,7 @@ module _ {t : List ℕ} {n : Plan} {p : scan.Plan} (st : Stands t n p) (s : List
     code-is = ap₂ restartBefore (st .interval-is) mcu-is
 
     pub restart-next : ahead s p N q ≡ went (restarted s (n .interval) m q) (resumed s p N)
-    unfolding restarted marked file
+    unfolding restarted file
     restart-next = ahead-restart s p N q i ∙ rw (due-is, code-is) (go (dueBefore (n .interval) m))
       where
         code : ℕ
@@ -185,14 +185,12 @@ module _ {t : List ℕ} {n : Plan} {p : scan.Plan} (st : Stands t n p) (s : List
         after : List ℤ → Bits → Read Bits (List (List ℤ))
         after qs b = resumed s p N (record { bits = b; predictors = qs; done = q .done })
 
-        found : (x : Bool)
-            → onward (onward (cond x (got nothing (scan.firstBit (q .bits .at + 2))) (fault Broken)) (λ _. give scan.noPredictors)) after
-            ≡ went (cond x (onTo (behindMarker q)) (record { halt = Yes Broken; cursor = q })) (resumed s p N)
-        found true = refl
-        found false = refl
+        looked : (r : Read Bits (Unit {0})) → onward (onward r (λ _. give scan.noPredictors)) after ≡ went (behindMarker q r) (resumed s p N)
+        looked (got _ b) = refl
+        looked (fault f) = refl
 
         go : (t : Bool)
             → onward (cond t (mark s code >> give scan.noPredictors) (give (q .predictors)) (q .bits)) after
-            ≡ went (cond t (cond (marked s (q .bits) code) (onTo (behindMarker q)) (record { halt = Yes Broken; cursor = q })) (onTo q)) (resumed s p N)
-        go true = found (padded (q .bits) and isAt s (q .bits .at) 255 and isAt s (q .bits .at + 1) code)
+            ≡ went (cond t (behindMarker q (mark s code (q .bits))) (onTo q)) (resumed s p N)
+        go true = looked (mark s code (q .bits))
         go false = refl

@@ -1,2 +1,2 @@
 pub mod Plans
-pub mod Restart
+pub mod Marks

@@ -2,12 +2,12 @@
 // restart before an MCU, the end. Every reader of a scan goes by these; none of them reads a block.
 ghost use mathlib.Core.Path.{_≡_};
 ghost use lib.ListN.{take, drop};
-ghost use Rattle.reading.specs.Bits.{padded, ended};
+ghost use Rattle.reading.specs.Bits.{padded, mark};
 ghost use Rattle.reading.specs.Layout.{dueBefore, restartBefore};
 ghost use Rattle.reading.specs.Tables.{chosen};
 ghost use Rattle.reading.specs.Code.Scans.{readable};
 ghost use Rattle.jpeg_scan_plan.specs.Plans.{three, noPlan, planFor, chan};
-ghost use Rattle.jpeg_scan_plan.specs.Restart.{marked, restarted};
+ghost use Rattle.jpeg_scan_plan.specs.Marks.{looked, closes, restarted};
 use reading::Bits;
 use reading::Fault;
 use reading::Record;
@@ -36,6 +36,12 @@ pub enum Halt {
 pub struct CursorRead {
     pub halt: Halt,
     pub cursor: ScanCursor,
+}
+
+// What is found where a marker is looked for: none, or one, and the place behind it.
+pub enum Mark {
+    Missing,
+    Behind(usize),
 }
 
 // Whether a record has numbers by which a scan can be read: every record that a header gives has.
@@ -136,35 +142,37 @@ fn full(byte: u8, left: u8) -> bool
     byte as usize % p == p - 1
 }
 
-// Padding, then 255 and a code.
-fn at_marker(s: &[u8], b: Bits, code: usize) -> bool
-    ensures { λ r. ⌜ r ≡ marked (now (s .entry)) b code ⌝ }
+// A marker: padding, then 255 and a code.
+fn marker(s: &[u8], b: Bits, code: usize) -> Mark
+    ensures { λ r. ⌜ looked r ≡ mark (now (s .entry)) code b ⌝ }
 {
     let at = b.at;
     if !full(b.byte, b.left) {
-        return false;
+        return Mark::Missing;
     }
     if s.len() <= at {
-        return false;
+        return Mark::Missing;
     }
     if s[at] != 255 {
-        return false;
+        return Mark::Missing;
     }
     if s.len() - at < 2 {
-        return false;
+        return Mark::Missing;
     }
-    s[at + 1] as usize == code
+    if s[at + 1] as usize != code {
+        return Mark::Missing;
+    }
+    Mark::Behind(at + 2)
 }
 
-// After the last block: padding, and 255 217 as the last two bytes.
+// After the last block: the marker 217, and no byte behind it.
 pub fn at_end(s: &[u8], b: Bits) -> bool
-    ensures { λ r. ⌜ r ≡ ended (now (s .entry)) b ⌝ }
+    ensures { λ r. ⌜ r ≡ closes (now (s .entry)) b ⌝ }
 {
-    let at = b.at;
-    if !at_marker(s, b, 217) {
-        return false;
+    match marker(s, b, 217) {
+        Mark::Missing => false,
+        Mark::Behind(at) => at == s.len(),
     }
-    s.len() - at == 2
 }
 
 // A restart is due before MCU m > 0 with m a multiple of the interval; 0 is none.
@@ -193,7 +201,7 @@ pub fn restart_code(m: usize, interval: usize) -> usize
     208 + (m / interval - 1) % 8
 }
 
-// Before MCU m: where a restart is due, padding and its marker, and the predictors become 0.
+// Before MCU m: where a restart is due, its marker, and the predictors become 0.
 pub fn restart(s: &[u8], from: ScanCursor, m: usize, interval: usize) -> CursorRead
     ensures { λ r. ⌜ r ≡ restarted (now (s .entry)) interval m from ⌝ }
 {
@@ -203,24 +211,22 @@ pub fn restart(s: &[u8], from: ScanCursor, m: usize, interval: usize) -> CursorR
             cursor: from,
         };
     }
-    let bits = from.bits;
-    let at = bits.at;
-    if !at_marker(s, bits, restart_code(m, interval)) {
-        return CursorRead {
+    match marker(s, from.bits, restart_code(m, interval)) {
+        Mark::Missing => CursorRead {
             halt: Halt::Yes(Fault::Broken),
             cursor: from,
-        };
-    }
-    CursorRead {
-        halt: Halt::No,
-        cursor: ScanCursor {
-            bits: Bits {
-                at: at + 2,
-                byte: 0,
-                left: 0,
+        },
+        Mark::Behind(at) => CursorRead {
+            halt: Halt::No,
+            cursor: ScanCursor {
+                bits: Bits {
+                    at: at,
+                    byte: 0,
+                    left: 0,
+                },
+                predictors: [0; 3],
+                done: from.done,
             },
-            predictors: [0; 3],
-            done: from.done,
         },
     }
 }

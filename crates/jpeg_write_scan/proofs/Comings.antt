@@ -16,7 +16,7 @@ use Rattle.reading.specs.declared.Fault.{Fault}
 use Rattle.reading.specs.declared.Fault.the-variants.{Broken}
 use Rattle.reading.specs.declared.ScanCursor.{ScanCursor}
 use Rattle.reading.specs.Reader.{Read, got, fault, onward}
-use Rattle.reading.specs.Bits.{one}
+use Rattle.reading.specs.Bits.{one, mark}
 use Rattle.reading.specs.Block.{block}
 use Rattle.reading.specs.Layout.{channelOf, dueBefore, restartBefore, restartDue, restartCode}
 use Rattle.reading.specs.Code.Answers.{said, levelsOf}
@@ -28,7 +28,7 @@ use Rattle.jpeg_scan_plan.specs.declared.Halt.{Halt}
 use Rattle.jpeg_scan_plan.specs.declared.Halt.the-variants.{No, Yes}
 use Rattle.jpeg_scan_plan.specs.declared.CursorRead.{CursorRead}
 use Rattle.jpeg_scan_plan.specs.Plans.{chan, Stands}
-use Rattle.jpeg_scan_plan.specs.Restart.{marked, onTo, behindMarker, restarted}
+use Rattle.jpeg_scan_plan.specs.Marks.{onTo, behindMarker, restarted}
 use Rattle.jpeg_scan.specs.Steps.{ahead, resumed, before}
 use Rattle.jpeg_scan_plan.proofs.Marks.{restart-done}
 use Rattle.jpeg_scan.proofs.Onward.{ahead-none, resumed-none, wentBy, went-by, blockAt, past, resumed-block, channel-here, not-due, inside, block-stop, block-next, due-is, code-is, restart-next}
@@ -146,14 +146,14 @@ module _ {t : List ℕ} {n : Plan} {p : scan.Plan} (st : Stands t n p) (s : List
       unfolding restarted
       predicted =
           ap (λ (x : CursorRead). x .cursor .predictors) u
-          ∙ go (dueBefore (n .interval) m) (marked s (q .bits) (restartBefore (n .interval) m)) (sym (ap (λ (x : CursorRead). x .halt) u) ∙ g)
+          ∙ go (dueBefore (n .interval) m) (mark s (restartBefore (n .interval) m) (q .bits)) (sym (ap (λ (x : CursorRead). x .halt) u) ∙ g)
         where
-          go : (d x : Bool)
-              → (cond d (cond x (onTo (behindMarker q)) (record { halt = Yes Broken; cursor = q })) (onTo q)) .halt ≡ No
-              → (cond d (cond x (onTo (behindMarker q)) (record { halt = Yes Broken; cursor = q })) (onTo q)) .cursor .predictors ≡ predictors d (q .predictors)
-          go true true k = refl
-          go true false k = absurd (suc-ne-zero 0 cc)
-          go false x k = refl
+          go : (d : Bool) (r : Read Bits (Unit {0}))
+              → (cond d (behindMarker q r) (onTo q)) .halt ≡ No
+              → (cond d (behindMarker q r) (onTo q)) .cursor .predictors ≡ predictors d (q .predictors)
+          go true (got _ b) k = refl
+          go true (fault f) k = absurd (suc-ne-zero 0 cc)
+          go false r k = refl
 
       module _ (ink : Outcome) (out : List ℕ) {r : Outcome} {new : List ℕ} (o : Moves (cut (dueBefore (n .interval) m) (restartBefore (n .interval) m)) ink out r new) where
         restart-on : (l : List ℤ) (ls : Blocks) → finalBy ink out (written p (q .done) (q .predictors) (l ∷ ls)) ≡ finalBy r new (writtenOn p (a .cursor .done) (a .cursor .predictors) (l ∷ ls))

@@ -14,9 +14,8 @@ use Rattle.reading.specs.declared.Fault.the-variants.{Broken}
 use Rattle.reading.specs.declared.ScanCursor.{ScanCursor}
 use Rattle.reading.specs.declared.ScanSettled.{ScanSettled}
 use Rattle.reading.specs.declared.ScanSettled.the-variants as answer
-use Rattle.reading.specs.Bits.{ended}
 use Rattle.reading.specs.Layout.{dueBefore, restartBefore}
-use Rattle.reading.specs.Reader.{Read, got, fault}
+use Rattle.reading.specs.Reader.{Read, got, fault, onward, give}
 use Rattle.reading.specs.Scan as scan
 use Rattle.reading.specs.Code.Scans.{atStart}
 use Rattle.reading.specs.Settled.{cut}
@@ -25,8 +24,8 @@ use Rattle.jpeg_scan_plan.specs.declared.Halt.{Halt}
 use Rattle.jpeg_scan_plan.specs.declared.Halt.the-variants.{No, Yes}
 use Rattle.jpeg_scan_plan.specs.declared.CursorRead.{CursorRead}
 use Rattle.jpeg_scan_plan.specs.Plans.{Stands}
-use Rattle.jpeg_scan_plan.specs.Restart.{restarted}
-use Rattle.jpeg_scan_plan.proofs.Marks.{restart-done}
+use Rattle.jpeg_scan_plan.specs.Marks.{closes, restarted}
+use Rattle.jpeg_scan_plan.proofs.Marks.{end-there, end-not, restart-done}
 use Rattle.jpeg_scan.proofs.OneMcu.{head}
 use Rattle.jpeg_write_scan.specs.declared.Moved.{Moved}
 use Rattle.jpeg_write_bits.specs.declared.Outcome.{Outcome}
@@ -74,22 +73,22 @@ module _ {s : List ℕ} {n : Plan} {old new : List ℕ} {q : ScanCursor} {ink : 
     at-last : (p : scan.Plan) → Stands (head n s) n p → whole s p n old ≡ got (finalBy ink new (some lastPart)) (q .bits)
     at-last p st = w .on p st ∙ coming-none s p (n .blocks) q ink new h
 
-    pub ended-done : ended s (q .bits) ≡ true → {r : ScanSettled} {new′ : List ℕ} → length new′ ≡ length new → Closes (finalBy ink new (some lastPart)) r new′ → Ran s n old r new′
+    pub ended-done : closes s (q .bits) ≡ true → {r : ScanSettled} {new′ : List ℕ} → length new′ ≡ length new → Closes (finalBy ink new (some lastPart)) r new′ → Ran s n old r new′
     ended-done e {r} {new′} long a =
         record {
           size = long ∙ w .size;
           each = λ p st.
               subst⁻¹ (λ (o : Read Bits (Option Spot)). Answers (closing s o) r new′) (at-last p st)
-              (subst⁻¹ (λ (t : Bool). Answers (cond t (got (finalBy ink new (some lastPart)) (q .bits)) (fault Broken)) r new′) e (a .told));
+              (subst⁻¹ (λ (o : Read Bits (Unit {0})). Answers (onward o (λ _. give (finalBy ink new (some lastPart)))) r new′) (end-there s (q .bits) e) (a .told));
         }
 
-    pub ended-not : ended s (q .bits) ≡ false → Ran s n old (answer.Stop Broken) new
+    pub ended-not : closes s (q .bits) ≡ false → Ran s n old (answer.Stop Broken) new
     ended-not e =
         record {
           size = w .size;
           each = λ p st.
               subst⁻¹ (λ (o : Read Bits (Option Spot)). Answers (closing s o) (answer.Stop Broken) new) (at-last p st)
-              (subst⁻¹ (λ (t : Bool). Answers (cond t (got (finalBy ink new (some lastPart)) (q .bits)) (fault Broken)) (answer.Stop Broken) new) e refl);
+              (subst⁻¹ (λ (o : Read Bits (Unit {0})). Answers (onward o (λ _. give (finalBy ink new (some lastPart)))) (answer.Stop Broken) new) (end-not s (q .bits) e) refl);
         }
 
   -- ---- one MCU more

@@ -16,8 +16,8 @@ use Rattle.reading.specs.declared.Fault.the-variants.{Broken}
 use Rattle.reading.specs.declared.Record.{Record}
 use Rattle.reading.specs.declared.ScanSettled.{ScanSettled}
 use Rattle.reading.specs.declared.ScanSettled.the-variants as answer
-use Rattle.reading.specs.Bits.{ended}
-use Rattle.reading.specs.Reader.{Read, got, fault}
+use Rattle.reading.specs.Bits.{file, firstBit}
+use Rattle.reading.specs.Reader.{Read, got, fault, onward, give}
 use Rattle.reading.specs.Scan as scan
 use Rattle.reading.specs.Code.Scans.{atStart, scanOf, settledRead, settledOf, scanSettled, laidOver}
 use Rattle.reading.specs.Settled.{written, settledScan}
@@ -25,6 +25,8 @@ use Rattle.jpeg_scan_plan.specs.declared.Plan.{Plan}
 use Rattle.jpeg_scan.specs.Steps.{ahead}
 use Rattle.jpeg_scan_plan.proofs.Standing.{Ready}
 use Rattle.jpeg_scan.proofs.Ends.{scan-stop, scan-done, scan-open}
+use Rattle.jpeg_scan_plan.specs.Marks.{closes}
+use Rattle.jpeg_scan_plan.proofs.Marks.{end-there, end-not}
 use Rattle.reading.proofs.Counted.{scan-levels}
 use Rattle.jpeg_write_bits.specs.declared.Outcome.the-variants.{Done}
 use Rattle.jpeg_write_bits.specs.Page.{Spot, spot, bytesAt, fresh}
@@ -61,15 +63,18 @@ module _ {s : List ℕ} {r : Record} {n : Plan} (u : Ready s r n) (few : r .bloc
       bytes : List (List ℤ) → Option Spot
       bytes ls = finalBy (Done (fresh 0)) old (written (scan.planOf s r) 0 scan.noPredictors ls)
 
-      close : (ls : List (List ℤ)) (b : Bits) → ahead s (scan.planOf s r) (r .blocks) (atStart (r .start)) ≡ got ls b → (t : Bool) → ended s b ≡ t
-          → cond t (got (bytes ls) b) (fault Broken) ≡ put old (settledRead (scan.planOf s r) (scanOf s r))
+      close : (ls : List (List ℤ)) (b : Bits) → ahead s (scan.planOf s r) (r .blocks) (atStart (r .start)) ≡ got ls b → (t : Bool) → closes s b ≡ t
+          → onward (scan.closed (file s) b) (λ _. give (bytes ls)) ≡ put old (settledRead (scan.planOf s r) (scanOf s r))
       close ls b e true h =
-          ap (λ (x : Option Spot). got x b) (final-scan old 0 (written (scan.planOf s r) 0 scan.noPredictors ls))
+          ap (λ (x : Read Bits (Unit {0})). onward x (λ _. give (bytes ls))) (end-there s b h)
+          ∙ ap (λ (x : Option Spot). got x (firstBit (length s))) (final-scan old 0 (written (scan.planOf s r) 0 scan.noPredictors ls))
           ∙ sym (ap (λ (o : Read Bits (List (List ℤ))). put old (settledRead (scan.planOf s r) o)) (scan-done s r (u .readable-is) e h))
-      close ls b e false h = sym (ap (λ (o : Read Bits (List (List ℤ))). put old (settledRead (scan.planOf s r) o)) (scan-open s r (u .readable-is) e h))
+      close ls b e false h =
+          ap (λ (x : Read Bits (Unit {0})). onward x (λ _. give (bytes ls))) (end-not s b h)
+          ∙ sym (ap (λ (o : Read Bits (List (List ℤ))). put old (settledRead (scan.planOf s r) o)) (scan-open s r (u .readable-is) e h))
 
       go : (o : Read Bits (List (List ℤ))) → ahead s (scan.planOf s r) (r .blocks) (atStart (r .start)) ≡ o → closing s (settling bytes o) ≡ put old (settledRead (scan.planOf s r) (scanOf s r))
-      go (got ls b) e = close ls b e (ended s b) refl
+      go (got ls b) e = close ls b e (closes s b) refl
       go (fault f) e = sym (ap (λ (o : Read Bits (List (List ℤ))). put old (settledRead (scan.planOf s r) o)) (scan-stop s r (u .readable-is) e))
 
   -- as the pass says it

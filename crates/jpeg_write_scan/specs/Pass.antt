@@ -11,8 +11,8 @@ use Rattle.reading.specs.declared.Fault.the-variants.{Broken}
 use Rattle.reading.specs.declared.ScanCursor.{ScanCursor}
 use Rattle.reading.specs.declared.ScanSettled.{ScanSettled}
 use Rattle.reading.specs.declared.ScanSettled.the-variants as answer
-use Rattle.reading.specs.Reader.{Read, got, fault}
-use Rattle.reading.specs.Bits.{ended}
+use Rattle.reading.specs.Reader.{Read, got, fault, onward, give}
+use Rattle.reading.specs.Bits.{file}
 use Rattle.reading.specs.Layout.{channelOf}
 use Rattle.reading.specs.Scan as scan
 use Rattle.reading.specs.Code.Scans.{atStart, scanSettled}
@@ -98,7 +98,7 @@ pub record Went (s : List ℕ) (n : Plan) (from : ScanCursor) (ink : Outcome) (o
 
 -- behind the last block stands the end of the file
 abbrev pub closing : List ℕ → Read Bits (Option Spot) → Read Bits (Option Spot)
-closing s (got o b) = cond (ended s b) (got o b) (fault Broken)
+closing s (got o b) = onward (scan.closed (file s) b) (λ _. give o)
 closing s (fault f) = fault f
 
 abbrev pub Answers : Read Bits (Option Spot) → ScanSettled → List ℕ → Type 0

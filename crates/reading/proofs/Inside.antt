@@ -12,9 +12,10 @@ use Rattle.reading.specs.declared.Bits.{Bits}
 use Rattle.reading.specs.declared.Fault.{Fault}
 use Rattle.reading.specs.declared.Fault.the-variants.{Bare, Broken}
 use Rattle.reading.specs.Reader.{Read, got, fault, Reader, onward, _>>=_, give, fail, rule}
-use Rattle.reading.specs.Bits.{firstOf, afterFull, freshFrom, oneAt, one, file, mark, padded, fieldFrom, meaning, amplitude}
+use Rattle.reading.specs.Bits.{firstOf, afterFull, freshFrom, oneAt, one, file, mark, fieldFrom, meaning, amplitude}
 use Rattle.reading.specs.Huffman.{Table, codeFrom, symbol}
 use Rattle.reading.proofs.FileBytes.{element-there}
+use Rattle.reading.proofs.Marks.{Looked, found, missed, mark-looked}
 use Rattle.reading.specs.Tests.{_and_, holds, isAt}
 use Rattle.reading.specs.Layout.{channelOf, restartDue, restartCode}
 use Rattle.reading.specs.Scan.{Plan, noPredictors, restart, blocks}
@@ -154,22 +155,13 @@ block-inside s dc ac p = keeps-block (Inside s) (one s) (one-inside s) dc ac p
 
 -- ---- markers, and the blocks of a scan
 
-abbrev nothing : Unit {0}
-nothing = tt
-
 -- a marker that was read stands inside the bytes
 pub mark-inside : (s : List ℕ) (code : ℕ) → Keeps (Inside s) (mark s code)
-mark-inside s code = record { kept = λ b h. go b (padded b) (isAt s (b .at) 255) (getElem? s (b .at + 1)) refl }
+mark-inside s code = record { kept = λ b h. go b (mark s code b) (mark-looked s code b) }
   where
-    go : (b : Bits) (x y : Bool) (o : Option ℕ) → getElem? s (b .at + 1) ≡ o → Stands (Inside s) (cond (x and y and holds o code) (got nothing (record { at = b .at + 2; byte = 0; left = 0 })) (fault Broken))
-    go b false y o e = tt
-    go b true false o e = tt
-    go b true true none e = tt
-    go b true true (some z) e = found (eqb z code)
-      where
-        found : (t : Bool) → Stands (Inside s) (cond t (got nothing (record { at = b .at + 2; byte = 0; left = 0 })) (fault Broken))
-        found true = record { place = omega (arith, element-there s (b .at + 1) z e); unread = omega arith }
-        found false = tt
+    go : (b : Bits) (r : Read Bits (Unit {0})) → Looked s b r → Stands (Inside s) r
+    go b _ (found on h i) = record { place = i; unread = omega arith }
+    go b _ missed = tt
 
 -- blocks that are read, restarts before them too, leave the cursor inside the bytes
 pub blocks-inside : (s : List ℕ) (p : Plan) (n k : ℕ) (ps : List ℤ) → Keeps (Inside s) (blocks (file s) p n k ps)

@@ -2,6 +2,7 @@ pub mod Places
 pub mod SamplePlaces
 pub mod FileBytes
 pub mod Restarts
+pub mod Marks
 pub mod Equal
 pub mod DoubleSum
 pub mod Inside

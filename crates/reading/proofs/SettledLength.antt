@@ -16,16 +16,17 @@ use Rattle.reading.specs.declared.Bits.{Bits}
 use Rattle.reading.specs.declared.Record.{Record}
 use Rattle.reading.specs.declared.Fault.the-variants.{Broken}
 use Rattle.reading.specs.Reader.{Read, got, fault, Reader, onward, _>>=_, _>>_, give, rule}
-use Rattle.reading.specs.Bits.{one, file, mark, padded, fieldFrom, field, amplitude}
+use Rattle.reading.specs.Bits.{one, file, mark, fieldFrom, field, amplitude}
 use Rattle.reading.specs.Huffman.{Table, tableAt, bitsOf, codeFrom, symbol, codeAt, codeAtPlace, codeOf}
 use Rattle.reading.specs.Block.{Ask, end, skip, value, wrong, asked, answered, zeros, rest, first, block, predictable}
 use Rattle.reading.specs.Layout.{channelOf, restartDue, restartCode}
-use Rattle.reading.specs.Scan.{Channel, Plan, planOf, blocks, scan, levels, firstBit, noPredictors}
+use Rattle.reading.specs.Scan.{Channel, Plan, planOf, blocks, closed, scan, levels, firstBit, noPredictors}
 use Rattle.reading.specs.Settled.{Written, _then_, size, sizeFrom, fieldOf, valueBits, skips, levelBits, restBits, firstBits, blockBits, stuffed, padding, packNext, packFrom, packed, Coded, bytesOf, onto, cut, predictors, written, scanBytes, settledScan}
 use Rattle.reading.specs.Tables.{dcAt, acAt}
 use Rattle.reading.specs.Tests.{_and_, isAt, placeOf, placeFrom}
 use Rattle.reading.proofs.FileBytes.{AllBytes, byte-below, bytes-take}
 use Rattle.reading.proofs.Inside.{Stands, one-leads}
+use Rattle.reading.proofs.Marks.{Looked, found, missed, mark-looked, Ended, ended, unended, closed-ended}
 use Rattle.reading.proofs.Unstuffed.{length-bitsOf}
 use Rattle.reading.proofs.Written.{absurd-some}
 use Rattle.reading.proofs.FineRead.{minus, file-bits, from}
@@ -425,13 +426,10 @@ weighs-onto n (some w) (some x) b c t h l = omega (arith, h .fits, h .ahead .far
 abbrev nothing : Unit {0}
 nothing = tt
 
--- behind a restart marker
-abbrev restarted : Bits → Bits
-restarted b = record { at = b .at + 2; byte = 0; left = 0 }
-
-weighs-cut : (n code : ℕ) (o : Option Coded) (b t : Bits) → Weighs n (restarted b) t o → Weighs n b t (cut true code o)
-weighs-cut n code none b t h = tt
-weighs-cut n code (some c) b t h = omega (arith, h, bytes-weight c)
+-- behind a marker, wherever reading goes on: not before its two bytes
+weighs-cut : (n code on : ℕ) (o : Option Coded) (b t : Bits) → b .at + 2 ≤ on → Weighs n (firstBit on) t o → Weighs n b t (cut true code o)
+weighs-cut n code on none b t a h = tt
+weighs-cut n code on (some c) b t a h = omega (arith, h, bytes-weight c)
 
 weighs-uncut : (n code : ℕ) (o : Option Coded) (b t : Bits) → Weighs n b t o → Weighs n b t (cut false code o)
 weighs-uncut n code none b t h = tt
@@ -440,6 +438,12 @@ weighs-uncut n code (some c) b t h = h
 pub record TabledPlan (p : Plan) : Type 0 where
   pub dcs : (c : ℕ) → Tabled (p .channels c .dc)
   pub acs : (c : ℕ) → Tabled (p .channels c .ac)
+
+-- the blocks of a scan, read to the place `last`, and its end behind them
+record Ends (s : List ℕ) (p : Plan) (n : ℕ) (b : Bits) (ls : List (List ℤ)) : Type 0 where
+  last : Bits
+  weighs : Weighs n b last (written p 0 noPredictors ls)
+  inside : last .at + 2 ≤ length s
 
 module _ (s : List ℕ) (p : Plan) (g : TabledPlan p) where
   abbrev After : ℕ → ℕ → List ℤ → Type 0
@@ -485,36 +489,28 @@ module _ (s : List ℕ) (p : Plan) (g : TabledPlan p) where
           → ((o : Option Coded) (t : Bits) → Weighs (suc n) c t o → Weighs (suc n) b t (cut (restartDue (p .shape) (p .interval) k) code o))
           → Gives (λ ls t. Weighs (suc n) b t (written p k ps ls)) (from (file s) p n k qs c))
           → Gives Q (onward (cond due (mark s code >> give noPredictors) (give ps) b) (from (file s) p n k))
-      go true e f = seen (padded b and isAt s (b .at) 255 and isAt s (b .at + 1) code)
+      go true e f = seen (mark s code b) (mark-looked s code b)
         where
-          seen : (y : Bool)
-              → Gives Q (onward (onward (cond y (got nothing (restarted b)) (fault Broken)) (λ _. give noPredictors)) (from (file s) p n k))
-          seen true =
-              f noPredictors b (restarted b) (ap (λ d. predictors d ps) e)
-              (λ o t h. subst⁻¹ (λ d. Weighs (suc n) b t (cut d code o)) e (weighs-cut (suc n) code o b t h))
-          seen false = tt
+          seen : (r : Read Bits (Unit {0})) → Looked s b r → Gives Q (onward (onward r (λ _. give noPredictors)) (from (file s) p n k))
+          seen _ (found on a i) =
+              f noPredictors b (firstBit on) (ap (λ d. predictors d ps) e)
+              (λ o t h. subst⁻¹ (λ d. Weighs (suc n) b t (cut d code o)) e (weighs-cut (suc n) code on o b t a h))
+          seen _ missed = tt
       go false e f =
           f ps b b (ap (λ d. predictors d ps) e)
           (λ o t h. subst⁻¹ (λ d. Weighs (suc n) b t (cut d code o)) e (weighs-uncut (suc n) code o b t h))
 
-  -- the scan ends the file
-  scan-weighs : (n : ℕ) (b : Bits) → Gives (λ ls t. Weighs n b t (written p 0 noPredictors ls) × (t .at + 2 ≡ length s)) (scan (file s) p n b)
-  unfolding file
+  -- the whole scan
+  scan-weighs : (n : ℕ) (b : Bits) → Gives (λ ls _. Ends s p n b ls) (scan (file s) p n b)
   scan-weighs n b =
-      gives-then (λ ls t. Weighs n b t (written p 0 noPredictors ls)) Q (blocks (file s) p n 0 noPredictors b) _
+      gives-then (λ ls t. Weighs n b t (written p 0 noPredictors ls)) (λ ls _. Ends s p n b ls) (blocks (file s) p n 0 noPredictors b) _
       (blocks-weigh n 0 noPredictors b)
-      (λ ls t h. go ls t h (padded t) (isAt s (t .at) 255) (isAt s (t .at + 1) 217) (eqb (t .at + 2) (length s)) refl)
+      (λ ls t h. go ls t h (closed (file s) t) (closed-ended s t))
     where
-      Q : List (List ℤ) → Bits → Type 0
-      Q ls t = Weighs n b t (written p 0 noPredictors ls) × (t .at + 2 ≡ length s)
-
-      go : (ls : List (List ℤ)) (t : Bits) → Weighs n b t (written p 0 noPredictors ls) → (w x y z : Bool) → eqb (t .at + 2) (length s) ≡ z
-          → Gives Q (onward (rule (w and x and y and z) t) (λ _. give ls))
-      go ls t h false x y z e = tt
-      go ls t h true false y z e = tt
-      go ls t h true true false z e = tt
-      go ls t h true true true false e = tt
-      go ls t h true true true true e = (h, eqb-true (t .at + 2) (length s) e)
+      go : (ls : List (List ℤ)) (t : Bits) → Weighs n b t (written p 0 noPredictors ls) → (r : Read Bits (Unit {0})) → Ended s t r
+          → Gives (λ ls _. Ends s p n b ls) (onward r (λ _. give ls))
+      go ls t h _ (ended i) = record { last = t; weighs = h; inside = i }
+      go ls t h _ unended = tt
 
 -- ---- a file
 
@@ -532,17 +528,17 @@ plan-tabled s r h =
 pub settled-short : (s : List ℕ) (r : Record) (ls : List (List ℤ)) (b : Bits) (t : List ℕ)
     → AllBytes s → levels s r ≡ got ls b → settledScan (planOf s r) ls ≡ some t → length t + 2 * r .start ≤ 2 * length s + 4 * r .blocks
 unfolding levels settledScan
-settled-short s r ls b t h e f = go (written (planOf s r) 0 noPredictors ls) (read .0) f
+settled-short s r ls b t h e f = go (written (planOf s r) 0 noPredictors ls) (read .weighs) f
   where
-    read : Weighs (r .blocks) (firstBit (r .start)) b (written (planOf s r) 0 noPredictors ls) × (b .at + 2 ≡ length s)
+    read : Ends s (planOf s r) (r .blocks) (firstBit (r .start)) ls
     read =
-        given (λ ls b. Weighs (r .blocks) (firstBit (r .start)) b (written (planOf s r) 0 noPredictors ls) × (b .at + 2 ≡ length s))
+        given (λ ls _. Ends s (planOf s r) (r .blocks) (firstBit (r .start)) ls)
         (scan (file s) (planOf s r) (r .blocks) (firstBit (r .start)))
         (scan-weighs s (planOf s r) (plan-tabled s r h) (r .blocks) (firstBit (r .start))) ls b e
 
-    go : (o : Option Coded) → Weighs (r .blocks) (firstBit (r .start)) b o → scanBytes o ≡ some t
+    go : (o : Option Coded) → Weighs (r .blocks) (firstBit (r .start)) (read .last) o → scanBytes o ≡ some t
         → length t + 2 * r .start ≤ 2 * length s + 4 * r .blocks
     go none w g = absurd (absurd-some t g)
     go (some c) w g =
         let same : bytesOf c ≡ t = cc in
-        omega (arith, bytes-weight c, w, read .1, ap length same)
+        omega (arith, bytes-weight c, w, read .inside, ap length same)

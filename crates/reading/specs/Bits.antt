@@ -40,27 +40,27 @@ one s = λ b. oneAt s (b .at) (b .byte) (b .left)
 abbrev pub padded : Bits → Bool
 padded b = eqb (b .byte % 2 ^ b .left) (2 ^ b .left - 1)
 
--- padding, then 255 and the code given: the place behind the marker
-abbrev pub mark : List ℕ → ℕ → Reader Bits (Unit {0})
+-- the bit place before the byte at `at`
+abbrev pub firstBit : ℕ → Bits
+firstBit at = record { at = at; byte = 0; left = 0 }
+
+-- a marker in a scan: padding, then 255 and the code given; reading goes on behind it
+unfoldable pub mark : List ℕ → ℕ → Reader Bits (Unit {0})
 mark s code =
     λ b.
     cond (padded b and isAt s (b .at) 255 and isAt s (b .at + 1) code)
-    (got tt (record { at = b .at + 2; byte = 0; left = 0 }))
+    (got tt (firstBit (b .at + 2)))
     (fault Broken)
 
--- padding, then 255 217 as the file's last two bytes
-abbrev pub ended : List ℕ → Bits → Bool
-ended s b = padded b and isAt s (b .at) 255 and isAt s (b .at + 1) 217 and eqb (b .at + 2) (length s)
-
--- where bits come from: the next bit; padding and a marker; the end
+-- where bits come from: the next bit; a marker; whether no byte is left
 pub record Source (S : Type 0) : Type 0 where
   pub next : Reader S ℕ
   pub marker : ℕ → Reader S (Unit {0})
   pub ends : S → Bool
 
 unfoldable pub file : List ℕ → Source Bits
-unfolding one
-file s = record { next = one s; marker = mark s; ends = ended s }
+unfolding one mark
+file s = record { next = one s; marker = mark s; ends = λ b. eqb (b .at) (length s) }
 
 -- n more bits behind the number v
 abbrev pub fieldFrom : {S : Type 0} → Reader S ℕ → ℕ → ℕ → Reader S ℕ

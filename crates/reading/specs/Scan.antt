@@ -8,6 +8,7 @@ use Rattle.reading.specs.declared.Bits.{Bits}
 use Rattle.reading.specs.declared.Record.{Record}
 use Rattle.reading.specs.Reader.{Read, Reader, _>>=_, _>>_, give, rule}
 use Rattle.reading.specs.Bits.{Source, file}
+pub use Rattle.reading.specs.Bits.{firstBit}
 use Rattle.reading.specs.Huffman.{Table, tableAt}
 use Rattle.reading.specs.Block.{block, zeros}
 use Rattle.reading.specs.Layout.{Shape, channelOf, restartDue, restartCode}
@@ -42,7 +43,7 @@ planOf s r =
 abbrev pub noPredictors : List ℤ
 noPredictors = zeros 3
 
--- before block k: where a restart is due, padding and its marker, and the predictors become 0
+-- before block k: where a restart is due, its marker, and the predictors become 0
 abbrev pub restart : {S : Type 0} → Source S → Plan → ℕ → List ℤ → Reader S (List ℤ)
 restart src p k ps =
     cond (restartDue (p .shape) (p .interval) k)
@@ -57,16 +58,12 @@ blocks src p (suc n) k ps =
     let ch = p .channels c in
     block (src .next) (ch .dc) (ch .ac) (getD qs c (pos 0)) >>= λ l. blocks src p n (suc k) (set qs c (getD l 0 (pos 0))) >>= λ ls. give (l ∷ ls)
 
--- after the last block: padding, and 255 217 as the last two bytes
+-- after the last block: the marker 217, and no byte behind it
 abbrev pub closed : {S : Type 0} → Source S → Reader S (Unit {0})
-closed src = λ s. rule (src .ends s) s
+closed src = src .marker 217 >> λ s. rule (src .ends s) s
 
 abbrev pub scan : {S : Type 0} → Source S → Plan → ℕ → Reader S (List (List ℤ))
 scan src p n = blocks src p n 0 noPredictors >>= λ ls. closed src >> give ls
-
--- the bit place before the first coded byte
-abbrev pub firstBit : ℕ → Bits
-firstBit at = record { at = at; byte = 0; left = 0 }
 
 -- the levels of a file's scan
 unfoldable pub levels : List ℕ → Record → Read Bits (List (List ℤ))
