@@ -3,14 +3,16 @@ use mathlib.Core.List.{List}
 use mathlib.Core.Path.{_≡_, refl, sym, _∙_, ap}
 use mathlib.Core.Bool.{Bool, true, false, cond, true≢false}
 use Prim.Native.Nat.{ℕ, _+_, _<_, _≤_}
-use lib.Dec.{eqb}
-use lib.ListN.{length, getD}
-use borrow.Author.Tests.{eq-eqb, ne-eqb}
+use native.Mathlib.Omega.{arith}
+use lib.Dec.{eqb, ltb}
+use lib.ListN.{length, getD, drop}
+use borrow.Author.Tests.{eq-eqb, ne-eqb, lt-ltb, le-ltb}
 use Rattle.reading.specs.declared.Bits.{Bits}
 use Rattle.reading.specs.declared.Fault.the-variants.{Broken}
 use Rattle.reading.specs.declared.ScanCursor.{ScanCursor}
 use Rattle.reading.specs.Reader.{Read, got, fault, rule}
-use Rattle.reading.specs.Bits.{padded, mark, file, firstBit}
+use Rattle.reading.specs.Tests.{isAt}
+use Rattle.reading.specs.Bits.{padded, fulls, mark, file, firstBit}
 use Rattle.reading.specs.Layout.{dueBefore, restartBefore}
 use Rattle.reading.specs.Scan.{closed}
 use Rattle.reading.proofs.Restarts.{is-at, is-out}
@@ -30,29 +32,30 @@ module _ (s : List ℕ) (b : Bits) (code : ℕ) where
   unfolding mark
   mark-bare e = rw e
 
-  module _ (e : padded b ≡ true) where
-    pub mark-out : length s ≤ b .at → fault Broken ≡ mark s code b
+  -- the first place that does not hold 255
+  module _ (e : padded b ≡ true) {place : ℕ} (p : place ≡ b .at + fulls (drop (b .at) s)) where
+    pub mark-none : place ≡ b .at → fault Broken ≡ mark s code b
     unfolding mark
-    mark-out h = rw (e, is-out s (b .at) 255 h)
+    mark-none h = rw (e, le-ltb 0 (fulls (drop (b .at) s)) (omega (arith, p, h)))
 
-    module _ (h : b .at < length s) where
-      pub mark-other : (getD s (b .at) 0 ≡ 255 → ⊥) → fault Broken ≡ mark s code b
+    module _ (h : place ≡ b .at → ⊥) where
+      some-full : ltb 0 (fulls (drop (b .at) s)) ≡ true
+      some-full = lt-ltb 0 (fulls (drop (b .at) s)) (omega (arith, p, h))
+
+      -- what is found there, whatever it is
+      found : {x : Bool} → isAt s place code ≡ x → cond x (got nothing (firstBit (place + 1))) (fault Broken) ≡ mark s code b
       unfolding mark
-      mark-other i = rw (e, is-at s (b .at) 255 h ∙ ne-eqb _ _ i)
+      found {x} i = rw (e, some-full, ← p, i)
 
-      module _ (i : getD s (b .at) 0 ≡ 255) where
-        pub mark-cut : length s ≤ b .at + 1 → fault Broken ≡ mark s code b
-        unfolding mark
-        mark-cut j = rw (e, is-at s (b .at) 255 h ∙ eq-eqb _ _ i, is-out s (b .at + 1) code j)
+      pub mark-out : length s ≤ place → fault Broken ≡ mark s code b
+      mark-out i = found (is-out s place code i)
 
-        module _ (j : b .at + 1 < length s) where
-          pub mark-wrong : (getD s (b .at + 1) 0 ≡ code → ⊥) → fault Broken ≡ mark s code b
-          unfolding mark
-          mark-wrong k = rw (e, is-at s (b .at) 255 h ∙ eq-eqb _ _ i, is-at s (b .at + 1) code j ∙ ne-eqb _ _ k)
+      module _ (i : place < length s) where
+        pub mark-wrong : (getD s place 0 ≡ code → ⊥) → fault Broken ≡ mark s code b
+        mark-wrong j = found (is-at s place code i ∙ ne-eqb _ _ j)
 
-          pub mark-found : getD s (b .at + 1) 0 ≡ code → got nothing (firstBit (b .at + 2)) ≡ mark s code b
-          unfolding mark
-          mark-found k = rw (e, is-at s (b .at) 255 h ∙ eq-eqb _ _ i, is-at s (b .at + 1) code j ∙ eq-eqb _ _ k)
+        pub mark-found : getD s place 0 ≡ code → got nothing (firstBit (place + 1)) ≡ mark s code b
+        mark-found j = found (is-at s place code i ∙ eq-eqb _ _ j)
 
 -- ---- the end
 

@@ -1,8 +1,9 @@
 // The numbers that a scan is read by, and what stands between its blocks (the rules' 'MCUs, restarts, end'): the channel of a block, the
 // restart before an MCU, the end. Every reader of a scan goes by these; none of them reads a block.
 ghost use mathlib.Core.Path.{_≡_};
+ghost use Prim.Native.Nat.{_+_};
 ghost use lib.ListN.{take, drop};
-ghost use Rattle.reading.specs.Bits.{padded, mark};
+ghost use Rattle.reading.specs.Bits.{padded, fulls, mark};
 ghost use Rattle.reading.specs.Layout.{dueBefore, restartBefore};
 ghost use Rattle.reading.specs.Tables.{chosen};
 ghost use Rattle.reading.specs.Code.Scans.{readable};
@@ -142,7 +143,21 @@ fn full(byte: u8, left: u8) -> bool
     byte as usize % p == p - 1
 }
 
-// A marker: padding, then 255 and a code.
+// The first place from `at` on that does not hold 255, over any number of fill bytes.
+fn past_full(s: &[u8], at: usize) -> usize
+    ensures { λ r. ⌜ r ≡ at + fulls (drop at (now (s .entry))) ⌝ }
+{
+    let mut i = at;
+    while i < s.len() {
+        if s[i] != 255 {
+            return i;
+        }
+        i += 1;
+    }
+    i
+}
+
+// A marker: padding, any number of fill bytes, then 255 and a code.
 fn marker(s: &[u8], b: Bits, code: usize) -> Mark
     ensures { λ r. ⌜ looked r ≡ mark (now (s .entry)) code b ⌝ }
 {
@@ -150,19 +165,17 @@ fn marker(s: &[u8], b: Bits, code: usize) -> Mark
     if !full(b.byte, b.left) {
         return Mark::Missing;
     }
-    if s.len() <= at {
+    let place = past_full(s, at);
+    if place == at {
         return Mark::Missing;
     }
-    if s[at] != 255 {
+    if s.len() <= place {
         return Mark::Missing;
     }
-    if s.len() - at < 2 {
+    if s[place] as usize != code {
         return Mark::Missing;
     }
-    if s[at + 1] as usize != code {
-        return Mark::Missing;
-    }
-    Mark::Behind(at + 2)
+    Mark::Behind(place + 1)
 }
 
 // After the last block: the marker 217, and no byte behind it.

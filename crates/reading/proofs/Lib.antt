@@ -43,6 +43,7 @@ pub mod SettledLength
 pub mod Decodings
 pub mod Choice
 pub mod HeaderNumbers
+pub mod NoFill
 pub mod WholeFiles
 pub mod Upstream
 pub mod SettledCalls

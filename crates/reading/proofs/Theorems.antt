@@ -9,7 +9,7 @@ use mathlib.Core.Logic.{_↔_}
 use mathlib.Core.Option.{none, some}
 use lib.Dec.{T}
 use lib.IntN.{ℤ}
-use lib.ListN.{getD, length}
+use lib.ListN.{getD, length, drop}
 use Rattle.reading.specs.declared.Bits.{Bits}
 use Rattle.reading.specs.declared.Budget.{Budget}
 use Rattle.reading.specs.declared.Decoding.{Decoding}
@@ -25,6 +25,7 @@ use Rattle.reading.specs.declared.Verdict.the-variants.{Accepted, Refuse
 use Rattle.reading.specs.Tests.{over}
 use Rattle.reading.specs.Reader.{got}
 use Rattle.reading.specs.Transform.{sampleOf, samples}
+use Rattle.reading.specs.Bits.{fulls}
 use Rattle.reading.specs.Scan.{planOf, levels}
 use Rattle.reading.specs.Settled.{settledScan}
 use Rattle.reading.specs.Huffman.{tableAt}
@@ -273,6 +274,13 @@ pub record DemandThree (s : List ℕ) : Type 0 where
       (t : List ℕ)
       → SettlesTo s t
       → SettlesTo t t
+  -- it has no fill: from its first coded byte on no two 255 stand in a row
+  pub no-fill :
+      (t : List ℕ) (r : Record) (i : ℕ)
+      → SettlesTo s t
+      → ReadsAs s false r
+      → r .start ≤ i
+      → fulls (drop i t) ≤ 1
   -- of two files with one head the settled files are equal exactly when the coefficients are
   pub equal-exactly-when :
       (s′ t t′ : List ℕ)
@@ -295,6 +303,7 @@ demand-three s =
       same-samples = F.samples-alike s;
       same-picture = λ t colour h. F.picture-alike s t h colour;
       settles-to-itself = F.settles-again s;
+      no-fill = λ t r i h k a. F.no-fill s t h r (k .0) (k .1) i a;
       equal-exactly-when = λ s′ t t′ h h′ e. F.equal-so s s′ t t′ h h′ e;
       want-of-a-code = λ r y k. F.want-so s y r (k .0) (k .1);
     }

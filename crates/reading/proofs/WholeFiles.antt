@@ -1,5 +1,5 @@
 -- Demand 3 over files: of a file that settles, what holds of the file it settles to, by either colour choice.
-use Prim.Native.Nat.{ℕ}
+use Prim.Native.Nat.{ℕ, _≤_}
 use mathlib.Core.Path.{_≡_, refl, sym, ap, _∙_}
 use mathlib.Core.Bool.{Bool, false}
 use mathlib.Core.List.{List, []}
@@ -8,8 +8,9 @@ use mathlib.Core.Option.{Option, none, some}
 use native.Mathlib.Omega.{arith}
 use lib.Dec.{T}
 use lib.IntN.{ℤ}
-use lib.ListN.{length, take, length-take}
+use lib.ListN.{length, take, drop, length-take}
 use Rattle.reading.specs.declared.Record.{Record}
+use Rattle.reading.specs.Bits.{fulls}
 use Rattle.reading.specs.Scan.{planOf}
 use Rattle.reading.specs.Reading.{Reading, accepted, refused, reading, dequantized, blockSamples, allSamples, picture}
 use Rattle.reading.specs.Settled.{settledFile, someLacksEnd}
@@ -21,6 +22,7 @@ use Rattle.reading.proofs.Choice.{recolour, reread, reading-choice}
 use Rattle.reading.proofs.Demand3 as D
 use Rattle.reading.proofs.Demand3.{Settles, taken-apart}
 use Rattle.reading.proofs.OnePicture.{one-picture-one-scan}
+use Rattle.reading.proofs.NoFill.{settled-single}
 use Rattle.reading.proofs.WantOfCode as W
 
 -- a file that settles is accepted with a record and levels
@@ -97,6 +99,10 @@ module _ (s t : List ℕ) (h : settledIn s ≡ some t) where
 
       kept : settledFile s (recolour false r) ls ≡ some t
       kept = sym (accepted-so (settledFile s) none s false (recolour false r) ls plain) ∙ h
+
+  -- from the first coded byte on no two 255 stand in a row
+  pub no-fill : (r : Record) (ls : List (List ℤ)) → reading s false ≡ accepted r ls → (i : ℕ) → r .start ≤ i → fulls (drop i t) ≤ 1
+  no-fill r ls e = settled-single s r ls t (record { taken = e; written = sym (accepted-so (settledFile s) none s false r ls e) ∙ h })
 
   -- settling again changes nothing
   pub settles-again : settledIn t ≡ some t

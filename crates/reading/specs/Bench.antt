@@ -72,9 +72,22 @@ long size coded = square (oneCode 0) (twoCodes 240 (224 + size)) coded
 abbrev falling : List ℕ → List ℕ
 falling coded = file 16 (replicate 64 1) [] (1 ∷ 1 ∷ 1 ∷ replicate 13 0 ++ 11 ∷ 1 ∷ 2 ∷ []) (oneCode 0) coded
 
--- two blocks, a restart before the second, a quantizer of 16 at the first place; the DC code 0 for category 3
+-- two blocks, a restart before the second, a quantizer of 16 at the first place; the DC code 0 for category 3; what stands before the
+-- restart's 255 and before that of 217
+abbrev between : List ℕ → List ℕ → List ℕ
+between before last =
+    file 16 (16 ∷ replicate 63 1) (segment 221 (0 ∷ 1 ∷ [])) (oneCode 3) (oneCode 0) (87 ∷ before ++ 255 ∷ 208 ∷ 87 ∷ last)
+
 abbrev restarting : List ℕ
-restarting = file 16 (16 ∷ replicate 63 1) (segment 221 (0 ∷ 1 ∷ [])) (oneCode 3) (oneCode 0) (87 ∷ 255 ∷ 208 ∷ 87 ∷ [])
+restarting = between [] []
+
+-- so many fill bytes before the restart, and before 217
+abbrev filled : ℕ → ℕ → List ℕ
+filled n m = between (replicate n 255) (replicate m 255)
+
+-- F without its last marker
+abbrev unended : List ℕ
+unended = take 139 F
 
 -- F with three comments before its tables, the second empty, fill before the third; between them a segment whose body looks like one
 abbrev noted : List ℕ → List ℕ
@@ -99,9 +112,13 @@ plenty = holding 1000000
 abbrev inspected : List ℕ → ℕ → List ℕ
 inspected s budget = let i = inspect s false wide (holding budget) in number (i .verdict) ∷ i .budget .left ∷ []
 
--- inspect's number of an 8 x 8 file with these tables
+-- inspect's number
+abbrev verdict : List ℕ → List ℕ
+verdict s = take 1 (inspected s 10000)
+
+-- of an 8 x 8 file with these tables
 abbrev judged : List ℕ → List ℕ → List ℕ
-judged dc ac = take 1 (inspected (square dc ac (63 ∷ [])) 10000)
+judged dc ac = verdict (square dc ac (63 ∷ []))
 
 -- settle's number and its buffer, which had room for the file and held zeros
 abbrev settled : List ℕ → List ℕ
@@ -193,9 +210,9 @@ table =
     ∷ gives (judged (oneCode 0) (twoCodes 0 11)) (4 ∷ [])
     ∷ gives (judged (oneCode 0) (twoCodes 0 250)) (0 ∷ [])
     -- a table that is never used, and one that a later table replaces
-    ∷ gives (take 1 (inspected (afterTable (3 ∷ twoCodes 0 0)) 10000)) (4 ∷ [])
-    ∷ gives (take 1 (inspected (afterTable (0 ∷ twoCodes 0 12)) 10000)) (4 ∷ [])
-    ∷ gives (take 1 (inspected (afterTable (0 ∷ twoCodes 0 11)) 10000)) (0 ∷ [])
+    ∷ gives (verdict (afterTable (3 ∷ twoCodes 0 0))) (4 ∷ [])
+    ∷ gives (verdict (afterTable (0 ∷ twoCodes 0 12))) (4 ∷ [])
+    ∷ gives (verdict (afterTable (0 ∷ twoCodes 0 11))) (0 ∷ [])
     -- P6 to P10: a block with only a DC coefficient
     ∷ gives (flat (pos 4)) (replicate 64 128)
     ∷ gives (flat (pos 5)) (replicate 64 129)
@@ -212,20 +229,42 @@ table =
     ∷ gives (inspected [] 0) (2 ∷ 0 ∷ [])
     ∷ gives (inspected [] 1) (4 ∷ 0 ∷ [])
     -- prediction -2048 is taken, -2049 refused: 2047 and then 1 or 2 down
-    ∷ gives (take 1 (inspected (falling (0 ∷ 4 ∷ 127 ∷ [])) 10000)) (0 ∷ [])
-    ∷ gives (take 1 (inspected (falling (0 ∷ 6 ∷ 95 ∷ [])) 10000)) (4 ∷ [])
+    ∷ gives (verdict (falling (0 ∷ 4 ∷ 127 ∷ []))) (0 ∷ [])
+    ∷ gives (verdict (falling (0 ∷ 6 ∷ 95 ∷ []))) (4 ∷ [])
     -- the largest picture at 1 x 1 sampling
     ∷ gives (let p : Shape = record { width = 65535; height = 65535; factors = factorsOf 1 1 3 } in blockCount p ∷ outputLength p ∷ workOf p ∷ [])
     (201326592 ∷ 12884508675 ∷ 644244701187 ∷ [])
     -- a value at place 63: no end code is read or written, and the table has none
     ∷ gives (settled (long 1 (11 ∷ []))) (0 ∷ long 1 (11 ∷ []))
     -- a 240 that reaches place 64 ends its block; settled, the block wants an end code, and there is none
-    ∷ gives (take 1 (inspected (long 1 (81 ∷ [])) 10000)) (0 ∷ [])
+    ∷ gives (verdict (long 1 (81 ∷ []))) (0 ∷ [])
     ∷ gives (take 1 (settled (long 1 (81 ∷ [])))) (9 ∷ [])
     -- a value at place 63 whose last bits and one bit of padding are a 255: a 0 follows it
     ∷ gives (settled (long 9 (11 ∷ 255 ∷ 0 ∷ []))) (0 ∷ long 9 (11 ∷ 255 ∷ 0 ∷ []))
     -- at a restart the predictors become 0: 16 x 5 in both blocks
     ∷ gives (decoded restarting 128 10000) (0 ∷ (10000 - 301 - 6400) ∷ replicate 256 138)
+    -- fill before a restart and before 217, 1 and 3 bytes of it; the settled file has none
+    ∷ gives (settled (filled 1 0)) (0 ∷ restarting ++ replicate 1 0)
+    ∷ gives (settled (filled 3 0)) (0 ∷ restarting ++ replicate 3 0)
+    ∷ gives (settled (filled 0 1)) (0 ∷ restarting ++ replicate 1 0)
+    ∷ gives (settled (filled 0 3)) (0 ∷ restarting ++ replicate 3 0)
+    ∷ gives (decoded (filled 3 1) 128 10000) (0 ∷ (10000 - 309 - 6400) ∷ replicate 256 138)
+    -- a padded 255 and its 0, then fill; without the 0 a bit is wanted
+    ∷ gives (settled (long 9 (11 ∷ 255 ∷ 0 ∷ 255 ∷ 255 ∷ []))) (0 ∷ long 9 (11 ∷ 255 ∷ 0 ∷ []) ++ replicate 2 0)
+    ∷ gives (verdict (long 9 (11 ∷ 255 ∷ 255 ∷ 255 ∷ []))) (4 ∷ [])
+    -- fill where a bit is wanted: before the first bit, and before a data byte 255
+    ∷ gives (verdict (square (oneCode 0) (oneCode 0) (255 ∷ 255 ∷ []))) (4 ∷ [])
+    ∷ gives (verdict (long 9 (11 ∷ 255 ∷ 255 ∷ 0 ∷ []))) (4 ∷ [])
+    -- fill before the padding is complete
+    ∷ gives (verdict (square (oneCode 0) (oneCode 0) (62 ∷ 255 ∷ []))) (4 ∷ [])
+    -- fill with no marker behind it: the end, a byte of data, a 0; and with a wrong one
+    ∷ gives (verdict (unended ++ replicate 3 255)) (4 ∷ [])
+    ∷ gives (verdict (between (255 ∷ 255 ∷ 87 ∷ []) [])) (4 ∷ [])
+    ∷ gives (verdict (between (255 ∷ 255 ∷ 0 ∷ []) [])) (4 ∷ [])
+    ∷ gives (verdict (between (255 ∷ 255 ∷ 209 ∷ []) [])) (4 ∷ [])
+    -- any byte behind 217
+    ∷ gives (verdict (F ++ 0 ∷ [])) (4 ∷ [])
+    ∷ gives (verdict (F ++ 255 ∷ [])) (4 ∷ [])
     -- the quantizer is taken by zigzag place: place 2 is natural place 8
     ∷ means (take 10 (coefficients (1 ∷ 1 ∷ 100 ∷ replicate 61 1) (zeros 2 ++ pos 1 ∷ zeros 61))) (zeros 8 ++ pos 100 ∷ pos 0 ∷ [])
     -- green's two products are rounded together

@@ -1,10 +1,10 @@
 -- Bits, highest first, from the bytes of a file; fields of n bits and what they mean.
 use Prim.Native.Nat.{ℕ, zero, suc, _+_, _*_, _-_, _/_, _%_, _^_}
 use mathlib.Core.Bool.{Bool, cond}
-use mathlib.Core.List.{List}
+use mathlib.Core.List.{List, [], _∷_}
 use mathlib.Core.Option.{Option, none, some}
 use lib.Dec.{ltb, eqb}
-use lib.ListN.{getElem?, length}
+use lib.ListN.{getElem?, length, drop}
 use lib.IntN.{ℤ, pos, subℕ}
 use Rattle.reading.specs.declared.Bits.{Bits}
 use Rattle.reading.specs.declared.Fault.the-variants.{RanOut, Bare, Broken}
@@ -44,12 +44,17 @@ padded b = eqb (b .byte % 2 ^ b .left) (2 ^ b .left - 1)
 abbrev pub firstBit : ℕ → Bits
 firstBit at = record { at = at; byte = 0; left = 0 }
 
--- a marker in a scan: padding, then 255 and the code given; reading goes on behind it
+-- how many 255 stand in a row at the front
+abbrev pub fulls : List ℕ → ℕ
+fulls [] = 0
+fulls (x ∷ l) = cond (eqb x 255) (suc (fulls l)) 0
+
+-- a marker in a scan: padding, any number of fill bytes 255, then 255 and the code given; reading goes on behind it
 unfoldable pub mark : List ℕ → ℕ → Reader Bits (Unit {0})
 mark s code =
-    λ b.
-    cond (padded b and isAt s (b .at) 255 and isAt s (b .at + 1) code)
-    (got tt (firstBit (b .at + 2)))
+    λ b. let n = fulls (drop (b .at) s) in
+    cond (padded b and ltb 0 n and isAt s (b .at + n) code)
+    (got tt (firstBit (b .at + n + 1)))
     (fault Broken)
 
 -- where bits come from: the next bit; a marker; whether no byte is left

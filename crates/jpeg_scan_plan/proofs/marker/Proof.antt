@@ -1,12 +1,11 @@
 -- `marker`: each test that fails is one way of being no marker.
-use Prim.Native.Nat.{_+_}
 use mathlib.Core.Path.{_≡_, sym, _∙_}
 use mathlib.Core.Bool.{true}
 use native.Mathlib.Omega.{arith}
+use borrow.Author.Needs.{needs}
 use borrow.Author.Tests.{not-true, not-false}
 use Rattle.reading.specs.Bits.{padded}
-use Rattle.jpeg_scan_plan.proofs.Marks.{mark-bare, mark-out, mark-other, mark-cut, mark-wrong, mark-found}
-use borrow.Author.Needs.{needs}
+use Rattle.jpeg_scan_plan.proofs.Marks.{mark-bare, mark-none, mark-out, mark-wrong, mark-found}
 use Rattle.jpeg_scan_plan.proofs.marker.Statement.{statement}
 use Rattle.jpeg_scan_plan.proofs.marker.Tie as tie
 
@@ -19,38 +18,37 @@ ones c = sym (c .before .full .ensures) ∙ not-false _ (c .if1 .left)
 returns : tie.Need-returns
 returns c = mark-bare _ _ _ (sym (c .before .full .ensures) ∙ not-true _ (c .if1 .taken))
 
-returns-2 : tie.Need-returns-2
-returns-2 c = mark-out _ _ _ (ones (c .before)) (c .if2 .taken)
+past-full-requires : tie.Need-past-full-requires
+past-full-requires c κs = search needs
 
-shared-slice-read-if3 : tie.Need-shared-slice-read-if3
-shared-slice-read-if3 c = search needs
+returns-2 : tie.Need-returns-2
+returns-2 c = mark-none _ _ _ (ones (c .before .before)) (c .before .past-full .ensures) (c .if2 .taken)
 
 returns-3 : tie.Need-returns-3
-returns-3 c = mark-other _ _ _ (ones (c .before .before .before)) (c .before .before .if2 .left) (c .if3 .taken)
+returns-3 c =
+    let walked = c .before .before in
+    mark-out _ _ _ (ones (walked .before)) (walked .past-full .ensures) (c .before .if2 .left) (c .if3 .taken)
 
-sub-if4 : tie.Need-sub-if4
-sub-if4 c = search needs
+shared-slice-read-if4 : tie.Need-shared-slice-read-if4
+shared-slice-read-if4 c = search needs
+
+cast-if4 : tie.Need-cast-if4
+cast-if4 c = omega (arith, c .shared-slice-known2 .given (c .before .before .before .past-full .result))
 
 returns-4 : tie.Need-returns-4
-returns-4 c = mark-cut _ _ _ (ones (c .before .before .before .before)) (c .before .before .before .if2 .left) (c .before .if3 .left) (omega (arith, c .if4 .taken, c .before .before .before .if2 .left))
+returns-4 c =
+    let there = c .before .before in
+    let walked = there .before .before in
+    mark-wrong _ _ _ (ones (walked .before)) (walked .past-full .ensures) (there .before .if2 .left) (there .if3 .left) (c .if4 .taken)
 
-add-if5 : tie.Need-add-if5
-add-if5 c = search needs
-
-shared-slice-read-if5 : tie.Need-shared-slice-read-if5
-shared-slice-read-if5 c = search needs
-
-cast-if5 : tie.Need-cast-if5
-cast-if5 c = omega (arith, c .shared-slice-known3 .given (c .before .before .before .before .before .before .before .before .args .b .at + 1))
+add-t8 : tie.Need-add-t8
+add-t8 c = search needs
 
 returns-5 : tie.Need-returns-5
-returns-5 c = mark-wrong _ _ _ (ones (c .before .before .before .before .before .before)) (c .before .before .before .before .before .if2 .left) (c .before .before .before .if3 .left) (omega (arith, c .before .before .if4 .left, c .before .before .before .before .before .if2 .left)) (c .if5 .taken)
-
-add-t7 : tie.Need-add-t7
-add-t7 c = search needs
-
-returns-6 : tie.Need-returns-6
-returns-6 c = mark-found _ _ _ (ones (c .before .before .before .before .before .before)) (c .before .before .before .before .before .if2 .left) (c .before .before .before .if3 .left) (omega (arith, c .before .before .if4 .left, c .before .before .before .before .before .if2 .left)) (c .if5 .left)
+returns-5 c =
+    let there = c .before .before in
+    let walked = there .before .before in
+    mark-found _ _ _ (ones (walked .before)) (walked .past-full .ensures) (there .before .if2 .left) (there .if3 .left) (c .if4 .left)
 
 pub marker-spec : {M : Type 1} → statement M
 marker-spec =
@@ -58,14 +56,11 @@ marker-spec =
     (tie.spec
     full-requires
     returns
+    past-full-requires
     returns-2
-    shared-slice-read-if3
     returns-3
-    sub-if4
+    shared-slice-read-if4
+    cast-if4
     returns-4
-    add-if5
-    shared-slice-read-if5
-    cast-if5
-    returns-5
-    add-t7
-    returns-6)
+    add-t8
+    returns-5)
