@@ -1,5 +1,7 @@
 //! The bench pieces of the rules, run against this reader.
 
+mod fill;
+
 use crate::calls::{decode, inspect, settle, Limits, UNLIMITED};
 use crate::picture;
 use crate::record::Record;

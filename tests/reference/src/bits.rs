@@ -49,12 +49,17 @@ impl<'a> Bits<'a> {
         Some(value)
     }
 
-    /// "The unread bits of the current byte are all ones", then 255 and `code`.
+    /// "The unread bits of the current byte are all ones", then any number of 255 as fill, then
+    /// 255 and `code`.
     pub fn marker(&mut self, code: u8) -> Option<()> {
         while self.unread > 0 {
             if self.bit()? == 0 {
                 return None;
             }
+        }
+        // Of 255s in a row the last one is the marker's own.
+        while self.file.get(self.at..self.at + 2)? == [255, 255] {
+            self.at += 1;
         }
         if self.file.get(self.at..self.at + 2)? != [255, code] {
             return None;
@@ -107,6 +112,43 @@ mod tests {
         assert_eq!(Bits::new(&[255, 217], 0).bit(), None);
         assert_eq!(Bits::new(&[255], 0).bit(), None);
         assert_eq!(Bits::new(&[], 0).bit(), None);
+    }
+
+    #[test]
+    fn fill_is_never_bits() {
+        assert_eq!(Bits::new(&[255, 255, 0], 0).bit(), None);
+        assert_eq!(Bits::new(&[255, 255, 217], 0).bit(), None);
+        let mut bits = Bits::new(&[0x3f, 255, 255, 0], 0);
+        assert_eq!(bits.field(8), Some(0x3f));
+        assert_eq!(bits.bit(), None);
+    }
+
+    /// Whether 217 is met as the last byte once so many bits are read.
+    fn ends(bytes: &[u8], read: u32) -> bool {
+        let mut bits = Bits::new(bytes, 0);
+        bits.field(read).unwrap();
+        bits.marker(217).is_some() && bits.at_end()
+    }
+
+    #[test]
+    fn fill_stands_between_padding_and_marker() {
+        for read in 2..=8 {
+            assert!(ends(&[0x3f, 255, 255, 217], read));
+            assert!(ends(&[0x3f, 255, 255, 255, 255, 217], read));
+        }
+        assert!(!ends(&[0x3f, 255, 255, 217], 1));
+        assert!(!ends(&[0x3e, 255, 255, 217], 2));
+        // Padding that fills a byte with ones has its stuffed 0.
+        assert!(ends(&[255, 0, 255, 255, 217], 3));
+        assert!(ends(&[255, 0, 255, 255, 217], 8));
+        // A marker stands behind all fill, and nothing between them.
+        for tail in [&[][..], &[0], &[7], &[216], &[208], &[0, 255, 217], &[7, 255, 217]] {
+            for fill in 0..4 {
+                assert!(!ends(&[&[0x3f][..], &vec![255; fill], tail].concat(), 2));
+            }
+        }
+        assert!(!ends(&[0x3f, 255, 255, 217, 255], 2));
+        assert!(!ends(&[0x3f, 255, 255, 217, 255, 217], 2));
     }
 
     #[test]

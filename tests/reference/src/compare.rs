@@ -1,6 +1,7 @@
 //! Compares two runs of answers to the same cases.
 
 use crate::cases::Case;
+use crate::fill;
 use std::fs::{self, File};
 use std::io::{self, BufRead, BufReader, Lines};
 
@@ -9,14 +10,39 @@ const SHOWN: u64 = 5;
 
 type FileLines = Lines<BufReader<File>>;
 
+/// Cases whose file has fill in its scan, and how many of them were accepted.
+#[derive(Default)]
+struct Filled {
+    cases: u64,
+    accepted: u64,
+}
+
+impl Filled {
+    fn count(&mut self, case: &Case, line: &str) {
+        if fill::stands_in(&case.file) {
+            self.cases += 1;
+            self.accepted += u64::from(line.split(' ').nth(1) == Some("0"));
+        }
+    }
+
+    fn show(&self) {
+        let refused = self.cases - self.accepted;
+        println!(
+            "fill in the scan: {} cases, {} accepted, {refused} refused",
+            self.cases, self.accepted
+        );
+    }
+}
+
 /// True if every line agrees. Prints how many did, or the first differences.
 pub fn run(a: &str, b: &str, cases: &str) -> io::Result<bool> {
     let mut a = BufReader::new(File::open(a)?).lines();
     let mut b = BufReader::new(File::open(b)?).lines();
     let mut input = BufReader::new(File::open(cases)?);
-    let (mut index, mut different) = (0, 0);
+    let (mut index, mut different, mut filled) = (0, 0, Filled::default());
     while let Ok(case) = Case::read(&mut input)? {
         let (left, right) = (next(&mut a)?, next(&mut b)?);
+        filled.count(&case, left.as_deref().unwrap_or(""));
         if left != right || left.is_none() {
             different += 1;
             show(index, left, right, &case, cases)?;
@@ -33,6 +59,7 @@ pub fn run(a: &str, b: &str, cases: &str) -> io::Result<bool> {
     }
     if different == 0 {
         println!("{index} lines agreed");
+        filled.show();
     }
     Ok(different == 0)
 }

@@ -32,7 +32,8 @@ pub fn channel_of(record: &Record, block_in_mcu: u64) -> usize {
 
 /// "Before MCU m > 0 with m a multiple of the interval": the restart's code, where one is due.
 pub fn restart_before(record: &Record, mcu: u64) -> Option<u8> {
-    if record.interval == 0 || mcu == 0 || mcu % record.interval != 0 {
+    // Without an interval there is no remainder.
+    if mcu == 0 || mcu.checked_rem(record.interval) != Some(0) {
         return None;
     }
     Some(208 + ((mcu / record.interval - 1) % 8) as u8)

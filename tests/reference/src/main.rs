@@ -6,6 +6,7 @@ mod bits;
 mod calls;
 mod cases;
 mod compare;
+mod fill;
 mod generate;
 mod header;
 mod huffman;

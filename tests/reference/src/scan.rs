@@ -33,7 +33,7 @@ pub fn read(file: &[u8], record: &Record, each: &mut dyn FnMut(u64, usize, &Leve
         predictors[channel] = levels[0];
         each(block, channel, &levels);
     }
-    // "Then 255 217 as the file's last two bytes."
+    // "217, where it stands, still ends the file."
     bits.marker(217)?;
     bits.at_end().then_some(())
 }

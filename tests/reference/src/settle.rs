@@ -33,7 +33,7 @@ impl Writer {
         (self.started, self.filled) = (0, 0);
     }
 
-    /// "Padding is ones", only up to the end of a started byte; then the marker.
+    /// "Padding is ones", only up to the end of a started byte; then the marker, without fill.
     fn marker(&mut self, code: u8) {
         while self.filled != 0 {
             self.bits(1, 1);
@@ -87,8 +87,9 @@ impl<'a> Settled<'a> {
     /// "Per block: the restart where due; the smallest category; ..."
     fn block(&mut self, block: u64, channel: usize, levels: &Levels) {
         let per_mcu = layout::blocks_per_mcu(self.record);
-        if block % per_mcu == 0 {
-            if let Some(code) = layout::restart_before(self.record, block / per_mcu) {
+        let (mcu, block_in_mcu) = (block / per_mcu, block % per_mcu);
+        if block_in_mcu == 0 {
+            if let Some(code) = layout::restart_before(self.record, mcu) {
                 self.writer.marker(code);
                 self.predictors = [0; 3];
             }

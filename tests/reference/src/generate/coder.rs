@@ -1,4 +1,5 @@
-//! A writer of scans: valid ones, and ones with a single chosen fault.
+//! A writer of scans: valid ones, and ones with a single chosen fault. Many have fill before
+//! their markers.
 
 use super::plan::Shape;
 use super::tables;
@@ -27,8 +28,22 @@ pub enum Fault {
     Bare,
     /// A 255 in the data with another byte than 0.
     Stuffing,
-    /// Fill before a marker of the scan.
-    Fill,
+    /// Two 255s or more where a bit of a block is wanted.
+    FillInBlock,
+    /// The file ends in fill.
+    FillCut,
+    /// A byte of data or a 0 between fill and the marker.
+    FillThenByte,
+    /// The code of another marker behind fill.
+    FillThenCode,
+    /// Fill in place of a restart.
+    FillThenBlock,
+    /// Fill behind 217.
+    FillAfterEnd,
+    /// A 0 among the padding, then fill.
+    FillPadding,
+    /// Fill behind a padded 255 without its 0.
+    FillUnstuffed,
     AfterEnd,
     NoEnd,
     EarlyEnd,
@@ -37,7 +52,7 @@ pub enum Fault {
     Carried,
 }
 
-pub const FAULTS: [Fault; 18] = [
+pub const FAULTS: [Fault; 25] = [
     Fault::Beyond,
     Fault::RunPast,
     Fault::SkipPast,
@@ -50,7 +65,14 @@ pub const FAULTS: [Fault; 18] = [
     Fault::PaddingByte,
     Fault::Bare,
     Fault::Stuffing,
-    Fault::Fill,
+    Fault::FillInBlock,
+    Fault::FillCut,
+    Fault::FillThenByte,
+    Fault::FillThenCode,
+    Fault::FillThenBlock,
+    Fault::FillAfterEnd,
+    Fault::FillPadding,
+    Fault::FillUnstuffed,
     Fault::AfterEnd,
     Fault::NoEnd,
     Fault::EarlyEnd,
@@ -79,11 +101,16 @@ struct Coder<'a> {
     fault: Option<Fault>,
     fault_from: u64,
     mcu: u64,
+    /// One marker in so many has fill before it; none if it is 0.
+    fill_one_in: u64,
+    /// Where a fault ends the file before its time.
+    cut: Option<usize>,
 }
 
 /// The coded bytes of a scan with its end, and whether the fault came about.
 pub fn scan(shape: &Shape, random: &mut Random, fault: Option<Fault>) -> (Vec<u8>, bool) {
     let fault_from = random.between(0, shape.mcus() - 1);
+    let fill_one_in = random.pick(&[0, 0, 1, 3]);
     let mut coder = Coder {
         dc: shape.dc.iter().map(Ready::new).collect(),
         ac: shape.ac.iter().map(Ready::new).collect(),
@@ -96,9 +123,12 @@ pub fn scan(shape: &Shape, random: &mut Random, fault: Option<Fault>) -> (Vec<u8
         fault,
         fault_from,
         mcu: 0,
+        fill_one_in,
+        cut: None,
     };
     coder.mcus();
     coder.end();
+    coder.bytes.truncate(coder.cut.unwrap_or(usize::MAX));
     (coder.bytes, coder.fault != fault)
 }
 
@@ -137,6 +167,12 @@ impl Coder<'_> {
     }
 
     fn bit(&mut self, bit: u32) {
+        // Padding starts no byte, so this is a bit of a block.
+        let may_fill = self.filled == 0 && self.wanted(Fault::FillInBlock);
+        if may_fill && self.random.chance(1, 6) && self.due(Fault::FillInBlock) {
+            self.bytes.push(255);
+            self.fill();
+        }
         self.started = 2 * self.started + bit;
         self.filled += 1;
         if self.filled < 8 {
@@ -144,14 +180,23 @@ impl Coder<'_> {
         }
         self.bytes.push(self.started as u8);
         if self.started == 255 {
-            if self.due(Fault::Stuffing) {
-                let other = self.random.pick(&[1, 255, 208, 217, 128]);
-                self.bytes.push(other);
-            } else if !self.due(Fault::Bare) {
-                self.bytes.push(0);
-            }
+            self.behind_255();
         }
         (self.started, self.filled) = (0, 0);
+    }
+
+    /// The 0 behind a 255 of the data, or a fault there.
+    fn behind_255(&mut self) {
+        if self.due(Fault::Stuffing) {
+            let other = self.random.pick(&[1, 255, 208, 217, 128]);
+            self.bytes.push(other);
+        } else if !self.due(Fault::Bare) {
+            // Fill before this byte: the last 255 and the 0 look like it.
+            if self.due(Fault::FillInBlock) {
+                self.fill();
+            }
+            self.bytes.push(0);
+        }
     }
 
     fn bits(&mut self, length: u32, value: u32) {
@@ -172,24 +217,86 @@ impl Coder<'_> {
         self.random.pick(&[any, any, any, any, any, any, ones, ones, 0, top])
     }
 
-    /// Padding, then a marker.
-    fn marker(&mut self, code: u8) {
-        if self.filled > 0 && self.due(Fault::Padding) {
-            let wrong = self.random.between(self.filled.into(), 7) as u32;
-            while self.filled != 0 {
-                self.bit(u32::from(self.filled != wrong));
-            }
+    /// Ones up to the end of a started byte. True where a fault puts fill behind it.
+    fn padding(&mut self) -> bool {
+        if self.filled == 0 {
+            return false;
         }
+        let before_fill = self.due(Fault::FillPadding);
+        // The bit that is a 0; there is no bit 8.
+        let wrong = match before_fill || self.due(Fault::Padding) {
+            true => self.random.between(self.filled.into(), 7) as u32,
+            false => 8,
+        };
         while self.filled != 0 {
-            self.bit(1);
+            self.bit(u32::from(self.filled != wrong));
         }
+        if self.bytes.ends_with(&[255, 0]) && self.due(Fault::FillUnstuffed) {
+            self.bytes.pop();
+            return true;
+        }
+        before_fill
+    }
+
+    /// One byte of fill or more.
+    fn fill(&mut self) {
+        let tens = self.random.between(10, 99);
+        let hundreds = self.random.between(100, 400);
+        let mut count = self.random.pick(&[1, 1, 1, 1, 1, 2, 2, 2, 3, 3, 3, 3, tens, hundreds]);
+        if self.random.chance(1, 2000) {
+            count = self.random.between(65_534, 65_538);
+        }
+        // Much of it only while the scan is short, so that files stay small.
+        if self.bytes.len() > 3000 {
+            count = count.min(3);
+        }
+        self.bytes.extend(vec![255; count as usize]);
+    }
+
+    /// Padding, now and then fill, then a marker.
+    fn marker(&mut self, code: u8) {
+        let wanted = self.padding();
         if self.due(Fault::PaddingByte) {
             self.bytes.extend([255, 0]);
         }
-        if self.due(Fault::Fill) {
-            self.bytes.push(255);
+        let by_custom = self.fill_one_in > 0 && self.random.chance(1, self.fill_one_in);
+        if wanted || by_custom {
+            self.fill();
         }
-        self.bytes.extend([255, code]);
+        if !self.in_place_of(code) {
+            self.bytes.extend([255, code]);
+        }
+    }
+
+    /// Fill and behind it something else than this marker, where such a fault is due.
+    fn in_place_of(&mut self, code: u8) -> bool {
+        let data = self.random.between(1, 191) as u8;
+        match self.fault.filter(|&fault| self.wanted(fault)) {
+            Some(Fault::FillThenByte) => {
+                self.fill();
+                // With the 0 it looks like a 255 of the data.
+                let byte = self.random.pick(&[0, data]);
+                self.bytes.extend([255, byte, 255, code]);
+            }
+            Some(Fault::FillThenCode) => {
+                self.fill();
+                let restart = 208 + (code % 8 + self.random.between(1, 7) as u8) % 8;
+                let end = if code == 217 { 216 } else { 217 };
+                let other = self.random.pick(&[restart, restart, end, 254, 0, data]);
+                self.bytes.extend([255, other]);
+            }
+            Some(Fault::FillThenBlock) if code != 217 => {
+                self.fill();
+                self.bytes.push(255);
+            }
+            Some(Fault::FillCut) => {
+                self.fill();
+                self.cut = Some(self.bytes.len());
+            }
+            _ => return false,
+        }
+        self.fault = None;
+        true
     }
 
     fn mcus(&mut self) {
@@ -208,7 +315,7 @@ impl Coder<'_> {
 
     fn restart(&mut self, mcu: u64) {
         let interval = self.shape.interval;
-        if interval == 0 || mcu == 0 || mcu % interval != 0 {
+        if mcu == 0 || mcu.checked_rem(interval) != Some(0) {
             if mcu > 0 && self.due(Fault::RestartNotDue) {
                 let code = 208 + self.random.between(0, 7) as u8;
                 self.marker(code);
@@ -243,6 +350,11 @@ impl Coder<'_> {
         if self.due(Fault::AfterEnd) {
             let after = self.random.pick(&[&[0][..], &[255], &[255, 217], &[10], &[217]]);
             self.bytes.extend(after);
+        }
+        if self.due(Fault::FillAfterEnd) {
+            self.fill();
+            let then = self.random.pick(&[&[][..], &[217], &[255, 217], &[0]]);
+            self.bytes.extend(then);
         }
     }
 

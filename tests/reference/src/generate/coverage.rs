@@ -13,9 +13,9 @@ use crate::random::Random;
 use crate::record::Record;
 use std::collections::BTreeMap;
 
-type Seen = BTreeMap<String, u32>;
+pub type Seen = BTreeMap<String, u32>;
 
-fn note(seen: &mut Seen, what: &str) {
+pub fn note(seen: &mut Seen, what: &str) {
     *seen.entry(what.to_string()).or_default() += 1;
 }
 
@@ -34,7 +34,7 @@ fn symbol(bits: &mut Bits, codes: &Codes, seen: &mut Seen) -> u8 {
 }
 
 /// Notes one of two things.
-fn either(seen: &mut Seen, first: bool, what: &str, other: &str) {
+pub fn either(seen: &mut Seen, first: bool, what: &str, other: &str) {
     note(seen, if first { what } else { other });
 }
 
@@ -160,7 +160,7 @@ fn valid_files_hold_everything() {
     each_ten_times(&wanted(), &seen);
 }
 
-fn each_ten_times(wanted: &[String], seen: &Seen) {
+pub fn each_ten_times(wanted: &[String], seen: &Seen) {
     for what in wanted {
         let times = seen.get(what).copied().unwrap_or(0);
         assert!(times >= 10, "{what}: {times} times");
@@ -248,7 +248,7 @@ fn wanted_of_flaws() -> Vec<String> {
 #[test]
 fn careless_tables_come_up() {
     let (mut random, mut seen) = (Random::new(22), Seen::new());
-    for _ in 0..40_000 {
+    for _ in 0..60_000 {
         for file in files::group(&mut random) {
             let tables = flaws::tables(&file);
             let found = flaws::flaws(&file);

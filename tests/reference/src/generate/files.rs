@@ -7,6 +7,7 @@ use super::damage;
 use super::draft::Draft;
 use super::plan::{self, Plan, Segment};
 use crate::cases::MOST;
+use crate::fill;
 use crate::random::Random;
 
 /// Files made from one head; the first one's record may be tried on the others.
@@ -40,6 +41,10 @@ pub fn valid(random: &mut Random) -> (Plan, Vec<u8>) {
 fn valid_group(random: &mut Random) -> Group {
     let (plan, file) = valid(random);
     let mut group = vec![file];
+    // Fill is in no record: that of the first is the other's too.
+    if random.chance(1, 4) {
+        group.extend(fill::without(&group[0]));
+    }
     while random.chance(1, 3) && group.len() < 4 {
         group.push(sibling(random, &plan));
     }

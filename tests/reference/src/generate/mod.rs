@@ -12,6 +12,8 @@ mod tables;
 #[cfg(test)]
 mod coverage;
 #[cfg(test)]
+mod fills;
+#[cfg(test)]
 mod flaws;
 #[cfg(test)]
 mod tests;
