@@ -135,7 +135,7 @@ def shapes():
 
 def filled():
     """A name, a file, and the same file with fill bytes in its scan, before restarts and before the end."""
-    restarts, grey = encode(70, 90, "-sample", "1x2", "-restart", "1B"), encode(65, 31, "-grayscale")
+    restarts, grey = encode(70, 90, "-sample", "1x2", "-restart", "2B"), encode(65, 31, "-grayscale")
     yield "fill bytes before each marker", restarts, unsettled.filled(restarts, unsettled.most)
     full = unsettled.to_full_bytes().form(unsettled.plain)
     yield "fill bytes behind a padded 255", full, unsettled.filled(full, unsettled.most)
