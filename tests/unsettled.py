@@ -1,11 +1,13 @@
 """Files of one picture in more than one form, made from nothing: a bit writer, tables and blocks of our own, written from the rules
-alone. A block may have runs of 16 zeros before its end code, or up to its last place instead of one; nothing else is free, since a
-table has one code for a symbol. `plain` takes no such choice: it is the form that settling must give. `careless` makes files whose
-tables are refused.
+alone. A block may have runs of 16 zeros before its end code, or up to its last place instead of one, and fill bytes may stand before the
+markers of the scan (`filled`); nothing else is free, since a table has one code for a symbol. `plain` takes no such choice: it is the form
+that settling must give. `careless` makes files whose tables are refused, and `stray` files with a 255 too many in the scan.
 """
 import random
+import re
 
 END, RUN = 0, 240
+MOST_FILL = 3
 
 
 class Table:
@@ -52,8 +54,13 @@ class Writer:
 
 
 def plain(choices):
-    """No run that is not needed."""
+    """No run that is not needed, and no fill byte."""
     return 0
+
+
+def most(choices):
+    """As many of them as there may be."""
+    return choices - 1
 
 
 def size_of(value):
@@ -189,3 +196,45 @@ def careless():
     yield "an AC table lists a symbol twice", flat(ac=(END, END))
     yield "a DC table lists the symbol 12", flat(dc=(0, 12))
     yield "an AC table lists the symbol 16", flat(ac=(END, 16))
+
+
+# ---- fill bytes in the scan
+
+def first_coded(jpeg):
+    """The place of the first coded byte."""
+    at, code = 2, 0
+    while code != 218:
+        while jpeg[at + 1] == 255:
+            at += 1
+        code, at = jpeg[at + 1], at + 2 + int.from_bytes(jpeg[at + 2:at + 4], "big")
+    return at
+
+
+def filled(jpeg, choose):
+    """The file with up to three fill bytes before each marker of its scan, the restarts' and 217; `choose` says how many."""
+    start = first_coded(jpeg)
+    return jpeg[:start] + re.sub(rb"\xff[\xd0-\xd7\xd9]", lambda marker: b"\xff" * choose(MOST_FILL + 1) + marker.group(), jpeg[start:])
+
+
+def to_full_bytes():
+    """Two blocks and a restart between them. Of each block one bit stands in the last byte, which is 255 when it is padded: its 0
+    follows, and fill comes behind that."""
+    pair = Table({1: [2]}), Table({1: [RUN], 2: [16 * 14 + 1]})
+    return Picture(16, 8, (1, 1), 1, 1, [pair], [[3] + [0] * 62 + [1]] * 2)
+
+
+def stray():
+    """A name and a file each, refused 4 in the scan. What is accepted, with fill or without, is 63 255 217 for the first ones, and
+    98 255 0 255 208 98 255 0 255 217 for the others."""
+    one, two = flat()[:-3], to_full_bytes().head()
+    yield "fill where a bit is wanted", one + bytes([255, 255, 63, 255, 217])
+    yield "fill with no marker behind it", one + bytes([63, 255, 255])
+    yield "fill and then a 0", one + bytes([63, 255, 255, 0, 255, 217])
+    yield "fill and then a restart that is not due", one + bytes([63, 255, 255, 208, 255, 217])
+    yield "fill behind padding with a 0 in it", one + bytes([62, 255, 255, 217])
+    yield "fill behind the last marker", one + bytes([63, 255, 217, 255])
+    yield "fill and the last marker twice", one + bytes([63, 255, 255, 217, 255, 217])
+    yield "fill before the 0 of a padded 255", two + bytes([98, 255, 255, 0, 255, 208, 98, 255, 0, 255, 217])
+    yield "fill in place of the 0 of a padded 255", two + bytes([98, 255, 255, 255, 208, 98, 255, 0, 255, 217])
+    yield "fill and then another restart", two + bytes([98, 255, 0, 255, 255, 209, 98, 255, 0, 255, 217])
+    yield "fill and then the end for a restart", two + bytes([98, 255, 0, 255, 255, 217])

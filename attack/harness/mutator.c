@@ -1,5 +1,6 @@
 /* Changes that leave a JPEG file mostly well formed, so that they come past the head: bits of the scan, whole segments moved, copied
- * and cut, lengths, comments, restarts, the frame's fields, tables' symbols; and libFuzzer's own changes beside them. */
+ * and cut, lengths, comments, restarts, fill bytes in head and scan, the frame's fields, tables' symbols; and libFuzzer's own changes
+ * beside them. */
 #include "harness.h"
 
 #include <string.h>
@@ -75,16 +76,29 @@ static void flip_scan_bits(struct draft *d) {
         d->file[d->scan + below(d, d->length - d->scan)] ^= (uint8_t)(1 << below(d, 8));
 }
 
-/* A run of the scan through libFuzzer's changes, and a 0 behind each 255 in it that is no restart. */
+static bool is_restart(uint8_t code) { return (code & 248) == 208; }
+
+/* The place of the first byte from here on that is not 255, or the end. */
+static size_t behind_fill(const struct draft *d, size_t at) {
+    while (at < d->length && d->file[at] == 255)
+        at++;
+    return at;
+}
+
+/* A run of the scan through libFuzzer's changes, and a 0 behind each 255 in it that belongs to no restart and not to the end, as their
+ * own or as fill before them. */
 static void change_scan(struct draft *d) {
     if (d->scan + 2 >= d->length)
         return;
-    size_t end = LLVMFuzzerMutate(d->file + d->scan, d->length - 2 - d->scan, d->most - d->scan) + d->scan;
-    d->length = end;
-    for (size_t i = d->scan; i + 1 < d->length; i++)
-        if (d->file[i] == 255 && d->file[i + 1] != 0 && (d->file[i + 1] & 248) != 208)
-            insert(d, i + 1, (const uint8_t[]){0}, 1);
+    d->length = LLVMFuzzerMutate(d->file + d->scan, d->length - 2 - d->scan, d->most - d->scan) + d->scan;
     insert(d, d->length, (const uint8_t[]){255, 217}, 2);
+    for (size_t i = d->scan; i + 1 < d->length; i++) {
+        size_t code = behind_fill(d, i);
+        if (code > i && (code + 1 >= d->length || is_restart(d->file[code])))
+            i = code;
+        else if (code > i && d->file[i + 1] != 0)
+            insert(d, i + 1, (const uint8_t[]){0}, 1);
+    }
 }
 
 static void put_in_scan(struct draft *d) {
@@ -150,6 +164,34 @@ static void insert_interval(struct draft *d) {
 }
 
 static void insert_fill(struct draft *d) { insert(d, some_seam(d), (const uint8_t[]){255, 255, 255}, 1 + below(d, 3)); }
+
+/* The place of a marker of the scan, every one as likely as the others; the end where there is none. */
+static size_t some_marker(struct draft *d) {
+    size_t at = d->length;
+    uint64_t met = 0;
+    for (size_t i = d->scan; i + 1 < d->length; i++)
+        if (d->file[i] == 255 && (is_restart(d->file[i + 1]) || d->file[i + 1] == 217) && below(d, ++met) == 0)
+            at = i;
+    return at;
+}
+
+/* Fill in the scan: mostly before a marker, where it is taken; else anywhere, so where a bit is wanted, or at the end, with the last
+ * marker before it or without one. */
+static void fill_scan(struct draft *d) {
+    uint8_t fill[300];
+    size_t many = 1 + (size_t)below(d, below(d, 6) == 0 ? sizeof fill : 3);
+    if (d->scan + 2 >= d->length)
+        return;
+    size_t at = some_marker(d);
+    switch (below(d, 8)) {
+    case 0: at = d->length; break;
+    case 1: cut(d, d->length - 2, 2), at = d->length; break;
+    case 2: at = d->scan + 1 + (size_t)below(d, d->length - d->scan); break;
+    default: break;
+    }
+    memset(fill, 255, many);
+    insert(d, at, fill, many);
+}
 
 /* The frame's sides small and sampling one of those that are read, or nearly. */
 static void change_frame(struct draft *d) {
@@ -233,9 +275,9 @@ static void find_end(struct draft *d) {
 }
 
 static void change_file(struct draft *d) {
-    static void (*const changes[])(struct draft *) = {flip_scan_bits,  flip_scan_bits, change_scan,   change_scan, put_in_scan,
-                                                      move_segment,    cut_segment,    change_length, change_body, insert_comment,
-                                                      insert_interval, insert_fill,    change_frame,  change_symbol};
+    static void (*const changes[])(struct draft *) = {flip_scan_bits,  flip_scan_bits, change_scan,   change_scan,   put_in_scan,
+                                                      move_segment,    cut_segment,    change_length, change_body,   insert_comment,
+                                                      insert_interval, insert_fill,    change_frame,  change_symbol, fill_scan};
     take_apart(d);
     changes[below(d, sizeof changes / sizeof changes[0])](d);
 }

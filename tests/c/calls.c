@@ -4,6 +4,7 @@
  *                                            comment; the picture is written to PICTURE
  *   calls --refused NUMBER SPENT FILE        a file that is refused, and what it takes from the budget
  *   calls --no-end-code FILE                 a file that is accepted and that settle refuses 9
+ *   calls --same PLAIN FILLED                two files that are accepted, the second with fill bytes in its scan and else the first
  *
  * Prints how many facts held, or the first that did not, with exit status 1.
  */
@@ -286,7 +287,7 @@ static void test_comments(const struct subject *s, size_t count, char **names) {
     }
 }
 
-/* ---- the three uses */
+/* ---- the uses */
 
 static tillsparrow_record read_record(const char *name) {
     uint64_t numbers[NUMBERS];
@@ -356,17 +357,49 @@ static void test_no_end_code(const char *name) {
     give_back(room);
 }
 
+/* A file by its own name, with the record and the prices that inspect finds. */
+static struct subject look_at(const char *name) {
+    struct subject s = {read_file(name), {0}, 0, 0};
+    tillsparrow_inspected seen = tillsparrow_inspect(s.file.bytes, s.file.length, true, SIZE_MAX, SIZE_MAX, SIZE_MAX, PLENTY);
+    hold(seen.number == 0, "inspect answers %llu to %s", (unsigned long long)seen.number, name);
+    s.record = seen.found;
+    s.head = 2 * (uint64_t)s.file.length + 1;
+    s.price = s.head + s.record.work;
+    hold(seen.left == PLENTY - s.price, "inspect takes %llu for %s", (unsigned long long)(PLENTY - seen.left), name);
+    return s;
+}
+
+/* Fill bytes are in no record and in no picture, and settling leaves them out: the longer file costs 2 more for each, and that is all. */
+static void test_same(const char *plain, const char *filled) {
+    struct subject one = look_at(plain), other = look_at(filled);
+    hold(other.file.length > one.file.length, "there is no fill byte");
+    hold_record(other.record, one.record, "inspect");
+    struct lent blocks, other_blocks;
+    struct lent picture = draw(&one, one.record, 0, 0, &blocks), other_picture = draw(&other, one.record, 0, 255, &other_blocks);
+    hold(same_bytes(picture, other_picture, picture.length), "fill bytes change the picture");
+    hold(same_bytes(blocks, other_blocks, blocks.length), "fill bytes change the samples of the blocks");
+    struct lent none = lend(0);
+    size_t length = (size_t)settle_into(one.file, none, PLENTY).length;
+    struct lent made = settle_in(&one, length, length), other_made = settle_in(&other, length, length);
+    hold(same_bytes(made, other_made, length), "fill bytes change the settled file");
+    give_back(one.file), give_back(other.file), give_back(blocks), give_back(other_blocks), give_back(picture), give_back(other_picture);
+    give_back(none), give_back(made), give_back(other_made);
+}
+
 int main(int count, char **words) {
     in_hand = words[count - 1];
     if (count == 5 && strcmp(words[1], "--refused") == 0) {
         test_refused(strtoull(words[2], NULL, 10), strtoull(words[3], NULL, 10), words[4]);
     } else if (count == 3 && strcmp(words[1], "--no-end-code") == 0) {
         test_no_end_code(words[2]);
+    } else if (count == 4 && strcmp(words[1], "--same") == 0) {
+        test_same(words[2], words[3]);
     } else if (count >= 4) {
         in_hand = words[1];
         test_accepted(words[1], words[2], words[3], (size_t)count - 4, words + 4);
     } else {
-        fprintf(stderr, "calls: takes FILE RECORD PICTURE [COMMENT...], --refused NUMBER SPENT FILE or --no-end-code FILE\n");
+        fprintf(stderr, "calls: takes FILE RECORD PICTURE [COMMENT...], --refused NUMBER SPENT FILE, --no-end-code FILE "
+                        "or --same PLAIN FILLED\n");
         return 2;
     }
     printf("%lu\n", facts);

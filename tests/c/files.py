@@ -130,6 +130,16 @@ def shapes():
     yield "1 x 1", encode(1, 1), []
     yield "large", encode(640, 480, "-sample", "2x2", "-quality", "85"), []
     yield "large grey", encode(500, 400, "-grayscale", "-quality", "90"), []
+    yield from ((name, jpeg, []) for name, _, jpeg in filled())
+
+
+def filled():
+    """A name, a file, and the same file with fill bytes in its scan, before restarts and before the end."""
+    restarts, grey = encode(70, 90, "-sample", "1x2", "-restart", "2B"), encode(65, 31, "-grayscale")
+    yield "fill bytes before each marker", restarts, unsettled.filled(restarts, unsettled.most)
+    full = unsettled.to_full_bytes().form(unsettled.plain)
+    yield "fill bytes behind a padded 255", full, unsettled.filled(full, unsettled.most)
+    yield "100,000 fill bytes", grey, grey[:-2] + b"\xff" * 100_000 + grey[-2:]
 
 
 def noted():
@@ -160,6 +170,8 @@ def refused():
     yield "arithmetic", encode(64, 64, "-arithmetic"), 5, None
     for name, jpeg in unsettled.careless():
         yield name, jpeg, 4, None
+    for name, jpeg in unsettled.stray():
+        yield name, jpeg, 4, jpeg
 
 
 def careful():

@@ -110,9 +110,11 @@ SAMPLINGS = {
     "docs/tray.jpg": HALVED, "4:2:0": HALVED, "1 x 1": HALVED, "large": HALVED, "4:4:4": "4:4:4: every pixel has its own colour",
     "4:2:2 with restarts": "4:2:2: one colour for 2 × 1 pixels, halved across", "1x2": "4:4:0: one colour for 1 × 2 pixels, halved down",
     "4x1": "4:1:1: one colour for 4 × 1 pixels", "3x1": "one colour for 3 × 1 pixels", "1x4": "one colour for 1 × 4 pixels",
+    "fill bytes before each marker": "4:4:0: one colour for 1 × 2 pixels, halved down",
 }
 OTHERS = ("1x2", "4x1", "3x1", "1x4")
-RESTARTS = {"4:2:2 with restarts": "every 3 units of 16 × 8 pixels", "grey with restarts": "every 9 units of 8 × 8 pixels"}
+RESTARTS = {"4:2:2 with restarts": "every 3 units of 16 × 8 pixels", "grey with restarts": "every 9 units of 8 × 8 pixels",
+            "fill bytes before each marker": "every 2 units of 8 × 16 pixels", "fill bytes behind a padded 255": "every 1 units of 8 × 8 pixels"}
 
 
 def test_shapes(browser, room, shots):

@@ -2,6 +2,7 @@
 hand."""
 import functools
 import random
+import re
 import subprocess
 from pathlib import Path
 
@@ -67,6 +68,11 @@ def with_comment(jpeg, text):
     return jpeg[:2] + b"\xff\xfe" + (len(text) + 2).to_bytes(2, "big") + text + jpeg[2:]
 
 
+def with_fill(jpeg, start):
+    """The file with three fill bytes before each marker behind its first coded byte: before the restarts and before the end."""
+    return jpeg[:start] + re.sub(rb"(?=\xff[\xd0-\xd7\xd9])", b"\xff" * 3, jpeg[start:])
+
+
 # ---- small files made by hand
 
 def segment(code, body):
@@ -79,7 +85,7 @@ def table(class_and_id, codes):
     return segment(196, bytes([class_and_id]) + counts + bytes(symbol for _, symbol in codes))
 
 
-def small(ac=((1, 0),), scan=b"\x3f", width=8, height=8, sampling=None):
+def small(ac=((1, 0),), scan=b"\x3f", width=8, height=8, sampling=None, interval=None):
     """Grey, or colour with that sampling; every first level is 0 and has the code 0. Without arguments a file of 141 bytes."""
     ids = (1,) if sampling is None else (1, 2, 3)
     samplings = (17,) if sampling is None else (sampling, 17, 17)
@@ -87,4 +93,5 @@ def small(ac=((1, 0),), scan=b"\x3f", width=8, height=8, sampling=None):
     frame += b"".join(bytes([i, each, 0]) for i, each in zip(ids, samplings))
     chosen = bytes([len(ids)]) + b"".join(bytes([i, 0]) for i in ids) + b"\x00\x3f\x00"
     head = b"\xff\xd8" + segment(219, b"\x00" + b"\x01" * 64) + segment(192, frame) + table(0, [(1, 0)]) + table(16, ac)
+    head += b"" if interval is None else segment(221, interval.to_bytes(2, "big"))
     return head + segment(218, chosen) + scan + b"\xff\xd9"

@@ -7,7 +7,7 @@ import unittest
 from concurrent.futures import ThreadPoolExecutor
 
 import tillsparrow
-from tillsparrow import MOST, Limits, Record, Refused
+from tillsparrow import MOST, Inspected, Limits, Record, Refused
 
 from . import files
 
@@ -196,6 +196,16 @@ class Settling(unittest.TestCase):
             refused = raised.exception
             self.assertEqual((refused.number, refused.left, refused.needed), (7, made.left, len(once)), name)
             self.assertEqual(short, b"\x03" * (len(once) - 1), name)
+
+    def test_fill_changes_the_price_alone(self):
+        """Fill bytes in the scan cost 2 each, and settling leaves them out."""
+        for name, jpeg in files.accepted():
+            record = tillsparrow.inspect(jpeg).record
+            filled = files.with_fill(jpeg, record.start)
+            self.assertGreaterEqual(len(filled), len(jpeg) + 3, name)
+            self.assertEqual(tillsparrow.inspect(filled, budget=2 * len(filled) + 1 + record.work), Inspected(record, 0), name)
+            self.assertEqual(tillsparrow.read(filled), tillsparrow.read(jpeg), name)
+            self.assertEqual(tillsparrow.settled(filled), tillsparrow.settled(jpeg), name)
 
 
 class Comments(unittest.TestCase):

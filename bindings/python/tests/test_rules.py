@@ -14,6 +14,18 @@ OWN = Record(width=8, height=8, channels=1, hs=1, vs=1, ids=(1, 0, 0), quants=(7
              start=138, blocks=1, scratch=64, output=64, work=3200, colour=1)
 
 
+def restarted(scan):
+    """Two blocks of SMALL beside each other, and a restart between them."""
+    return files.small(scan=bytes(scan), width=16, interval=1)
+
+
+TWO = restarted([63, 255, 208, 63])
+
+
+def price_of(data):
+    return 2 * len(data) + 1 + 2 * 3136 + 128
+
+
 class Rules(unittest.TestCase):
     def test_the_version_is_that_of_the_repository(self):
         told = pathlib.Path(__file__).resolve().parents[3] / "VERSION"
@@ -56,6 +68,40 @@ class Rules(unittest.TestCase):
             tillsparrow.decode(careless, seen.record, output, scratch, 3485)
         self.assertEqual((raised.exception.number, raised.exception.left), (8, 0))
         self.assertEqual({*room, *output, *scratch}, {3})
+
+    def test_fill_stands_before_a_marker(self):
+        """Fill bytes before a restart and before the end are in no record and in no picture, and settling leaves them out. Each costs 2,
+        as every byte does."""
+        record = tillsparrow.inspect(TWO).record
+        self.assertEqual((len(TWO), record.start, record.interval), (150, 144, 1))
+        for first, last in ((1, 0), (0, 1), (2, 3), (1000, 2000)):
+            filled, price = restarted([63, *[255] * first, 255, 208, 63, *[255] * last]), price_of(TWO) + 2 * (first + last)
+            self.assertEqual(tillsparrow.inspect(filled, budget=price), Inspected(record, 0))
+            self.assertEqual(tillsparrow.has_comment(filled, 0, budget=price), (False, 0))
+            drawn = tillsparrow.decode(filled, record, budget=price)
+            self.assertEqual((drawn.output, drawn.scratch, drawn.left), (b"\x80" * 128, b"\x80" * 128, 0))
+            made = tillsparrow.settle(filled, budget=price)
+            self.assertEqual((made.output, made.length, made.left), (TWO, 150, 0))
+            self.assertEqual(tillsparrow.read(filled), tillsparrow.read(TWO))
+
+    def test_a_stray_255_is_refused(self):
+        """A 255 before a 255 where a bit is wanted is no fill; fill wants the marker that is due behind it, and nothing stands behind the
+        last one."""
+        record, ended = tillsparrow.inspect(TWO).record, restarted([63, 255, 208, 63, 255])
+        strays = (restarted([255, 255, 63, 255, 208, 63]), restarted([63, 255, 208, 255, 255, 63]),
+                  restarted([63, 255, 255, 0, 255, 208, 63]), restarted([63, 255, 255, 209, 63]), ended[:-1], ended + b"\xff")
+        for stray in strays:
+            room, output, scratch = (bytearray(b"\x03" * length) for length in (400, 128, 128))
+            budget = price_of(stray) + 17
+            for call in (lambda: tillsparrow.inspect(stray, budget=budget), lambda: tillsparrow.has_comment(stray, 0, budget=budget),
+                         lambda: tillsparrow.settle(stray, room, budget=budget)):
+                with self.assertRaises(Refused) as raised:
+                    call()
+                self.assertEqual((raised.exception.number, raised.exception.left, raised.exception.needed), (4, 17, None))
+            with self.assertRaises(Refused) as raised:
+                tillsparrow.decode(stray, record, output, scratch, budget)
+            self.assertEqual((raised.exception.number, raised.exception.left), (8, 17))
+            self.assertEqual({*room, *output, *scratch}, {3})
 
     def test_samples_go_to_the_front_of_the_buffers(self):
         output, scratch = bytearray(b"\x09" * 65), bytearray(b"\x07" * 66)

@@ -144,7 +144,8 @@ def _settle_into(data: Any, output: Any, bounds: Tuple[int, int, int], budget: i
 
 
 def settle(data: Any, output: Any = None, limits: Limits = NO_LIMITS, budget: int = MOST) -> Settled:
-    """The settled file at the front of ``output``: the same head and the same coefficients, coded in the one settled way.
+    """The settled file at the front of ``output``: the same head and the same coefficients, coded in the one settled way, without the
+    fill bytes that may stand before a scan's markers.
 
     ``output`` is the caller's (writable, contiguous, apart from the data) or, where None, a fresh bytearray of just the settled
     file. Where the caller's is too short, the refusal's ``needed`` says how long it must be. At inspect's price.

@@ -106,7 +106,8 @@ pub fn decode(
 }
 
 /// The settled file at the front of `output`: the same head and the same coefficients, coded in
-/// the one settled way. At [`inspect`]'s price.
+/// the one settled way, without the fill bytes that may stand before a scan's markers. At
+/// [`inspect`]'s price.
 ///
 /// Where the buffer is too short the refusal says how many bytes are needed:
 ///

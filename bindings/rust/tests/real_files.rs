@@ -83,6 +83,21 @@ fn prices_are_exact() {
     }
 }
 
+/// Fill bytes in the scan cost 2 each and change nothing else; settling leaves them out.
+#[test]
+fn fill_changes_the_price_alone() {
+    for (name, file) in accepted() {
+        let record = record_of(&file);
+        let filled = with_fill(&file, record.start as usize);
+        assert!(filled.len() >= file.len() + 3, "{name}");
+        let price = 2 * filled.len() as u64 + 1 + record.work;
+        let seen = inspect(&filled, BEST, Limits::NONE, price);
+        assert_eq!(seen, Ok(Inspected { record, left: 0 }), "{name}");
+        assert_eq!(read(&filled), read(&file), "{name}");
+        assert_eq!(settled(&filled), settled(&file), "{name}");
+    }
+}
+
 /// Every way in refuses the file by this number.
 fn all_refuse(name: &str, file: &[u8], number: u64) {
     let mut room = vec![7; 2 * file.len()];

@@ -117,6 +117,76 @@ fn a_table_lists_a_symbol_once() {
     assert!(room.iter().chain(&output).chain(&scratch).all(|&byte| byte == 3));
 }
 
+/// Two such blocks beside each other, and a restart between them: 150 bytes with this scan.
+const TWO: [u8; 4] = [63, 255, 208, 63];
+
+fn restarted(scan: &[u8]) -> Vec<u8> {
+    let mut bytes = file(&[(1, 0)], scan);
+    bytes[79] = 16;
+    bytes.splice(2..2, [255, 221, 0, 4, 0, 1]);
+    bytes
+}
+
+fn price_of(file: &[u8]) -> u64 {
+    2 * file.len() as u64 + 1 + 2 * 3136 + 128
+}
+
+fn record_of(file: &[u8]) -> Record {
+    inspect(file, Colour::RedGreenBlue, Limits::NONE, price_of(file)).unwrap().record
+}
+
+/// Fill bytes before a restart and before the end are in no record and in no picture, and
+/// settling leaves them out. Each costs 2, as every byte does.
+#[test]
+fn fill_stands_before_a_marker() {
+    let plain = restarted(&TWO);
+    let record = record_of(&plain);
+    assert_eq!((plain.len(), record.start, record.interval), (150, 144, 1));
+    for (first, last) in [(1, 0), (0, 1), (2, 3), (1000, 2000)] {
+        let fill = [255; 2000];
+        let scan = [&TWO[..1], &fill[..first], &TWO[1..], &fill[..last]].concat();
+        let filled = restarted(&scan);
+        let price = price_of(&plain) + 2 * (first + last) as u64;
+        let seen = inspect(&filled, Colour::RedGreenBlue, Limits::NONE, price);
+        assert_eq!(seen, Ok(Inspected { record, left: 0 }));
+        assert_eq!(has_comment(&filled, 0, Limits::NONE, price), Ok((false, 0)));
+        let (mut output, mut scratch, mut room) = ([3; 128], [3; 128], [3; 150]);
+        assert_eq!(decode(&filled, &record, &mut output, &mut scratch, price), Ok(0));
+        assert_eq!((output, scratch), ([128; 128], [128; 128]));
+        let made = settle(&filled, Limits::NONE, price, &mut room);
+        assert_eq!(made, Ok(Settled { length: 150, left: 0 }));
+        assert_eq!(room[..], plain[..]);
+    }
+}
+
+/// A 255 before a 255 where a bit is wanted is no fill; fill wants the marker that is due behind
+/// it, and nothing stands behind the last one.
+#[test]
+fn a_stray_255_is_refused() {
+    let record = record_of(&restarted(&TWO));
+    let ended = restarted(&[63, 255, 208, 63, 255]);
+    let strays = [
+        ("before the first block", restarted(&[255, 255, 63, 255, 208, 63])),
+        ("before the second block", restarted(&[63, 255, 208, 255, 255, 63])),
+        ("as fill with a 0 behind it", restarted(&[63, 255, 255, 0, 255, 208, 63])),
+        ("as fill before another restart", restarted(&[63, 255, 255, 209, 63])),
+        ("as fill, and no marker", ended[..ended.len() - 1].to_vec()),
+        ("behind the last marker", [&ended[..], &[255]].concat()),
+    ];
+    for (name, stray) in &strays {
+        let budget = price_of(stray) + 17;
+        let refused = Refused { number: Refused::MALFORMED, left: 17, needed: None };
+        let (mut output, mut scratch, mut room) = ([3; 128], [3; 128], [3; 400]);
+        let seen = inspect(stray, Colour::RedGreenBlue, Limits::NONE, budget);
+        assert_eq!(seen, Err(refused), "{name}");
+        assert_eq!(has_comment(stray, 0, Limits::NONE, budget), Err(refused), "{name}");
+        assert_eq!(settle(stray, Limits::NONE, budget, &mut room), Err(refused), "{name}");
+        let drawn = decode(stray, &record, &mut output, &mut scratch, budget).unwrap_err();
+        assert_eq!((drawn.number, drawn.left), (8, 17), "{name}");
+        assert!(room.iter().chain(&output).chain(&scratch).all(|&byte| byte == 3), "{name}");
+    }
+}
+
 #[test]
 fn samples_go_to_the_front_of_the_buffers() {
     let (mut output, mut scratch) = ([9; 65], [7; 66]);

@@ -83,6 +83,20 @@ pub fn with_comment(file: &[u8], text: &[u8]) -> Vec<u8> {
     [&head, text, &file[2..]].concat()
 }
 
+/// The file with three fill bytes before each marker behind its first coded byte, which is at
+/// `start`: before the restarts and before the end.
+pub fn with_fill(file: &[u8], start: usize) -> Vec<u8> {
+    let mut bytes = file[..start].to_vec();
+    for part in file[start..].windows(2) {
+        if part[0] == 255 && matches!(part[1], 208..=215 | 217) {
+            bytes.extend([255; 3]);
+        }
+        bytes.push(part[0]);
+    }
+    bytes.extend(file.last());
+    bytes
+}
+
 /// Real files of every form that is read, each with a name.
 pub fn accepted() -> Vec<(String, Vec<u8>)> {
     let mut files = vec![("docs/tray.jpg".to_string(), docs_tray())];
