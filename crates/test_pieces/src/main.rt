@@ -11,6 +11,9 @@ const TWO_BLOCKS: [u8; 13] = *b"\xff\xc0\0\x0b\x08\0\x08\0\x10\x01\x01\x11\0";
 
 const LARGEST: [u8; 19] = *b"\xff\xc0\0\x11\x08\xff\xff\xff\xff\x03\x01\x11\0\x02\x11\0\x03\x11\0";
 
+// 16 x 8 in one channel, and a restart before the second block
+const RESTARTING: [u8; 19] = *b"\xff\xc0\0\x0b\x08\0\x08\0\x10\x01\x01\x11\0\xff\xdd\0\x04\0\x01";
+
 // DC tables: one code; two, which both mean 0; the codes 0, 10 and 110 for the categories 11, 1 and 2
 const DC: [u8; 22] = *b"\xff\xc4\0\x14\0\x01\0\0\0\0\0\0\0\0\0\0\0\0\0\0\0\0";
 
@@ -186,6 +189,74 @@ fn tables() {
     with_ac(b"AC 0 and 250", 250);
 }
 
+// two blocks with the coded byte 63 each, and bytes between them and behind them
+fn between(s: &mut [u8], coded: &[u8]) {
+    file(s, &RESTARTING, &DC, &AC, &ONE_SCAN, coded);
+}
+
+// fill before a restart and before 217: the settled file has 150 bytes, the restart's code at 146 and 217 at 149
+fn fill() {
+    let mut none = [1u8; 150];
+    between(&mut none, b"\x3f\xff\xd0\x3f");
+    settle(b"no fill", &none, 146);
+    let mut one = [1u8; 151];
+    between(&mut one, b"\x3f\xff\xff\xd0\x3f");
+    settle(b"1 before a restart", &one, 146);
+    between(&mut one, b"\x3f\xff\xd0\x3f\xff");
+    settle(b"1 before 217", &one, 149);
+    let mut three = [1u8; 153];
+    between(&mut three, b"\x3f\xff\xff\xff\xff\xd0\x3f");
+    settle(b"3 before a restart", &three, 146);
+    between(&mut three, b"\x3f\xff\xd0\x3f\xff\xff\xff");
+    settle(b"3 before 217", &three, 149);
+    between(&mut three, b"\x3f\xff\xff\x3f\xff\xd0\x3f");
+    settle(b"fill, then a byte of data", &three, 146);
+    between(&mut three, b"\x3f\xff\xff\xd1\xff\xd0\x3f");
+    settle(b"fill, then a wrong marker", &three, 146);
+}
+
+// codes for 240 and for a run of 14 with 9 bits: the last byte is 255 when it is padded, and its 0 follows
+fn full_byte() {
+    let mut table = RUNS;
+    table[21] = 240;
+    table[22] = 233;
+    let mut s = [1u8; 146];
+    block(&mut s, &DC, &table, b"\x0b\xff\0\xff\xff");
+    settle(b"a padded 255, its 0, fill", &s, 141);
+    block(&mut s, &DC, &table, b"\x0b\xff\xff\xff\xff");
+    settle(b"a padded 255, fill", &s, 141);
+}
+
+// F with a 255 too many, or a byte behind its end
+fn stray() {
+    let mut s = [1u8; 142];
+    block(&mut s, &DC, &AC, b"\x3f");
+    inspect(
+        b"a byte behind 217",
+        &s,
+        tillsparrow_streams::limits(),
+        10000,
+    );
+    block(&mut s, &DC, &AC, b"\x3f\xff");
+    inspect(b"fill", &s, tillsparrow_streams::limits(), 10000);
+    s[141] = 255;
+    inspect(b"fill, no marker", &s, tillsparrow_streams::limits(), 10000);
+    block(&mut s, &DC, &AC, b"\x3e\xff");
+    inspect(
+        b"fill, padding not complete",
+        &s,
+        tillsparrow_streams::limits(),
+        10000,
+    );
+    block(&mut s, &DC, &AC, b"\xff\xff");
+    inspect(
+        b"fill where a bit is wanted",
+        &s,
+        tillsparrow_streams::limits(),
+        10000,
+    );
+}
+
 fn main() {
     let mut f = [1u8; 141];
     block(&mut f, &DC, &AC, b"\x3f");
@@ -231,4 +302,7 @@ fn main() {
     largest(&s);
     settled();
     tables();
+    fill();
+    full_byte();
+    stray();
 }
