@@ -95,7 +95,8 @@ tillsparrow_decoded tillsparrow_decode(
     const uint8_t *bytes, size_t length, tillsparrow_record found,
     uint8_t *output, size_t output_length, uint8_t *scratch, size_t scratch_length, uint64_t budget);
 
-/* The settled file: the same head and the same coefficients, coded in the one settled way. At inspect's price. */
+/* The settled file: the same head and the same coefficients, coded in the one settled way, without the fill bytes that may stand before
+ * a scan's markers. At inspect's price. */
 tillsparrow_settled tillsparrow_settle(
     const uint8_t *bytes, size_t length,
     size_t input_limit, size_t side_limit, size_t output_limit, uint64_t budget,
