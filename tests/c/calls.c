@@ -4,7 +4,7 @@
  *                                            comment; the picture is written to PICTURE
  *   calls --refused NUMBER SPENT FILE        a file that is refused, and what it takes from the budget
  *   calls --no-end-code FILE                 a file that is accepted and that settle refuses 9
- *   calls --same PLAIN FILLED                two files that are accepted, the second with fill bytes in its scan and else the first
+ *   calls --same PLAIN FILLED                two files that are accepted, the second being the first with fill bytes in its scan
  *
  * Prints how many facts held, or the first that did not, with exit status 1.
  */

@@ -47,7 +47,7 @@ function wordsOf(found, size) {
         ["File", counted(size) + " bytes, baseline JPEG"],
         ["Channels", channels === 1n ? "1: grey" : "3: red, green, blue"],
         ["Sampling", samplingOf(found)],
-        ["Restarts", interval ? "every " + counted(interval) + " units of " + unit + " pixels" : "none"],
+        ["Restarts", interval ? "every " + (interval === 1n ? "unit" : counted(interval) + " units") + " of " + unit + " pixels" : "none"],
         ["Blocks", counted(blocks) + " of 8 × 8 samples"],
     ];
 }

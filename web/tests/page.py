@@ -114,7 +114,7 @@ SAMPLINGS = {
 }
 OTHERS = ("1x2", "4x1", "3x1", "1x4")
 RESTARTS = {"4:2:2 with restarts": "every 3 units of 16 × 8 pixels", "grey with restarts": "every 9 units of 8 × 8 pixels",
-            "fill bytes before each marker": "every 2 units of 8 × 16 pixels", "fill bytes behind a padded 255": "every 1 units of 8 × 8 pixels"}
+            "fill bytes before each marker": "every 2 units of 8 × 16 pixels", "fill bytes behind a padded 255": "every unit of 8 × 8 pixels"}
 
 
 def test_shapes(browser, room, shots):

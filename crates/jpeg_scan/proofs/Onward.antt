@@ -14,9 +14,8 @@ use Rattle.reading.specs.declared.Bits.{Bits}
 use Rattle.reading.specs.declared.BlockRead.{BlockRead}
 use Rattle.reading.specs.declared.BlockRead.the-variants as answer
 use Rattle.reading.specs.declared.Fault.{Fault}
-use Rattle.reading.specs.declared.Fault.the-variants.{Broken}
 use Rattle.reading.specs.declared.ScanCursor.{ScanCursor}
-use Rattle.reading.specs.Tests.{_and_, isAt}
+use Rattle.reading.specs.Tests.{_and_}
 use Rattle.reading.specs.Reader.{Read, got, fault, onward, _>>_, give}
 use Rattle.reading.specs.Bits.{one, file, mark}
 use Rattle.reading.specs.Huffman.{Table, tableAt}
@@ -71,9 +70,6 @@ unfolding resumed
 resumed-none s p n q h = let z : n - q .done ≡ 0 = omega arith in rw z
 
 -- ---- behind a restart
-
-abbrev nothing : Unit {0}
-nothing = tt
 
 abbrev pub wentBy : Halt → ScanCursor → (ScanCursor → Read Bits (List (List ℤ))) → Read Bits (List (List ℤ))
 wentBy No q f = f q

@@ -40,7 +40,7 @@ pub struct CursorRead {
 }
 
 // What is found where a marker is looked for: none, or one, and the place behind it.
-pub enum Mark {
+enum Mark {
     Missing,
     Behind(usize),
 }
@@ -143,7 +143,7 @@ fn full(byte: u8, left: u8) -> bool
     byte as usize % p == p - 1
 }
 
-// The first place from `at` on that does not hold 255, over any number of fill bytes.
+// The first place from `at` on that does not hold 255: behind fill bytes and a marker's own 255 (the rules' 'Fill bytes inside scans').
 fn past_full(s: &[u8], at: usize) -> usize
     ensures { λ r. ⌜ r ≡ at + fulls (drop at (now (s .entry))) ⌝ }
 {

@@ -2,7 +2,7 @@
 -- restart or of a block is the scan's (`stopped`, `broken`), and behind the last block stands the end (`ended-done`, `ended-not`).
 use Prim.Native.Nat.{ℕ, _+_, _*_, _-_, _<_, _≤_, min}
 use mathlib.Core.Path.{_≡_, refl, _∙_, subst, subst⁻¹}
-use mathlib.Core.Bool.{Bool, true, false, cond}
+use mathlib.Core.Bool.{true, false}
 use mathlib.Core.List.{List}
 use mathlib.Core.Option.{Option, some}
 use native.Mathlib.Nat.{add-mul}
@@ -73,7 +73,8 @@ module _ {s : List ℕ} {n : Plan} {old new : List ℕ} {q : ScanCursor} {ink : 
     at-last : (p : scan.Plan) → Stands (head n s) n p → whole s p n old ≡ got (finalBy ink new (some lastPart)) (q .bits)
     at-last p st = w .on p st ∙ coming-none s p (n .blocks) q ink new h
 
-    pub ended-done : closes s (q .bits) ≡ true → {r : ScanSettled} {new′ : List ℕ} → length new′ ≡ length new → Closes (finalBy ink new (some lastPart)) r new′ → Ran s n old r new′
+    pub ended-done : closes s (q .bits) ≡ true → {r : ScanSettled} {new′ : List ℕ} → length new′ ≡ length new
+        → Closes (finalBy ink new (some lastPart)) r new′ → Ran s n old r new′
     ended-done e {r} {new′} long a =
         record {
           size = long ∙ w .size;

@@ -10,13 +10,12 @@ use lib.IntN.{ℤ, pos, _+ℤ_}
 use lib.ListN.{length, getD, set, getElem?}
 use Rattle.reading.specs.declared.Bits.{Bits}
 use Rattle.reading.specs.declared.Fault.{Fault}
-use Rattle.reading.specs.declared.Fault.the-variants.{Bare, Broken}
+use Rattle.reading.specs.declared.Fault.the-variants.{Bare}
 use Rattle.reading.specs.Reader.{Read, got, fault, Reader, onward, _>>=_, give, fail, rule}
 use Rattle.reading.specs.Bits.{firstOf, afterFull, freshFrom, oneAt, one, file, mark, fieldFrom, meaning, amplitude}
 use Rattle.reading.specs.Huffman.{Table, codeFrom, symbol}
 use Rattle.reading.proofs.FileBytes.{element-there}
 use Rattle.reading.proofs.Marks.{Looked, found, missed, mark-looked}
-use Rattle.reading.specs.Tests.{_and_, holds, isAt}
 use Rattle.reading.specs.Layout.{channelOf, restartDue, restartCode}
 use Rattle.reading.specs.Scan.{Plan, noPredictors, restart, blocks}
 use Rattle.reading.specs.Block.{Ask, end, skip, value, wrong, asked, predictable, first, zeros, answered, rest, block}

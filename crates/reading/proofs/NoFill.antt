@@ -15,7 +15,7 @@ use Rattle.reading.specs.Bits.{fulls}
 use Rattle.reading.specs.Layout.{channelOf, restartDue, restartCode}
 use Rattle.reading.specs.Scan.{Plan, planOf, noPredictors}
 use Rattle.reading.specs.Settled.{Written, stuffed, padding, packNext, packFrom, Coded, bytesOf, onto, cut, predictors, written, blockBits}
-use Rattle.reading.proofs.ScanWritten.{code-small}
+use Rattle.reading.proofs.ScanWritten.{code-not-255}
 use Rattle.reading.proofs.Demand3.{Settles, Made, making, head-length}
 
 -- no two 255 in a row
@@ -86,7 +86,7 @@ written-single p k ps (l ∷ ls) =
     let c = channelOf (p .shape) k in
     let b = blockBits (p .channels c) (getD qs c (pos 0)) l in
     let w = written p (suc k) (set qs c (getD l 0 (pos 0))) ls in
-    cut-single due code (onto b w) (ne-eqb code 255 (code-small (p .shape) (p .interval) k))
+    cut-single due code (onto b w) (ne-eqb code 255 (code-not-255 (p .shape) (p .interval) k))
     (onto-single b w (written-single p (suc k) (set qs c (getD l 0 (pos 0))) ls))
 
 -- ---- a file

@@ -14,16 +14,15 @@ use lib.ListN.{length, getD, set, take, drop, length-append, length-take}
 use borrow.Author.Tests.{lt-ltb, ltb-true, ltb-false, eqb-true, eqb-false}
 use Rattle.reading.specs.declared.Bits.{Bits}
 use Rattle.reading.specs.declared.Record.{Record}
-use Rattle.reading.specs.declared.Fault.the-variants.{Broken}
 use Rattle.reading.specs.Reader.{Read, got, fault, Reader, onward, _>>=_, _>>_, give, rule}
-use Rattle.reading.specs.Bits.{one, file, mark, fieldFrom, field, amplitude}
+use Rattle.reading.specs.Bits.{one, file, mark, fieldFrom, field, amplitude, firstBit}
 use Rattle.reading.specs.Huffman.{Table, tableAt, bitsOf, codeFrom, symbol, codeAt, codeAtPlace, codeOf}
 use Rattle.reading.specs.Block.{Ask, end, skip, value, wrong, asked, answered, zeros, rest, first, block, predictable}
 use Rattle.reading.specs.Layout.{channelOf, restartDue, restartCode}
-use Rattle.reading.specs.Scan.{Channel, Plan, planOf, blocks, closed, scan, levels, firstBit, noPredictors}
+use Rattle.reading.specs.Scan.{Channel, Plan, planOf, blocks, closed, scan, levels, noPredictors}
 use Rattle.reading.specs.Settled.{Written, _then_, size, sizeFrom, fieldOf, valueBits, skips, levelBits, restBits, firstBits, blockBits, stuffed, padding, packNext, packFrom, packed, Coded, bytesOf, onto, cut, predictors, written, scanBytes, settledScan}
 use Rattle.reading.specs.Tables.{dcAt, acAt}
-use Rattle.reading.specs.Tests.{_and_, isAt, placeOf, placeFrom}
+use Rattle.reading.specs.Tests.{placeOf, placeFrom}
 use Rattle.reading.proofs.FileBytes.{AllBytes, byte-below, bytes-take}
 use Rattle.reading.proofs.Inside.{Stands, one-leads}
 use Rattle.reading.proofs.Marks.{Looked, found, missed, mark-looked, Ended, ended, unended, closed-ended}
@@ -422,9 +421,6 @@ weighs-onto : (n : ℕ) (w : Written) (o : Option Coded) (b c t : Bits) → Paid
 weighs-onto n none o b c t h l = tt
 weighs-onto n (some w) none b c t h l = tt
 weighs-onto n (some w) (some x) b c t h l = omega (arith, h .fits, h .ahead .far, l, length-append w (x .bits))
-
-abbrev nothing : Unit {0}
-nothing = tt
 
 -- behind a marker, wherever reading goes on: not before its two bytes
 weighs-cut : (n code on : ℕ) (o : Option Coded) (b t : Bits) → b .at + 2 ≤ on → Weighs n (firstBit on) t o → Weighs n b t (cut true code o)

@@ -274,11 +274,11 @@ pub record DemandThree (s : List ℕ) : Type 0 where
       (t : List ℕ)
       → SettlesTo s t
       → SettlesTo t t
-  -- it has no fill: from its first coded byte on no two 255 stand in a row
+  -- its scan has no fill: from its first coded byte on no two 255 stand in a row
   pub no-fill :
       (t : List ℕ) (r : Record) (i : ℕ)
       → SettlesTo s t
-      → ReadsAs s false r
+      → ReadsAs t false r
       → r .start ≤ i
       → fulls (drop i t) ≤ 1
   -- of two files with one head the settled files are equal exactly when the coefficients are
@@ -303,7 +303,7 @@ demand-three s =
       same-samples = F.samples-alike s;
       same-picture = λ t colour h. F.picture-alike s t h colour;
       settles-to-itself = F.settles-again s;
-      no-fill = λ t r i h k a. F.no-fill s t h r (k .0) (k .1) i a;
+      no-fill = λ t r i h k a. F.no-fill t t (F.settles-again s t h) r (k .0) (k .1) i a;
       equal-exactly-when = λ s′ t t′ h h′ e. F.equal-so s s′ t t′ h h′ e;
       want-of-a-code = λ r y k. F.want-so s y r (k .0) (k .1);
     }

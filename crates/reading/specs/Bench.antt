@@ -249,7 +249,7 @@ table =
     ∷ gives (settled (filled 0 1)) (0 ∷ restarting ++ replicate 1 0)
     ∷ gives (settled (filled 0 3)) (0 ∷ restarting ++ replicate 3 0)
     ∷ gives (decoded (filled 3 1) 128 10000) (0 ∷ (10000 - 309 - 6400) ∷ replicate 256 138)
-    -- a padded 255 and its 0, then fill; without the 0 a bit is wanted
+    -- a padded 255 and its 0, then fill; without the 0 it is a bare 255
     ∷ gives (settled (long 9 (11 ∷ 255 ∷ 0 ∷ 255 ∷ 255 ∷ []))) (0 ∷ long 9 (11 ∷ 255 ∷ 0 ∷ []) ++ replicate 2 0)
     ∷ gives (verdict (long 9 (11 ∷ 255 ∷ 255 ∷ 255 ∷ []))) (4 ∷ [])
     -- fill where a bit is wanted: before the first bit, and before a data byte 255

@@ -7,8 +7,7 @@ use lib.IntN.{ℤ, pos}
 use Rattle.reading.specs.declared.Bits.{Bits}
 use Rattle.reading.specs.declared.Record.{Record}
 use Rattle.reading.specs.Reader.{Read, Reader, _>>=_, _>>_, give, rule}
-use Rattle.reading.specs.Bits.{Source, file}
-pub use Rattle.reading.specs.Bits.{firstBit}
+use Rattle.reading.specs.Bits.{Source, file, firstBit}
 use Rattle.reading.specs.Huffman.{Table, tableAt}
 use Rattle.reading.specs.Block.{block, zeros}
 use Rattle.reading.specs.Layout.{Shape, channelOf, restartDue, restartCode}

@@ -9,7 +9,7 @@ ghost use Rattle.reading.specs.Tests.{within};
 ghost use Rattle.reading.specs.Code.Mcus.{mcusOf, blocksOf};
 ghost use Rattle.reading.specs.Header.{noFrame, opening, moved, withFrame, withInterval, noRecord, stop};
 ghost use Rattle.reading.specs.Code.Heads.{headed};
-ghost use Rattle.reading.specs.Scan.{firstBit};
+ghost use Rattle.reading.specs.Bits.{firstBit};
 ghost use Rattle.reading.specs.Code.Scans.{atStart};
 ghost use Rattle.reading.specs.Calls.{numberOf, number};
 

@@ -194,7 +194,7 @@ fn between(s: &mut [u8], coded: &[u8]) {
     file(s, &RESTARTING, &DC, &AC, &ONE_SCAN, coded);
 }
 
-// fill before a restart and before 217: the settled file has 150 bytes, the restart's code at 146 and 217 at 149
+// fill before a restart and before 217: the settled file has 150 bytes, the restart's code at 146 and 217 at 149; what else may not stand behind fill
 fn fill() {
     let mut none = [1u8; 150];
     between(&mut none, b"\x3f\xff\xd0\x3f");

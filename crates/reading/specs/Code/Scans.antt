@@ -17,7 +17,8 @@ use Rattle.reading.specs.declared.ScanSettled.{ScanSettled}
 use Rattle.reading.specs.declared.ScanSettled.the-variants as answer
 use Rattle.reading.specs.Tests.{_and_, within, over}
 use Rattle.reading.specs.Reader.{Read, got, fault}
-use Rattle.reading.specs.Scan.{Plan, planOf, noPredictors, firstBit, levels}
+use Rattle.reading.specs.Bits.{firstBit}
+use Rattle.reading.specs.Scan.{Plan, planOf, noPredictors, levels}
 use Rattle.reading.specs.Settled.{settledScan}
 
 -- a scan before its first block: the bit place, three predictors and the count of blocks done
