@@ -248,7 +248,7 @@ fn wanted_of_flaws() -> Vec<String> {
 #[test]
 fn careless_tables_come_up() {
     let (mut random, mut seen) = (Random::new(22), Seen::new());
-    for _ in 0..60_000 {
+    for _ in 0..40_000 {
         for file in files::group(&mut random) {
             let tables = flaws::tables(&file);
             let found = flaws::flaws(&file);
