@@ -64,7 +64,7 @@ static void inspect(const struct request *r) {
     tillsparrow_inspected seen = look(r);
     uint64_t found[NUMBERS];
     memcpy(found, &seen.found, sizeof found);
-    printf("1 %llu %llu", NUMBER(seen.number), NUMBER(seen.left));
+    printf("1 %llu %llu %llu %llu", NUMBER(seen.number), NUMBER(seen.left), NUMBER(seen.block), NUMBER(seen.place));
     for (int i = 0; i < NUMBERS; i++)
         printf(" %llu", NUMBER(found[i]));
     printf("\n");
@@ -80,7 +80,8 @@ static void decode(const struct request *r, tillsparrow_record found) {
 static void settle(const struct request *r) {
     fill(r);
     tillsparrow_settled written = tillsparrow_settle(file, r->length, r->input, r->side, r->output, r->budget, output, r->room);
-    printf("3 %llu %llu %llu %u\n", NUMBER(written.number), NUMBER(written.left), NUMBER(written.length), adler(output, r->room));
+    printf("3 %llu %llu %llu %llu %llu %u\n", NUMBER(written.number), NUMBER(written.left), NUMBER(written.block), NUMBER(written.place),
+           NUMBER(written.length), adler(output, r->room));
 }
 
 static tillsparrow_record own_record(const struct request *r) {

@@ -12,6 +12,14 @@ tillsparrow_presence REAL(has_comment)(const uint8_t *, size_t, size_t, size_t, 
 
 static volatile uint8_t sink;
 
+/* What every call that names the block and the place says wrongly in the same way. */
+static void misname(uint64_t *number, uint64_t *block, uint64_t *place) {
+    if (FAULT == 24 && *number == 10)
+        *number = 11;
+    *place += FAULT == 25 && *block > 0;
+    *block -= FAULT == 26 && *number == 4 && *block > 0;
+}
+
 tillsparrow_inspected tillsparrow_inspect(const uint8_t *bytes, size_t length, bool colour, size_t input, size_t side, size_t output,
                                           uint64_t budget) {
     if (FAULT == 1 && length > 300)
@@ -24,6 +32,13 @@ tillsparrow_inspected tillsparrow_inspect(const uint8_t *bytes, size_t length, b
     seen.found.quants[2] += FAULT == 5 && seen.number == 0 && seen.found.interval > 0;
     if (FAULT == 6 && seen.number == 2 && budget == 2 * (uint64_t)length + seen.left)
         seen.number = 1;
+    misname(&seen.number, &seen.block, &seen.place);
+    seen.place += FAULT == 17 && seen.number == 10;
+    seen.block -= FAULT == 18 && seen.number == 4 && seen.block > 0;
+    if (FAULT == 19 && seen.number == 3 && seen.place == 0)
+        seen.place = length; /* a header that is cut short names a place */
+    if (FAULT == 20 && seen.number == 3 && seen.place > 0)
+        seen.number = 4; /* as it was before the reasons had numbers */
     return seen;
 }
 
@@ -50,6 +65,11 @@ tillsparrow_settled tillsparrow_settle(const uint8_t *bytes, size_t length, size
     if (FAULT == 13 && written.number == 0 && written.length > 700)
         output[written.length - 5] ^= 16; /* a bit of the settled scan */
     written.left += FAULT == 14 && written.number == 9 && written.left > 0;
+    misname(&written.number, &written.block, &written.place);
+    if (FAULT == 21 && written.number == 7)
+        written.place = length;
+    if (FAULT == 22 && written.number == 11)
+        written.block = 0;
     return written;
 }
 
@@ -65,5 +85,7 @@ tillsparrow_presence tillsparrow_has_comment(const uint8_t *bytes, size_t length
     tillsparrow_part part = REAL(comment)(bytes, length, i);
     if (FAULT == 16 && part.length == 0)
         seen.there = 0; /* an empty comment is taken for none */
+    misname(&seen.number, &seen.block, &seen.place);
+    seen.place -= FAULT == 23 && seen.number == 3 && seen.block > 0;
     return seen;
 }

@@ -2,7 +2,7 @@
  * through the archive, for real, and every sample of the picture and of the blocks is compared with what was coded.
  *
  * The first half of the blocks has the level 128, the second half 137, the last block 158: so that a place that wraps at 2^32 or
- * 2^31 shows. Both buffers end at a page that cannot be touched. */
+ * 2^31 shows. Both buffers end at a page that cannot be touched. Cut, the file says where it breaks. */
 #define _GNU_SOURCE
 #include "tillsparrow.h"
 
@@ -137,6 +137,17 @@ static void check_record(const tillsparrow_record *found) {
         off("inspect finds other lengths, or another work");
 }
 
+/* Cut where the first half of the blocks ends, four of them to a byte, and before the last marker: what it names counts as high as this. */
+static void cuts(const uint8_t *bytes, size_t length, size_t start) {
+    size_t half = start + BLOCKS / 8;
+    tillsparrow_inspected seen = tillsparrow_inspect(bytes, half, false, length, SIDE, 64 * BLOCKS, UINT64_MAX);
+    if (seen.number != TILLSPARROW_CUT_SHORT || seen.block != BLOCKS / 2 || seen.place != half)
+        off("half of the file does not break in the block that follows");
+    seen = tillsparrow_inspect(bytes, length - 2, false, length, SIDE, 64 * BLOCKS, UINT64_MAX);
+    if (seen.number != TILLSPARROW_MALFORMED || seen.block != BLOCKS || seen.place != length - 2)
+        off("the file without its last marker does not break behind its last block");
+}
+
 /* Inspect and decode at the exact price and one below it; what is left is exact. */
 static void calls(const uint8_t *bytes, size_t length, uint8_t *output, uint8_t *scratch) {
     uint64_t price = 2 * (uint64_t)length + 1 + 3136 * BLOCKS + SAMPLES;
@@ -146,6 +157,7 @@ static void calls(const uint8_t *bytes, size_t length, uint8_t *output, uint8_t 
     if (seen.number != 0 || seen.left != 5)
         off("inspect does not accept the file at its price");
     check_record(&seen.found);
+    cuts(bytes, length, (size_t)seen.found.start);
     if (tillsparrow_inspect(bytes, length, false, length, SIDE, 64 * BLOCKS - 1, price).number != TILLSPARROW_TOO_LARGE)
         off("inspect accepts the file above the output limit");
     if (tillsparrow_decode(bytes, length, seen.found, output, SAMPLES - 1, scratch, 64 * BLOCKS, price).number != TILLSPARROW_SHORT_ROOM)

@@ -53,13 +53,19 @@ def samples_of(jpeg, colour=True):
     return Picture(record.width, record.height, record.channels, bytes(library().decode(jpeg, record).output))
 
 
-def number_of(jpeg):
-    """The number of the file's refusal, or 0."""
+def refusal_of(jpeg):
+    """The refusal of the file, or None."""
     try:
         library().inspect(jpeg)
     except library().Refused as refused:
-        return refused.number
-    return 0
+        return refused
+    return None
+
+
+def number_of(jpeg):
+    """The number of the file's refusal, or 0."""
+    refused = refusal_of(jpeg)
+    return refused.number if refused else 0
 
 
 # ---- by readers of our own

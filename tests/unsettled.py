@@ -224,8 +224,8 @@ def to_full_bytes():
 
 
 def stray():
-    """A name and a file each, refused 4 in the scan. What is accepted, with fill or without, is 63 255 217 for the first ones, and
-    98 255 0 255 208 98 255 0 255 217 for the others."""
+    """A name and a file each, refused in the scan: 10 where a bit is wanted, and 4 where padding or a marker is. What is accepted, with
+    fill or without, is 63 255 217 for the first ones, and 98 255 0 255 208 98 255 0 255 217 for the others."""
     one, two = flat()[:-3], to_full_bytes().head()
     yield "fill where a bit is wanted", one + bytes([255, 255, 63, 255, 217])
     yield "fill with no marker behind it", one + bytes([63, 255, 255])

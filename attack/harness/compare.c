@@ -1,4 +1,4 @@
-/* The chosen calls against the reference reader: number, budget left, record, every byte of the lent buffers. */
+/* The chosen calls against the reference reader: number, budget left, where the scan broke, record, every byte of the lent buffers. */
 #include "harness.h"
 
 #include <string.h>
@@ -11,7 +11,7 @@ struct asked {
 };
 
 struct told {
-    uint64_t number, left, length;
+    uint64_t number, left, block, place, length;
 };
 
 struct told reference_inspect(const struct asked *asked, uint64_t colour, uint64_t *found);
@@ -29,6 +29,7 @@ static void inspects(const struct input *in, const struct room *file, const stru
     struct told told = reference_inspect(&asked, in->colour, found);
     tillsparrow_inspected seen = tillsparrow_inspect(file->at, file->length, in->colour, l->input, l->side, l->output, l->budget);
     MUST(seen.number == told.number && seen.left == told.left, "inspect and the reference differ in number or price");
+    MUST(seen.block == told.block && seen.place == told.place, "inspect and the reference differ in where the scan broke");
     MUST(memcmp(&seen.found, found, sizeof found) == 0, "inspect and the reference differ in the record");
 }
 
@@ -58,6 +59,7 @@ static void settles(const struct room *file, const struct limits *l, size_t leng
     struct asked asked = ask(file, l);
     struct told told = reference_settle(&asked, other.at, length);
     MUST(seen.number == told.number && seen.left == told.left, "settle and the reference differ in number or price");
+    MUST(seen.block == told.block && seen.place == told.place, "settle and the reference differ in where the scan broke");
     MUST(seen.length == told.length, "settle and the reference differ in the length");
     MUST(memcmp(mine.at, other.at, length) == 0, "settle and the reference differ in the settled file");
     room_give_back(&mine);

@@ -63,14 +63,14 @@ static void own_record(const struct room *file, const struct truth *truth) {
 static struct answer model(const struct room *file, const struct truth *truth, const tillsparrow_record *record, size_t output,
                            size_t scratch, uint64_t budget) {
     if (output < record->output || scratch < record->scratch)
-        return (struct answer){7, budget};
+        return (struct answer){7, budget, 0, 0};
     unsigned __int128 price = 2 * (unsigned __int128)file->length + 1 + record->work;
     if (budget < price)
-        return (struct answer){2, budget};
+        return (struct answer){2, budget, 0, 0};
     tillsparrow_record other = *record;
     other.colour = truth->found.colour;
     bool same = truth->accepted && record->colour <= 1 && memcmp(&other, &truth->found, sizeof other) == 0;
-    return (struct answer){same ? 0 : 8, budget - (uint64_t)price};
+    return (struct answer){same ? 0 : 8, budget - (uint64_t)price, 0, 0};
 }
 
 static void chosen_record(const struct input *in, const struct room *file, const struct truth *truth) {
@@ -89,14 +89,25 @@ static void chosen_record(const struct input *in, const struct room *file, const
     leave(&drawn);
 }
 
+/* The blocks that were read before the changed byte are read as before: the scan breaks in the block that first looks at it, which is
+ * the one in which the file breaks that ends there, or in a later one. */
+static void broke_behind(const struct answer *scan, const struct answer *cut) {
+    if (scan->number == 0)
+        return;
+    MUST(scan->block >= cut->block && scan->place >= cut->place, "a scan breaks before the byte that was changed");
+    MUST(scan->block > cut->block || scan->place == cut->place, "one block, and two places where its reading began");
+}
+
 static void flipped_bit(const struct input *in, const struct room *file, const struct truth *truth) {
     const tillsparrow_record *own = &truth->found;
     struct room other = room_take(FLIPPED_ARENA, file->length, in->placing);
     room_copy(&other, file->at);
-    size_t bit = in->flip % (8 * (file->length - own->start));
-    other.at[own->start + bit / 8] ^= (uint8_t)(128 >> bit % 8);
+    size_t bit = in->flip % (8 * (file->length - own->start)), at = own->start + bit / 8;
+    other.at[at] ^= (uint8_t)(128 >> bit % 8);
     tillsparrow_inspected seen = tillsparrow_inspect(other.at, other.length, in->colour, UINT64_MAX, UINT64_MAX, UINT64_MAX, UINT64_MAX);
-    MUST(seen.number == 0 || seen.number == 4, "a changed scan alone gives another number than 0 or 4");
+    struct answer scan = {seen.number, seen.left, seen.block, seen.place}, cut = cut_scan(file, &truth->head, at);
+    check_scan(&other, &truth->head, &scan);
+    broke_behind(&scan, &cut);
     struct drawn drawn = draw(&other, own, own->output + 1, own->scratch + 1, UINT64_MAX);
     MUST(drawn.answer.number == (seen.number == 0 ? 0 : 8), "decode and inspect disagree on a changed scan");
     MUST(drawn.answer.left == seen.left, "decode and inspect take different prices");

@@ -6,12 +6,17 @@
 #include <stdlib.h>
 #include <string.h>
 
-/* How many files came how far; printed at the end, for the word on how deep the run went. */
-static uint64_t executions, heads, accepted, compared;
+/* How many files came how far, and whose scans broke by which number; printed at the end, for the word on how deep the run went. */
+static uint64_t executions, heads, accepted, compared, broken[12];
+
+#define COUNT(n) ((unsigned long long)(n))
 
 static void report(void) {
-    fprintf(stderr, "harness: %llu executions, head read in %llu, accepted %llu, compared with the reference %llu\n",
-            (unsigned long long)executions, (unsigned long long)heads, (unsigned long long)accepted, (unsigned long long)compared);
+    fprintf(stderr,
+            "harness: %llu executions, head read in %llu, accepted %llu, scan broken by 3 in %llu, by 4 in %llu, by 10 in %llu, "
+            "by 11 in %llu, compared with the reference %llu\n",
+            COUNT(executions), COUNT(heads), COUNT(accepted), COUNT(broken[3]), COUNT(broken[4]), COUNT(broken[10]), COUNT(broken[11]),
+            COUNT(compared));
 }
 
 int LLVMFuzzerInitialize(int *count, char ***words) {
@@ -38,6 +43,7 @@ static void kind_of_file(const struct truth *truth) {
     accepted += truth->accepted;
     if (truth->header != 0)
         return;
+    broken[truth->scan.number]++;
     uint64_t scan = truth->accepted ? 32 : 0;
     feedback(BLOCKS, scan + size_class(head->blocks));
     feedback(SAMPLING, scan + (head->channels == 1 ? 0 : 4 * (head->hs - 1) + head->vs));

@@ -30,7 +30,7 @@ uint64_t input_near(uint8_t choice, uint64_t exact, uint64_t any);
 size_t input_room(uint8_t choice, uint64_t exact, uint64_t any);
 tillsparrow_record input_record(const struct input *in, const tillsparrow_record *right);
 
-enum arena { FILE_ARENA, OUTPUT_ARENA, SCRATCH_ARENA, SETTLED_ARENA, AGAIN_ARENA, FLIPPED_ARENA, ARENAS };
+enum arena { FILE_ARENA, OUTPUT_ARENA, SCRATCH_ARENA, SETTLED_ARENA, AGAIN_ARENA, FLIPPED_ARENA, CUT_ARENA, ARENAS };
 
 struct room {
     uint8_t *at;
@@ -51,9 +51,9 @@ struct part {
     size_t at, length;
 };
 
-/* A head that was accepted, read by the harness itself. */
+/* A head that was accepted, read by the harness itself; `per` is the blocks of an MCU. */
 struct head {
-    uint64_t width, height, channels, hs, vs, interval, start, blocks, output, work;
+    uint64_t width, height, channels, hs, vs, interval, start, per, blocks, output, work;
     size_t comments;
     struct part comment[COMMENTS_KEPT];
 };
@@ -71,6 +71,7 @@ enum kind {
     COMMENT_COUNT,
     INTERVAL,
     SETTLED_LENGTH,
+    BROKEN,
     KINDS
 };
 
@@ -89,21 +90,22 @@ _Noreturn void violated(const char *what, const char *file, int line);
             violated(what, __FILE__, __LINE__);                                                                                            \
     } while (0)
 
-/* What is known of the file of an input: the model of every answer is made of it. */
-struct truth {
-    uint64_t header; /* 3, 4 or 5, or 0 where the head is read */
-    uint64_t scan;   /* 0 or 4 */
-    bool accepted;
-    struct head head;
-    tillsparrow_record found; /* where accepted */
-};
-
 struct limits {
     uint64_t input, side, output, budget;
 };
 
+/* Block and place are where the scan broke, and 0 for every answer but that. */
 struct answer {
-    uint64_t number, left;
+    uint64_t number, left, block, place;
+};
+
+/* What is known of the file of an input: the model of every answer is made of it. */
+struct truth {
+    uint64_t header;    /* 3, 4 or 5, or 0 where the head is read */
+    struct answer scan; /* where the head is read: 0, or 3, 4, 10 or 11 and where; what is left is of 2^64 - 1 */
+    bool accepted;
+    struct head head;
+    tillsparrow_record found; /* where accepted */
 };
 
 struct truth learn(const struct input *in, const struct room *file);
@@ -111,6 +113,11 @@ struct limits chosen_limits(const struct input *in, const struct truth *truth);
 /* What inspect must answer. */
 struct answer expected(const struct truth *truth, size_t length, const struct limits *limits);
 bool zero(const void *bytes, size_t length);
+
+/* What inspect says of a scan, that it is whole or where it broke, is held against the head and the bytes. */
+void check_scan(const struct room *file, const struct head *head, const struct answer *scan);
+/* What inspect says of the first bytes of the file, which end somewhere in the part of its scan that is read well. */
+struct answer cut_scan(const struct room *file, const struct head *head, size_t length);
 
 void check_inspect(const struct input *in, const struct room *file, const struct truth *truth);
 void check_comments(const struct input *in, const struct room *file, const struct truth *truth);

@@ -28,7 +28,8 @@ static void segment(struct head *head, const uint8_t *file, uint8_t code, size_t
 
 static void measure(struct head *head) {
     uint64_t mcus = upwards(head->width, 8 * head->hs) * upwards(head->height, 8 * head->vs);
-    head->blocks = mcus * (head->channels == 1 ? 1 : head->hs * head->vs + 2);
+    head->per = head->channels == 1 ? 1 : head->hs * head->vs + 2;
+    head->blocks = mcus * head->per;
     head->output = head->width * head->height * head->channels;
     head->work = 3136 * head->blocks + head->output;
 }

@@ -14,7 +14,7 @@ bool zero(const void *bytes, size_t length) {
 
 static tillsparrow_inspected look(const struct room *file, bool colour, const struct limits *l) {
     tillsparrow_inspected seen = tillsparrow_inspect(file->at, file->length, colour, l->input, l->side, l->output, l->budget);
-    MUST(seen.number <= 9 && seen.left <= l->budget, "inspect answers no number, or leaves more than it was given");
+    MUST(seen.number <= 11 && seen.left <= l->budget, "inspect answers no number, or leaves more than it was given");
     MUST(seen.number == 0 || zero(&seen.found, sizeof seen.found), "the record of a refusal is not zero");
     return seen;
 }
@@ -34,17 +34,17 @@ struct truth learn(const struct input *in, const struct room *file) {
     /* the price of the head alone: number 2 then says that the head was read */
     tillsparrow_inspected seen = look(file, in->colour, &limits);
     MUST(seen.number >= 2 && seen.number <= 5 && seen.left == 0, "inspect at the price of the head");
+    MUST(seen.block == 0 && seen.place == 0, "a place in a scan that was not read");
     truth.header = seen.number == 2 ? 0 : seen.number;
     if (truth.header != 0)
         return truth;
     truth.head = head_walk(file->at, file->length);
     limits.budget = UINT64_MAX;
     seen = look(file, in->colour, &limits);
-    MUST(seen.number == 0 || seen.number == 4, "a head that was read is now refused");
-    MUST(UINT64_MAX - price - seen.left == truth.head.work, "the price of the scan");
-    truth.scan = seen.number;
+    truth.scan = (struct answer){seen.number, seen.left, seen.block, seen.place};
     truth.accepted = seen.number == 0;
     truth.found = seen.found;
+    check_scan(file, &truth.head, &truth.scan);
     if (truth.accepted)
         record_fits(&seen.found, &truth.head, in->colour);
     return truth;
@@ -67,19 +67,19 @@ struct answer expected(const struct truth *truth, size_t length, const struct li
     const struct head *head = &truth->head;
     uint64_t price = 2 * (uint64_t)length + 1;
     if (length > limits->input)
-        return (struct answer){1, limits->budget};
+        return (struct answer){1, limits->budget, 0, 0};
     if (limits->budget < price)
-        return (struct answer){2, limits->budget};
+        return (struct answer){2, limits->budget, 0, 0};
     uint64_t left = limits->budget - price;
     if (truth->header != 0)
-        return (struct answer){truth->header, left};
+        return (struct answer){truth->header, left, 0, 0};
     if (head->width > limits->side || head->height > limits->side)
-        return (struct answer){6, left};
+        return (struct answer){6, left, 0, 0};
     if (64 * head->blocks > limits->output || head->output > limits->output)
-        return (struct answer){6, left};
+        return (struct answer){6, left, 0, 0};
     if (left < head->work)
-        return (struct answer){2, left};
-    return (struct answer){truth->scan, left - head->work};
+        return (struct answer){2, left, 0, 0};
+    return (struct answer){truth->scan.number, left - head->work, truth->scan.block, truth->scan.place};
 }
 
 void check_inspect(const struct input *in, const struct room *file, const struct truth *truth) {
@@ -89,6 +89,7 @@ void check_inspect(const struct input *in, const struct room *file, const struct
     MUST(memcmp(&seen, &again, sizeof seen) == 0, "inspect answers twice differently");
     MUST(seen.number == want.number, "inspect answers another number than its limits and budget say");
     MUST(seen.left == want.left, "inspect takes another price");
+    MUST(seen.block == want.block && seen.place == want.place, "inspect says otherwise where the scan broke");
     MUST(seen.number != 0 || memcmp(&seen.found, &truth->found, sizeof seen.found) == 0, "inspect's record hangs on its limits");
     feedback(INSPECT_NUMBER, seen.number);
 }
@@ -109,8 +110,9 @@ static void presence_of(const struct room *file, const struct truth *truth, size
     tillsparrow_presence seen = tillsparrow_has_comment(file->at, file->length, i, l->input, l->side, l->output, l->budget);
     struct answer want = expected(truth, file->length, l);
     MUST(seen.number == want.number && seen.left == want.left, "has_comment answers with another number or price than inspect");
+    MUST(seen.block == want.block && seen.place == want.place, "has_comment says otherwise than inspect where the scan broke");
     MUST(seen.there == (seen.number == 0 && i < truth->head.comments), "has_comment and the comments in the file");
-    feedback(PRESENCE_NUMBER, 10 * seen.there + seen.number);
+    feedback(PRESENCE_NUMBER, 16 * seen.there + seen.number);
 }
 
 void check_comments(const struct input *in, const struct room *file, const struct truth *truth) {

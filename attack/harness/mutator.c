@@ -1,6 +1,6 @@
-/* Changes that leave a JPEG file mostly well formed, so that they come past the head: bits of the scan, whole segments moved, copied
- * and cut, lengths, comments, restarts, fill bytes in head and scan, the frame's fields, tables' symbols; and libFuzzer's own changes
- * beside them. */
+/* Changes that leave a JPEG file mostly well formed, so that they come past the head: bits of the scan, its end, 255s in it with and
+ * without a 0, whole segments moved, copied and cut, lengths, comments, restarts, fill bytes in head and scan, the frame's fields,
+ * tables' symbols; and libFuzzer's own changes beside them. */
 #include "harness.h"
 
 #include <string.h>
@@ -193,6 +193,37 @@ static void fill_scan(struct draft *d) {
     insert(d, at, fill, many);
 }
 
+/* The place behind a 255 of the scan, every one as likely as the others; the end where there is none. */
+static size_t behind_some_255(struct draft *d) {
+    size_t at = d->length;
+    uint64_t met = 0;
+    for (size_t i = d->scan; i < d->length; i++)
+        if (d->file[i] == 255 && below(d, ++met) == 0)
+            at = i + 1;
+    return at;
+}
+
+/* A scan that breaks, mostly by one of the reasons that have a number of their own: it is cut at any place, or behind a 255; a 255 is put
+ * in without its 0, or loses it, or gets another byte behind it; sixteen ones and more, which are no code. */
+static void break_scan(struct draft *d) {
+    static const uint8_t ones[] = {255, 0, 255, 0, 255, 0};
+    if (d->scan >= d->length)
+        return;
+    size_t at = d->scan + (size_t)below(d, d->length - d->scan), behind = behind_some_255(d);
+    uint8_t any = (uint8_t)below(d, 256);
+    switch (below(d, 6)) {
+    case 0: d->length = at; break;
+    case 1: d->length = behind; break;
+    case 2: insert(d, at, (const uint8_t[]){255, any}, 1 + below(d, 2)); break;
+    case 3: cut(d, behind, 1); break;
+    case 4:
+        if (behind < d->length)
+            d->file[behind] = any;
+        break;
+    default: insert(d, at, ones, 2 * (1 + below(d, 3))); break;
+    }
+}
+
 /* The frame's sides small and sampling one of those that are read, or nearly. */
 static void change_frame(struct draft *d) {
     for (size_t i = 0; i < d->count; i++) {
@@ -277,7 +308,8 @@ static void find_end(struct draft *d) {
 static void change_file(struct draft *d) {
     static void (*const changes[])(struct draft *) = {flip_scan_bits,  flip_scan_bits, change_scan,   change_scan,   put_in_scan,
                                                       move_segment,    cut_segment,    change_length, change_body,   insert_comment,
-                                                      insert_interval, insert_fill,    change_frame,  change_symbol, fill_scan};
+                                                      insert_interval, insert_fill,    change_frame,  change_symbol, fill_scan,
+                                                      break_scan,      break_scan};
     take_apart(d);
     changes[below(d, sizeof changes / sizeof changes[0])](d);
 }

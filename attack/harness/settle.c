@@ -9,10 +9,10 @@ struct written {
 };
 
 static struct written settle(const struct room *file, const struct limits *l, size_t length, enum arena arena) {
-    struct written written = {room_take(arena, length, file->placing), {0, 0, 0}};
+    struct written written = {room_take(arena, length, file->placing), {0}};
     room_fill(&written.room);
     written.answer = tillsparrow_settle(file->at, file->length, l->input, l->side, l->output, l->budget, written.room.at, length);
-    MUST(written.answer.number <= 9 && written.answer.left <= l->budget, "settle answers no number, or leaves more than it was given");
+    MUST(written.answer.number <= 11 && written.answer.left <= l->budget, "settle answers no number, or leaves more than it was given");
     bool done = written.answer.number == 0;
     MUST(!done || written.answer.length <= length, "settle accepts too little room");
     room_untouched(&written.room, done ? written.answer.length : 0, "settle's output was written where it must not be");
@@ -28,6 +28,7 @@ static tillsparrow_settled without_room(const struct room *file, const struct tr
     if (want.number == 0)
         want.number = written.answer.number == 9 ? 9 : 7;
     MUST(written.answer.number == want.number && written.answer.left == want.left, "settle with no room");
+    MUST(written.answer.block == want.block && written.answer.place == want.place, "settle says otherwise where the scan broke");
     MUST((written.answer.length > 0) == (want.number == 7), "the length of a refusal");
     room_give_back(&written.room);
     return written.answer;
@@ -46,6 +47,7 @@ static void chosen_room(const struct input *in, const struct room *file, const s
     struct written written = settle(file, &limits, length, SETTLED_ARENA);
     MUST(written.answer.number == want.number, "settle answers another number than its limits, budget and room say");
     MUST(written.answer.left == want.left, "settle takes another price");
+    MUST(written.answer.block == want.block && written.answer.place == want.place, "settle's limits and room change where it broke");
     bool named = want.number == 0 || want.number == 7;
     MUST(written.answer.length == (named ? need->length : 0), "settle names another length");
     feedback(SETTLE_NUMBER, want.number);
@@ -58,6 +60,7 @@ static void chosen_room(const struct input *in, const struct room *file, const s
 static void settled_file(const struct room *file, const struct truth *truth, size_t length) {
     struct written written = settle(file, &none, length, SETTLED_ARENA);
     MUST(written.answer.number == 0 && written.answer.length == length, "settle with the room that it named");
+    MUST(written.answer.block == 0 && written.answer.place == 0, "a settled file with a place where its scan broke");
     MUST(memcmp(written.room.at, first_written, first_length) == 0, "settle writes twice differently");
     MUST(length - truth->head.start <= 2 * (file->length - truth->head.start) + 4 * truth->head.blocks,
          "a settled file longer than the bound");

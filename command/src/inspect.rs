@@ -80,13 +80,16 @@ fn json_name(source: &Source) -> String {
     }
 }
 
+/// The number, the block and the place are there in every object, and 0 where there is none to name.
 fn object(name: &str, bytes: usize, seen: Result<&Record, &Refused>) -> String {
-    let object = match seen {
-        Ok(record) => json!({"file": name, "bytes": bytes, "number": 0, "record": fields(record)}),
-        Err(refused) => {
-            json!({"file": name, "bytes": bytes, "number": refused.number, "meaning": refused.meaning()})
-        }
-    };
+    let (number, block, place) =
+        seen.map_or_else(|refused| (refused.number, refused.block, refused.place), |_| (0, 0, 0));
+    let mut object =
+        json!({"file": name, "bytes": bytes, "number": number, "block": block, "place": place});
+    match seen {
+        Ok(record) => object["record"] = fields(record),
+        Err(refused) => object["meaning"] = json!(refused.meaning()),
+    }
     format!("{object}\n")
 }
 
@@ -142,10 +145,23 @@ mod tests {
         assert_eq!(line.lines().count(), 1);
         let object: Value = serde_json::from_str(&line).unwrap();
         assert_eq!((&object["file"], &object["number"]), (&json!("a\"b\n.jpg"), &json!(0)));
+        assert_eq!((&object["block"], &object["place"]), (&json!(0), &json!(0)));
         assert_eq!(
             (&object["record"]["width"], &object["record"]["ids"]),
             (&json!(144), &json!(record.ids))
         );
+    }
+
+    #[test]
+    fn the_object_of_a_broken_scan_has_its_block_and_its_place() {
+        let refused = Refused { number: 10, left: 0, block: 1207, place: 31_337, needed: None };
+        let line = object("a.jpg", 31_352, Err(&refused));
+        let object: Value = serde_json::from_str(&line).unwrap();
+        let wanted = json!({
+            "file": "a.jpg", "bytes": 31_352, "number": 10, "block": 1207, "place": 31_337,
+            "meaning": "a 255 is followed by neither 0 nor the end",
+        });
+        assert_eq!(object, wanted);
     }
 
     #[test]

@@ -5,7 +5,7 @@ use crate::errors;
 use std::io::{Error, ErrorKind};
 use tillsparrow::Refused;
 
-/// The trouble of a file that the library refuses.
+/// The trouble of a file that the library refuses: its number, why, where its scan broke, and what to do.
 pub fn refusal(refused: &Refused, bytes: &[u8]) -> Trouble {
     match refused.number {
         // The room was made for the record that was found: only the memory can be short.
@@ -14,18 +14,21 @@ pub fn refusal(refused: &Refused, bytes: &[u8]) -> Trouble {
         Refused::NOT_ITS_RECORD => Trouble::Failed(
             "changed while it was read: run it again when nothing writes to it".to_string(),
         ),
-        number => Trouble::Refused(format!(
-            "refused {number}: {}: {}",
-            refused.meaning(),
-            to_do(number, bytes)
+        _ => Trouble::Refused(format!(
+            "{}: {}",
+            refused.line_for(bytes.len()),
+            to_do(refused, bytes)
         )),
     }
 }
 
-fn to_do(number: u64, bytes: &[u8]) -> &'static str {
-    match number {
+fn to_do(refused: &Refused, bytes: &[u8]) -> &'static str {
+    match refused.number {
         Refused::TOO_LONG | Refused::TOO_LARGE => "take a smaller file",
+        Refused::CUT_SHORT if refused.scan_broke() => "it was cut; copy it again from the camera",
         Refused::CUT_SHORT => "copy it again from the camera",
+        Refused::BARE_255 | Refused::NO_CODE => IS_DAMAGED,
+        Refused::MALFORMED if refused.scan_broke() => IS_DAMAGED,
         Refused::MALFORMED if bytes.is_empty() => "the file is empty; copy it again from the camera",
         Refused::MALFORMED if !bytes.starts_with(&[255, 216]) => is_not_jpeg(bytes),
         Refused::MALFORMED => "copy it again from the camera; a file that stays so is damaged, or the tables in its head are faulty, and cannot be trusted",
@@ -34,6 +37,9 @@ fn to_do(number: u64, bytes: &[u8]) -> &'static str {
         _ => "please report it",
     }
 }
+
+/// A scan whose bytes did not run out, and which still broke.
+const IS_DAMAGED: &str = "copy it again from the camera; a file that stays so is damaged, or what wrote it is faulty, and cannot be trusted";
 
 /// A file that does not begin as JPEG files do. What it is instead is told where its first bytes tell.
 fn is_not_jpeg(bytes: &[u8]) -> &'static str {
@@ -134,34 +140,61 @@ pub fn unmade(folder: &str, error: &Error) -> String {
 mod tests {
     use super::*;
 
-    fn line(number: u64, bytes: &[u8]) -> Trouble {
-        refusal(&Refused { number, left: 0, needed: None }, bytes)
+    fn refused(number: u64, block: u64, place: u64) -> Refused {
+        Refused { number, left: 0, block, place, needed: None }
+    }
+
+    fn line(refused: &Refused, bytes: &[u8]) -> String {
+        match refusal(refused, bytes) {
+            Trouble::Refused(line) => line,
+            Trouble::Failed(line) => panic!("{} is no refusal: {line}", refused.number),
+        }
     }
 
     #[test]
     fn a_refusal_has_number_meaning_and_what_to_do() {
-        for number in [1, 2, 3, 4, 5, 6, 9] {
-            let line = match line(number, &[255, 216]) {
-                Trouble::Refused(line) => line,
-                Trouble::Failed(line) => panic!("{number} is no refusal: {line}"),
-            };
+        for number in [1, 2, 3, 4, 5, 6, 9, 10, 11] {
+            let refused = refused(number, 0, 0);
+            let line = line(&refused, &[255, 216]);
             let parts: Vec<&str> = line.splitn(3, ": ").collect();
             assert_eq!(parts[0], format!("refused {number}"));
-            assert_eq!(parts[1], Refused { number, left: 0, needed: None }.meaning());
+            assert_eq!(parts[1], refused.meaning());
             assert!(parts[2].len() > 10 && !line.contains('\n'), "{line}");
         }
-        assert!(
-            matches!(line(7, b""), Trouble::Failed(_))
-                && matches!(line(8, b""), Trouble::Failed(_))
+        for number in [7, 8] {
+            assert!(matches!(refusal(&refused(number, 0, 0), b""), Trouble::Failed(_)));
+        }
+    }
+
+    /// A copy that was cut is told from a file that is damaged.
+    #[test]
+    fn a_broken_scan_has_its_block_and_its_place() {
+        let bytes = [&[255, 216][..], &[0; 31_350]].concat();
+        let parts = |number| {
+            let line = line(&refused(number, 1207, 31_337), &bytes);
+            let (why, to_do) = line.rsplit_once(": ").unwrap();
+            (why.to_string(), to_do.to_string())
+        };
+        let place = "block 1207, which begins at byte 31,337 of 31,352";
+        assert_eq!(parts(3).0, format!("refused 3: the bytes ran out in {place}"));
+        assert_eq!(
+            parts(10).0,
+            format!("refused 10: a 255 is followed by neither 0 nor the end in {place}")
         );
+        assert_eq!(parts(11).0, format!("refused 11: no code of the table matches in {place}"));
+        assert_eq!(
+            parts(4).0,
+            "refused 4: the scan breaks a rule of the format at block 1207, whose reading began at byte 31,337 of 31,352"
+        );
+        assert_eq!(parts(3).1, "it was cut; copy it again from the camera");
+        for number in [4, 10, 11] {
+            assert!(parts(number).1.contains("damaged, or what wrote it is faulty"), "{number}");
+        }
     }
 
     #[test]
     fn what_is_no_jpeg_file_is_named() {
-        let said = |bytes: &[u8]| match line(4, bytes) {
-            Trouble::Refused(line) => line,
-            Trouble::Failed(line) => panic!("{line}"),
-        };
+        let said = |bytes: &[u8]| line(&refused(4, 0, 0), bytes);
         assert!(said(b"").contains("is empty"));
         assert!(said(b"\x89PNG\r\n\x1a\n").contains("not a JPEG file but a PNG file"));
         assert!(said(b"\0\0\0\x18ftypheic").contains("HEIF"));

@@ -46,6 +46,42 @@ static enum status refuse(const struct file *file, uint64_t number) {
     return REFUSED;
 }
 
+/* A number for people: 1207, and 31,337 from five digits on. The room holds the longest. */
+enum { WRITTEN = 32 };
+
+static const char *write_number(uint64_t number, char room[WRITTEN]) {
+    bool grouped = number > 9999;
+    char *at = room + WRITTEN;
+    *--at = '\0';
+    for (int count = 0; count == 0 || number > 0; count++, number /= 10) {
+        if (grouped && count > 0 && count % 3 == 0)
+            *--at = ',';
+        *--at = (char)('0' + number % 10);
+    }
+    return at;
+}
+
+/* A scan that broke: why, where, and what to do about it. */
+static enum status refuse_scan(const struct file *file, const tillsparrow_inspected *seen) {
+    const char *why = "the scan breaks a rule of the format at block", *begins = "which begins";
+    const char *to_do =
+        "copy it again from the camera; a file that stays so is damaged, or what wrote it is faulty, and cannot be trusted";
+    switch (seen->number) {
+    case TILLSPARROW_CUT_SHORT:
+        why = "the bytes ran out in block";
+        to_do = "it was cut; copy it again from the camera";
+        break;
+    case TILLSPARROW_BARE_255: why = "a 255 is followed by neither 0 nor the end in block"; break;
+    case TILLSPARROW_NO_CODE: why = "no code of the table matches in block"; break;
+    /* it may be the restart before the block, or the end of the scan */
+    default: begins = "whose reading began"; break;
+    }
+    char block[WRITTEN], place[WRITTEN], length[WRITTEN];
+    fprintf(stderr, "view: %s: refused %llu: %s %s, %s at byte %s of %s: %s\n", file->name, (unsigned long long)seen->number, why,
+            write_number(seen->block, block), begins, write_number(seen->place, place), write_number(file->length, length), to_do);
+    return REFUSED;
+}
+
 /* ---- reading */
 
 /* Twice the room, and more than none: the calls take no null pointer, also for a file of no bytes. */
@@ -84,7 +120,10 @@ static enum status inspect_file(struct file *file) {
     tillsparrow_inspected seen =
         tillsparrow_inspect(file->bytes, file->length, true, SIZE_MAX, SIZE_MAX, SIZE_MAX, UINT64_MAX);
     file->found = seen.found;
-    return seen.number == TILLSPARROW_ACCEPTED ? DONE : refuse(file, seen.number);
+    if (seen.number == TILLSPARROW_ACCEPTED)
+        return DONE;
+    /* a place in a scan is never 0 */
+    return seen.place != 0 ? refuse_scan(file, &seen) : refuse(file, seen.number);
 }
 
 /* The price of the file that was inspected: 2 for each byte, 1, and the work. */

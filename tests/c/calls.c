@@ -2,7 +2,11 @@
  *
  *   calls FILE RECORD PICTURE [COMMENT...]   a file that is accepted: RECORD has its 36 numbers as text, each COMMENT the text of one
  *                                            comment; the picture is written to PICTURE
- *   calls --refused NUMBER SPENT FILE        a file that is refused, and what it takes from the budget
+ *   calls --refused NUMBER SPENT BLOCK PLACE FILE
+ *                                            a file that is refused, what it takes from the budget, and where its scan broke, which is
+ *                                            0 and 0 where it was not read
+ *   calls --cuts FILE BREAKS                 a file that is accepted; BREAKS has as text, for each byte of its scan, the number, the
+ *                                            block and the place of the file that ends before that byte
  *   calls --no-end-code FILE                 a file that is accepted and that settle refuses 9
  *   calls --same PLAIN FILLED                two files that are accepted, the second being the first with fill bytes in its scan
  *
@@ -27,7 +31,13 @@ struct subject {
     uint64_t head, price;
 };
 
+/* Where a scan broke; 0 and 0 for every other answer. */
+struct named {
+    uint64_t block, place;
+};
+
 static const struct limits unlimited = {SIZE_MAX, SIZE_MAX, SIZE_MAX};
+static const struct named nothing = {0, 0};
 
 static void numbers_of(tillsparrow_record record, uint64_t numbers[NUMBERS]) {
     memcpy(numbers, &record, sizeof record);
@@ -61,27 +71,41 @@ static void hold_answer(uint64_t number, uint64_t left, uint64_t wanted, uint64_
          (unsigned long long)wanted_left);
 }
 
+static void hold_named(uint64_t block, uint64_t place, struct named wanted, const char *what) {
+    hold(block == wanted.block, "%s names the block %llu, and not %llu", what, (unsigned long long)block, (unsigned long long)wanted.block);
+    hold(place == wanted.place, "%s names the place %llu, and not %llu", what, (unsigned long long)place, (unsigned long long)wanted.place);
+}
+
 /* ---- inspect, settle and has_comment admit a file alike */
 
-static void hold_inspected(const struct subject *s, bool colour, struct limits l, uint64_t budget, uint64_t number, uint64_t left) {
+static void hold_inspected(const struct subject *s, bool colour, struct limits l, uint64_t budget, uint64_t number, uint64_t left,
+                           struct named named) {
     tillsparrow_inspected seen = tillsparrow_inspect(s->file.bytes, s->file.length, colour, l.input, l.side, l.output, budget);
     tillsparrow_record none = {0};
     hold_answer(seen.number, seen.left, number, left, "inspect");
+    hold_named(seen.block, seen.place, named, "inspect");
     hold_record(seen.found, number == 0 ? changed(s->record, COLOUR, colour) : none, "inspect");
 }
 
-static void hold_admitted(const struct subject *s, struct limits l, uint64_t budget, uint64_t number, uint64_t left) {
-    hold_inspected(s, false, l, budget, number, left);
-    hold_inspected(s, true, l, budget, number, left);
+static void hold_told(const struct subject *s, struct limits l, uint64_t budget, uint64_t number, uint64_t left, struct named named) {
+    hold_inspected(s, false, l, budget, number, left, named);
+    hold_inspected(s, true, l, budget, number, left, named);
     tillsparrow_presence seen = tillsparrow_has_comment(s->file.bytes, s->file.length, SIZE_MAX, l.input, l.side, l.output, budget);
     hold_answer(seen.number, seen.left, number, left, "has_comment");
+    hold_named(seen.block, seen.place, named, "has_comment");
     hold(seen.there == 0, "comment 2^64 - 1 is said to be there");
     struct lent room = lend_filled(0, 0);
     tillsparrow_settled made =
         tillsparrow_settle(s->file.bytes, s->file.length, l.input, l.side, l.output, budget, room.bytes, room.length);
     hold_answer(made.number, made.left, number == 0 ? 7 : number, left, "settle with no room");
+    hold_named(made.block, made.place, named, "settle with no room");
     hold((made.length != 0) == (number == 0), "settle with no room says length %llu", (unsigned long long)made.length);
     give_back(room);
+}
+
+/* What is accepted, or refused before the scan is read. */
+static void hold_admitted(const struct subject *s, struct limits l, uint64_t budget, uint64_t number, uint64_t left) {
+    hold_told(s, l, budget, number, left, nothing);
 }
 
 static void test_budgets(const struct subject *s) {
@@ -234,6 +258,7 @@ static struct lent settle_in(const struct subject *s, size_t length, size_t room
     struct lent made = lend_filled(room, 165);
     tillsparrow_settled answer = settle_into(s->file, made, s->price);
     hold_answer(answer.number, answer.left, room < length ? 7 : 0, 0, "settle");
+    hold_named(answer.block, answer.place, nothing, "settle");
     hold(answer.length == length, "settle says length %llu, and not %zu", (unsigned long long)answer.length, length);
     size_t kept = room < length ? 0 : length;
     hold(is_filled(made.bytes + kept, room - kept, 165), "settle has changed bytes that it may not");
@@ -252,7 +277,7 @@ static void test_settling(const struct subject *s, struct lent picture) {
     settled.file = lend_for_reading(exact.bytes, length);
     settled.head = 2 * (uint64_t)length + 1;
     settled.price = settled.head + s->record.work;
-    hold_inspected(&settled, true, unlimited, settled.price, 0, 0);
+    hold_inspected(&settled, true, unlimited, settled.price, 0, 0, nothing);
     struct lent blocks, other = draw(&settled, s->record, 0, 0, &blocks);
     hold(same_bytes(picture, other, picture.length), "the settled file has another picture");
     struct lent again = settle_in(&settled, length, length);
@@ -266,6 +291,7 @@ static uint64_t presence(const struct subject *s, size_t i) {
     tillsparrow_presence seen =
         tillsparrow_has_comment(s->file.bytes, s->file.length, i, SIZE_MAX, SIZE_MAX, SIZE_MAX, s->price);
     hold_answer(seen.number, seen.left, 0, 0, "has_comment");
+    hold_named(seen.block, seen.place, nothing, "has_comment");
     return seen.there;
 }
 
@@ -318,26 +344,42 @@ static void test_accepted(const char *name, const char *record, const char *draw
 }
 
 /* What is refused writes nothing, however much room it is lent. */
-static void test_nothing_written(const struct subject *s, uint64_t number, uint64_t spent) {
+static void test_nothing_written(const struct subject *s, uint64_t number, uint64_t spent, struct named named) {
     tillsparrow_record other = {.output = 64, .scratch = 64};
     struct lent room = lend_filled(4 * s->file.length + 4096, 165);
     tillsparrow_settled made = settle_into(s->file, room, PLENTY);
     hold_answer(made.number, made.left, number, PLENTY - spent, "settle");
+    hold_named(made.block, made.place, named, "settle");
     hold(made.length == 0, "settle refuses %llu and says length %llu", (unsigned long long)number, (unsigned long long)made.length);
     hold(is_filled(room.bytes, room.length, 165), "settle refuses %llu and has changed the buffer", (unsigned long long)number);
     hold_refused(s, other, 64, 64, PLENTY, 8);
     give_back(room);
 }
 
-static void test_refused(uint64_t number, uint64_t spent, const char *name) {
+/* What stops a call before it reads the scan is told in place of how the scan breaks, and names nothing. */
+static void test_before_the_scan(const struct subject *s, uint64_t spent) {
+    struct limits input = unlimited, sides = unlimited, output = unlimited;
+    input.input = s->file.length - 1;
+    sides.side = 0;
+    output.output = 63;
+    hold_admitted(s, input, PLENTY, 1, PLENTY);
+    hold_admitted(s, unlimited, s->head - 1, 2, s->head - 1);
+    hold_admitted(s, sides, PLENTY, 6, PLENTY - s->head);
+    hold_admitted(s, output, PLENTY, 6, PLENTY - s->head);
+    hold_admitted(s, unlimited, spent - 1, 2, spent - 1 - s->head);
+}
+
+static void test_refused(uint64_t number, uint64_t spent, struct named named, const char *name) {
     tillsparrow_record none = {0};
     /* no record is the file's; the subject has one that is not given */
     struct subject s = {read_file(name), {.width = 1}, 0, 0};
     s.head = 2 * (uint64_t)s.file.length + 1;
-    hold_admitted(&s, unlimited, PLENTY, number, PLENTY - spent);
-    hold_admitted(&s, unlimited, spent, number, 0);
+    hold_told(&s, unlimited, PLENTY, number, PLENTY - spent, named);
+    hold_told(&s, unlimited, spent, number, 0, named);
+    if (spent > s.head)
+        test_before_the_scan(&s, spent);
     hold_refused(&s, none, 0, 0, PLENTY, 8);
-    test_nothing_written(&s, number, spent);
+    test_nothing_written(&s, number, spent, named);
     for (size_t i = 0; i < 2; i++) {
         tillsparrow_part part = tillsparrow_comment(s.file.bytes, s.file.length, i);
         hold(part.at == 0 && part.length == 0, "a refused file has comment %zu", i);
@@ -351,6 +393,7 @@ static void test_no_end_code(const char *name) {
     hold(seen.number == 0, "inspect answers %llu", (unsigned long long)seen.number);
     tillsparrow_settled made = settle_into(file, room, PLENTY);
     hold_answer(made.number, made.left, 9, seen.left, "settle");
+    hold_named(made.block, made.place, nothing, "settle");
     hold(made.length == 0, "settle refuses 9 and says length %llu", (unsigned long long)made.length);
     hold(is_filled(room.bytes, room.length, 165), "settle refuses 9 and has changed the buffer");
     give_back(file);
@@ -386,10 +429,39 @@ static void test_same(const char *plain, const char *filled) {
     give_back(none), give_back(made), give_back(other_made);
 }
 
+/* The next number of a text. */
+static uint64_t next_of(FILE *file, const char *name) {
+    unsigned long long number;
+    hold(fscanf(file, "%llu", &number) == 1, "%s has no more numbers", name);
+    return number;
+}
+
+/* The file cut before each byte of its scan. */
+static void test_cuts(const char *name, const char *breaks) {
+    struct subject whole = look_at(name);
+    FILE *file = fopen(breaks, "r");
+    hold(file != NULL, "%s cannot be read", breaks);
+    for (size_t length = (size_t)whole.record.start; length < whole.file.length; length++) {
+        struct subject s = {lend_for_reading(whole.file.bytes, length), {0}, 2 * (uint64_t)length + 1, 0};
+        uint64_t number = next_of(file, breaks), block = next_of(file, breaks), place = next_of(file, breaks);
+        hold_told(&s, unlimited, s.head + whole.record.work, number, 0, (struct named){block, place});
+        give_back(s.file);
+    }
+    hold(fscanf(file, "%*s") == EOF, "%s has numbers of more cuts than there are", breaks);
+    fclose(file);
+    give_back(whole.file);
+}
+
+static uint64_t number_in(const char *word) { return strtoull(word, NULL, 10); }
+
 int main(int count, char **words) {
     in_hand = words[count - 1];
-    if (count == 5 && strcmp(words[1], "--refused") == 0) {
-        test_refused(strtoull(words[2], NULL, 10), strtoull(words[3], NULL, 10), words[4]);
+    if (count == 7 && strcmp(words[1], "--refused") == 0) {
+        struct named named = {number_in(words[4]), number_in(words[5])};
+        test_refused(number_in(words[2]), number_in(words[3]), named, words[6]);
+    } else if (count == 4 && strcmp(words[1], "--cuts") == 0) {
+        in_hand = words[2];
+        test_cuts(words[2], words[3]);
     } else if (count == 3 && strcmp(words[1], "--no-end-code") == 0) {
         test_no_end_code(words[2]);
     } else if (count == 4 && strcmp(words[1], "--same") == 0) {
@@ -398,8 +470,8 @@ int main(int count, char **words) {
         in_hand = words[1];
         test_accepted(words[1], words[2], words[3], (size_t)count - 4, words + 4);
     } else {
-        fprintf(stderr, "calls: takes FILE RECORD PICTURE [COMMENT...], --refused NUMBER SPENT FILE, --no-end-code FILE "
-                        "or --same PLAIN FILLED\n");
+        fprintf(stderr, "calls: takes FILE RECORD PICTURE [COMMENT...], --refused NUMBER SPENT BLOCK PLACE FILE, --cuts FILE BREAKS, "
+                        "--no-end-code FILE or --same PLAIN FILLED\n");
         return 2;
     }
     printf("%lu\n", facts);

@@ -6,6 +6,7 @@ import sys
 ROOT = os.path.dirname(os.path.dirname(os.path.dirname(os.path.abspath(__file__))))
 sys.dont_write_bytecode = True
 sys.path.insert(0, os.path.join(ROOT, "tests"))
+import broken  # noqa: E402
 import expected  # noqa: E402
 import unsettled  # noqa: E402
 
@@ -159,19 +160,27 @@ def noted():
 
 
 def refused():
-    """A name, the file, its number, and what it takes from the budget, where that is not 2n + 1."""
+    """A name, the file, its number, and the block and the place where its scan broke; 0 and 0 where it was not read."""
     plain = encode(64, 64, "-quality", "75")
-    yield "cut in the header", plain[:30], 3, None
-    yield "empty", b"", 4, None
-    yield "no JPEG file", b"tray 7, row B\n", 4, None
-    yield "cut in the scan", plain[:-40], 4, plain
-    yield "a byte behind the end", plain + b"\0", 4, plain
-    yield "progressive", encode(64, 64, "-progressive"), 5, None
-    yield "arithmetic", encode(64, 64, "-arithmetic"), 5, None
+    yield "cut in the header", plain[:30], 3, 0, 0
+    yield "empty", b"", 4, 0, 0
+    yield "no JPEG file", b"tray 7, row B\n", 4, 0, 0
+    yield "progressive", encode(64, 64, "-progressive"), 5, 0, 0
+    yield "arithmetic", encode(64, 64, "-arithmetic"), 5, 0, 0
     for name, jpeg in unsettled.careless():
-        yield name, jpeg, 4, None
-    for name, jpeg in unsettled.stray():
-        yield name, jpeg, 4, jpeg
+        yield name, jpeg, 4, 0, 0
+    yield broken.cut("cut in the scan", plain, 40)
+    yield broken.with_more("a byte behind the end", plain, b"\0")
+    yield from broken.by_hand()
+    yield from broken.stray()
+
+
+def to_be_cut():
+    """A name and a file each: every byte of its scan is once the first that is not there."""
+    yield "grey with restarts", encode(65, 31, "-grayscale", "-restart", "1")
+    yield "4:2:0", encode(90, 70, "-sample", "2x2")
+    yield "1 x 1", encode(1, 1)
+    yield from ((name, jpeg) for name, _, jpeg in filled() if len(jpeg) < 100_000)
 
 
 def careful():

@@ -30,29 +30,35 @@ AT(33, tillsparrow_record, output);
 AT(34, tillsparrow_record, work);
 AT(35, tillsparrow_record, colour);
 
-HOLDS(sizeof(tillsparrow_inspected) == 38 * 8);
+HOLDS(sizeof(tillsparrow_inspected) == 40 * 8);
 AT(0, tillsparrow_inspected, number);
 AT(1, tillsparrow_inspected, left);
-AT(2, tillsparrow_inspected, found);
+AT(2, tillsparrow_inspected, block);
+AT(3, tillsparrow_inspected, place);
+AT(4, tillsparrow_inspected, found);
 
 HOLDS(sizeof(tillsparrow_decoded) == 2 * 8);
 AT(0, tillsparrow_decoded, number);
 AT(1, tillsparrow_decoded, left);
 
-HOLDS(sizeof(tillsparrow_settled) == 3 * 8);
+HOLDS(sizeof(tillsparrow_settled) == 5 * 8);
 AT(0, tillsparrow_settled, number);
 AT(1, tillsparrow_settled, left);
-AT(2, tillsparrow_settled, length);
+AT(2, tillsparrow_settled, block);
+AT(3, tillsparrow_settled, place);
+AT(4, tillsparrow_settled, length);
 
 HOLDS(sizeof(tillsparrow_part) == 2 * 8);
 AT(0, tillsparrow_part, at);
 AT(1, tillsparrow_part, length);
 
-HOLDS(sizeof(tillsparrow_presence) == 3 * 8);
+HOLDS(sizeof(tillsparrow_presence) == 5 * 8);
 AT(0, tillsparrow_presence, number);
 AT(1, tillsparrow_presence, left);
-AT(2, tillsparrow_presence, there);
+AT(2, tillsparrow_presence, block);
+AT(3, tillsparrow_presence, place);
+AT(4, tillsparrow_presence, there);
 
 HOLDS(TILLSPARROW_ACCEPTED == 0 && TILLSPARROW_TOO_LONG == 1 && TILLSPARROW_OVER_BUDGET == 2 && TILLSPARROW_CUT_SHORT == 3);
 HOLDS(TILLSPARROW_MALFORMED == 4 && TILLSPARROW_UNSUPPORTED == 5 && TILLSPARROW_TOO_LARGE == 6 && TILLSPARROW_SHORT_ROOM == 7);
-HOLDS(TILLSPARROW_NOT_ITS_RECORD == 8 && TILLSPARROW_NO_END_CODE == 9);
+HOLDS(TILLSPARROW_NOT_ITS_RECORD == 8 && TILLSPARROW_NO_END_CODE == 9 && TILLSPARROW_BARE_255 == 10 && TILLSPARROW_NO_CODE == 11);

@@ -6,6 +6,9 @@ const MOST = 2n ** 64n - 1n;
 const FIELDS = {width: 1, height: 1, channels: 1, hs: 1, vs: 1, ids: 3, qids: 3, dcids: 3, acids: 3, quants: 4, dcs: 4, acs: 4,
     interval: 1, start: 1, blocks: 1, scratch: 1, output: 1, work: 1, colour: 1};
 const RECORD = 36 * 8, PAGE = 65536, COMMENT = 254;
+// What stands at the front of the answers of inspect, settle and has_comment: the number, what is left of the budget, and where a scan
+// broke: the block, and the place in the file. Where none broke, both are 0.
+const FRONT = 4;
 const aligned = place => Math.ceil(place / 16) * 16;
 
 class Library {
@@ -17,7 +20,7 @@ class Library {
     constructor(calls) {
         this.calls = calls;
         this.answerAt = aligned(calls.__heap_base.value);
-        this.recordAt = this.answerAt + aligned(16 + RECORD);
+        this.recordAt = this.answerAt + aligned(8 * FRONT + RECORD);
         this.fileAt = this.recordAt + aligned(RECORD);
     }
 
@@ -52,10 +55,11 @@ class Library {
     }
 
     inspect({colour = true, input = MOST, side = MOST, output = MOST, budget = MOST} = {}) {
-        const [number, left, ...numbers] = this.call("inspect", 38, colour ? 1 : 0, input, side, output, budget);
+        const [number, left, block, place, ...numbers] =
+            this.call("inspect", FRONT + 36, colour ? 1 : 0, input, side, output, budget);
         const found = {};
         for (const [field, count] of Object.entries(FIELDS)) found[field] = count > 1 ? numbers.splice(0, count) : numbers.shift();
-        return {number: Number(number), left, found};
+        return {number: Number(number), left, block, place, found};
     }
 
     decode(found, budget = MOST) {
@@ -69,8 +73,9 @@ class Library {
 
     settle(room, {input = MOST, side = MOST, output = MOST, budget = MOST} = {}) {
         this.reserve(this.behind + room + 1);
-        const [number, left, length] = this.call("settle", 3, input, side, output, budget, this.behind, BigInt(room));
-        return {number: Number(number), left, length, settled: this.bytes(this.behind, number ? 0 : Number(length))};
+        const [number, left, block, place, length] =
+            this.call("settle", FRONT + 1, input, side, output, budget, this.behind, BigInt(room));
+        return {number: Number(number), left, block, place, length, settled: this.bytes(this.behind, number ? 0 : Number(length))};
     }
 
     // A settled file is seldom longer than the file; where it is, the refusal says how long.
@@ -85,8 +90,8 @@ class Library {
     }
 
     hasComment(i, {input = MOST, side = MOST, output = MOST, budget = MOST} = {}) {
-        const [number, left, there] = this.call("has_comment", 3, BigInt(i), input, side, output, budget);
-        return {number: Number(number), left, there};
+        const [number, left, block, place, there] = this.call("has_comment", FRONT + 1, BigInt(i), input, side, output, budget);
+        return {number: Number(number), left, block, place, there};
     }
 
     // The texts of all comments of a file that inspect accepted, in one walk over its header: segments, each behind its marker, up to

@@ -136,13 +136,13 @@ function clear() {
 }
 
 function show(photo, pixels) {
-    const {number, fault, found, notes} = photo.answer;
+    const {fault, found, notes} = photo.answer;
     shown = photo;
     for (const id of ["view", "about"]) $(id).hidden = !pixels;
     $("refused").hidden = Boolean(pixels);
     $("said").textContent = "";
     if (!pixels) {
-        $("refused").textContent = fault ? faultOf(photo.answer) : refusalOf(number) + " No picture is shown.";
+        $("refused").textContent = fault ? faultOf(photo.answer) : refusalOf(photo.answer, photo.file.size) + " No picture is shown.";
         return;
     }
     describe(found, notes, photo.file.size);
@@ -181,9 +181,9 @@ function save(kind, ending) {
     $("said").textContent = "Writing " + name + " …";
     $("photo").ariaBusy = "true";
     saves.push(async () => {
-        const {number, blob, ...rest} = await ask({work: kind, file});
+        const {blob, ...rest} = await ask({work: kind, file});
         if (!blob) {
-            $("said").textContent = name + " is not saved. " + (rest.fault ? faultOf(rest) : refusalOf(number));
+            $("said").textContent = name + " is not saved. " + (rest.fault ? faultOf(rest) : refusalOf(rest, file.size));
             return;
         }
         const link = Object.assign(document.createElement("a"), {href: URL.createObjectURL(blob), download: name});

@@ -6,8 +6,8 @@ const REFUSALS = {
     1: "The file is longer than this page takes, which is 256 MiB. The command ./tillsparrow takes files of any size.",
     2: "The price of reading it is above the budget.",
     3: "The file ends before its picture begins. Copy it again from the camera.",
-    4: "The file breaks a rule of the format: often a cut or damaged copy, seldom faulty tables in its head, or no JPEG file at all. " +
-        "Copy it again; a file that stays so cannot be trusted.",
+    4: "The file breaks a rule of the format before its picture begins: a damaged copy, seldom faulty tables in its head, or no JPEG " +
+        "file at all. Copy it again; a file that stays so cannot be trusted.",
     5: "This is a form of JPEG that is not read: progressive, four channels, 12 bits or the like. Have the camera write baseline files.",
     6: "The picture is larger than this page shows, which is 16,384 pixels a side. The command ./tillsparrow takes pictures of any size.",
     7: "A buffer is too short.",
@@ -15,7 +15,23 @@ const REFUSALS = {
     9: "The file cannot be settled, for want of an end-of-block code in its own tables. Compare pictures instead.",
 };
 
-const refusalOf = number => "Refused (" + number + "). " + REFUSALS[number];
+// Why, where its scan broke, which is the picture's own data. 4 may be the restart before the block, or the end behind the last one.
+const BROKEN = {
+    3: "The bytes ran out in block",
+    4: "The scan breaks a rule of the format at block",
+    10: "A 255 is followed by neither 0 nor the end in block",
+    11: "No code of the table matches in block",
+};
+const CUT = "It was cut: copy it again from the camera.";
+const DAMAGED = "Copy it again from the camera; a file that stays so is damaged, or what wrote it is faulty, and cannot be trusted.";
+
+// A place in a scan is never 0: with 0 no scan broke.
+function refusalOf({number, block, place}, size) {
+    if (!place) return "Refused (" + number + "). " + REFUSALS[number];
+    const begins = number === 4 ? "whose reading began" : "which begins";
+    return "Refused (" + number + "). " + BROKEN[number] + " " + counted(block) + ", " + begins + " at byte " + counted(place) + " of " +
+        counted(size) + ". " + (number === 3 ? CUT : DAMAGED);
+}
 
 // What went wrong beside the library, by the name of the fault.
 const UNREAD = "It cannot be read: a folder, or a file that was moved or changed. Choose it again; of a folder, the photographs in it.";

@@ -5,7 +5,7 @@
 const LIMITS = {input: 256n << 20n, side: 16384n, output: 768n << 20n};
 // A memory that has grown beyond this is given back behind the job.
 const KEPT = 256 << 20;
-const TOO_LONG = {number: 1};
+const TOO_LONG = {number: 1, block: 0n, place: 0n};
 const THUMB = {width: 96, height: 64};
 let module, library;
 
@@ -25,10 +25,11 @@ async function lend(file) {
 
 async function decode(file) {
     if (!await lend(file)) return TOO_LONG;
-    const {number, found} = library.inspect(LIMITS);
-    if (number) return {number};
+    const {number, block, place, found} = library.inspect(LIMITS);
+    if (number) return {number, block, place};
     const notes = library.comments(found), drawn = library.decode(found);
-    return {number: drawn.number, found, notes, picture: drawn.picture};
+    // decode names no block
+    return {number: drawn.number, block: 0n, place: 0n, found, notes, picture: drawn.picture};
 }
 
 // Four bytes for each pixel, as a canvas has them, opaque; grey three times over.
@@ -50,20 +51,21 @@ function thumbnail(pixels, width, height) {
 
 const JOBS = {
     async look({file, shown}) {
-        const {number, found, notes, picture} = await decode(file);
-        if (number) return {number};
+        const {number, block, place, found, notes, picture} = await decode(file);
+        if (number) return {number, block, place};
         const pixels = colours(picture, Number(found.channels));
         const thumb = await thumbnail(pixels, Number(found.width), Number(found.height));
         return {number, found, notes, thumb, pixels: shown ? pixels : null};
     },
     async png({file}) {
-        const {number, found, picture} = await decode(file);
-        return number ? {number} : {number, blob: await pngOf(picture, Number(found.width), Number(found.height), Number(found.channels))};
+        const {number, block, place, found, picture} = await decode(file);
+        if (number) return {number, block, place};
+        return {number, blob: await pngOf(picture, Number(found.width), Number(found.height), Number(found.channels))};
     },
     async settle({file}) {
         if (!await lend(file)) return TOO_LONG;
-        const {number, settled} = library.settled(LIMITS);
-        return number ? {number} : {number, blob: new Blob([settled], {type: "image/jpeg"})};
+        const {number, block, place, settled} = library.settled(LIMITS);
+        return number ? {number, block, place} : {number, blob: new Blob([settled], {type: "image/jpeg"})};
     },
 };
 

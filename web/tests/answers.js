@@ -20,24 +20,27 @@ async function answersOf(library, file, asked) {
         library.reserve(library.behind + room);
         library.bytes(library.behind, library.size - library.behind).fill(PATTERN);
     };
+    const fronts = [], front = ({number, left, block, place}) => fronts.push([number, left, block, place].join(" "));
     library.lend(file);
-    const {number, found} = library.inspect(given);
-    await answer("inspect", 304);
+    const seen = library.inspect(given), {number, found} = seen;
+    await answer("inspect", 320);
+    front(seen);
     paint(Number(found.output) + Number(found.scratch) + 64);
     const {picture, scratch} = library.decode(found, given.budget);
     await answer("decode", 16);
     await keep("picture", picture);
     await keep("scratch", scratch);
     paint(given.room + 1);
-    library.settle(given.room, given);
-    await answer("settle", 24);
+    front(library.settle(given.room, given));
+    await answer("settle", 40);
     await keep("settled", library.bytes(library.behind, given.room));
     for (let i = 0; i < COMMENTS; i++) {
         library.comment(i);
         await answer("comment " + i, 16);
-        library.hasComment(i, given);
-        await answer("has_comment " + i, 24);
+        front(library.hasComment(i, given));
+        await answer("has_comment " + i, 40);
     }
+    parts.fronts = fronts.join("; ");
     parts.notes = number ? "" : notesOf(library, found);
     return parts;
 }
@@ -50,4 +53,18 @@ function notesOf(library, found) {
     const called = Array.from({length: count}, (_, i) => String(library.comment(i).text));
     if (called.join("\n") !== walked.join("\n")) throw new Error("the walk over the header finds other comments than the calls");
     return String(walked.length);
+}
+
+// What library.js makes of answers that are written here: 3, and behind it 102, 103 and so on, so that each number tells its place. And
+// how many bytes it keeps for an answer and for a record.
+function layoutOf() {
+    const memory = new WebAssembly.Memory({initial: 2});
+    const answering = count => at => new BigUint64Array(memory.buffer, at, count).set([3n, ...Array.from({length: count - 1}, (_, i) => 102n + BigInt(i))]);
+    const library = new Library({memory, __heap_base: {value: 1001}, tillsparrow_inspect: answering(40),
+        tillsparrow_settle: answering(5), tillsparrow_has_comment: answering(5)});
+    library.lend(new Uint8Array(9));
+    const {settled: bytes, ...settled} = library.settle(7), inspected = library.inspect(), presence = library.hasComment(0);
+    const told = JSON.stringify({inspected, settled, presence}, (_, value) => typeof value === "bigint" ? Number(value) : value);
+    return {...JSON.parse(told), answer: library.recordAt - library.answerAt, record: library.fileAt - library.recordAt,
+        settled_bytes: bytes.length};
 }

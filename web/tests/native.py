@@ -45,10 +45,13 @@ def answers(data, asked):
     made = library.tillsparrow_settle(file, size, *limits, budget, settled, asked["room"])
     parts = {"inspect": bytes(seen), "decode": bytes(drawn), "picture": output.raw[:-1], "scratch": scratch.raw[:-1],
              "settle": bytes(made), "settled": settled.raw[:-1]}
-    for i in range(COMMENTS):
+    told = [library.tillsparrow_has_comment(file, size, i, *limits, budget) for i in range(COMMENTS)]
+    for i, presence in enumerate(told):
         parts[f"comment {i}"] = bytes(library.tillsparrow_comment(file, size, i))
-        parts[f"has_comment {i}"] = bytes(library.tillsparrow_has_comment(file, size, i, *limits, budget))
+        parts[f"has_comment {i}"] = bytes(presence)
     digests = {name: digest(part) for name, part in parts.items()}
+    # as the calls of library.js give them, and not as they stand in memory
+    digests["fronts"] = "; ".join(f"{each.number} {each.left} {each.block} {each.place}" for each in (seen, made, *told))
     digests["notes"] = "" if seen.number else str(len(comments(data)))
     return seen.number, digests
 
@@ -74,12 +77,19 @@ def change(data, source):
     return bytes(data)
 
 
-def whole():
-    """Real files of every form, with and without notes, and files that are refused: a name and the file each."""
-    for name, data, *_ in [*files.shapes(), *files.noted(), *files.refused()]:
+def accepted():
+    """Real files of every form, with and without notes: a name and the file each."""
+    for name, data, *_ in [*files.shapes(), *files.noted()]:
         yield name, data
     yield "a table with no end code", files.without_end_code()
     yield "a settled file that is longer", longer_when_settled()
+
+
+def whole():
+    """These, and files that are refused."""
+    yield from accepted()
+    for name, data, *_ in files.refused():
+        yield name, data
 
 
 def longer_when_settled():
@@ -87,9 +97,10 @@ def longer_when_settled():
 
 
 def changed():
-    """The changed files, always the same. A change near a file's end leaves more of it to be read, so small files are taken."""
+    """The changed files, always the same. A change near a file's end leaves more of it to be read, so small files are taken, and those
+    that are accepted."""
     source = random.Random(23)
-    seeds = [(name, data) for name, data in whole() if 0 < len(data) < 12_000]
+    seeds = [(name, data) for name, data in accepted() if len(data) < 12_000]
     for i in range(CHANGED):
         name, data = seeds[i % len(seeds)]
         yield f"{name}, change {i}", change(data, source)

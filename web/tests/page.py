@@ -172,8 +172,8 @@ def test_notes(browser, room, shots):
 SENTENCES = {
     1: "Refused (1). The file is longer than this page takes, which is 256 MiB. The command ./tillsparrow takes files of any size.",
     3: "Refused (3). The file ends before its picture begins. Copy it again from the camera.",
-    4: "Refused (4). The file breaks a rule of the format: often a cut or damaged copy, seldom faulty tables in its head, or no JPEG file at all. "
-       "Copy it again; a file that stays so cannot be trusted.",
+    4: "Refused (4). The file breaks a rule of the format before its picture begins: a damaged copy, seldom faulty tables in its head, or "
+       "no JPEG file at all. Copy it again; a file that stays so cannot be trusted.",
     5: "Refused (5). This is a form of JPEG that is not read: progressive, four channels, 12 bits or the like. "
        "Have the camera write baseline files.",
     6: "Refused (6). The picture is larger than this page shows, which is 16,384 pixels a side. "
@@ -181,33 +181,71 @@ SENTENCES = {
 }
 
 
+# and where the scan broke: why, and what to do
+CUT = "It was cut: copy it again from the camera."
+DAMAGED = "Copy it again from the camera; a file that stays so is damaged, or what wrote it is faulty, and cannot be trusted."
+BROKEN = {
+    3: ("The bytes ran out in block {}, which begins at byte {} of {}.", CUT),
+    4: ("The scan breaks a rule of the format at block {}, whose reading began at byte {} of {}.", DAMAGED),
+    10: ("A 255 is followed by neither 0 nor the end in block {}, which begins at byte {} of {}.", DAMAGED),
+    11: ("No code of the table matches in block {}, which begins at byte {} of {}.", DAMAGED),
+}
+
+
+def sentence(number, block, place, size):
+    """What the page says. A place in a scan is never 0."""
+    if not place:
+        return SENTENCES[number]
+    why, to_do = BROKEN[number]
+    return f"Refused ({number}). {why.format(f'{block:,}', f'{place:,}', f'{size:,}')} {to_do}"
+
+
+def test_words(browser, room, shots):
+    """The sentences of refusals, for numbers that are given here."""
+    page = module.blank(browser, room, "src/words.js")
+    for number, block, place, size, wanted in (
+            (3, 1207, 31337, 31352, "Refused (3). The bytes ran out in block 1,207, which begins at byte 31,337 of 31,352. " + CUT),
+            (4, 0, 144, 150, "Refused (4). The scan breaks a rule of the format at block 0, whose reading began at byte 144 of 150. " + DAMAGED),
+            (10, 6, 625, 627, "Refused (10). A 255 is followed by neither 0 nor the end in block 6, which begins at byte 625 of 627. " + DAMAGED),
+            (11, 1000000, 268435455, 268435456, "Refused (11). No code of the table matches in block 1,000,000, which begins at byte "
+             "268,435,455 of 268,435,456. " + DAMAGED),
+            *((number, 0, 0, 99, SENTENCES[number]) for number in SENTENCES)):
+        held(wanted, page.value(f"refusalOf({{number: {number}, block: {block}n, place: {place}n}}, {size})"), "a sentence")
+    page.close()
+
+
 def refused(room):
-    """A path and a number each; the two limits are met from both sides."""
-    for name, data, number, _ in files.refused():
-        yield put(room, name, data), number
+    """A path, a number, the block and the place each; the two limits are met from both sides."""
+    for name, data, number, block, place in files.refused():
+        yield put(room, name, data), number, block, place
     tall = files.encode(8, 16)
     frame = tall.index(b"\xff\xc0") + 5
-    yield put(room, "one pixel too wide", tall[:frame + 2] + (16385).to_bytes(2, "big") + tall[frame + 4:]), 6
-    yield put(room, "as wide as may be, and cut", tall[:frame + 2] + (16384).to_bytes(2, "big") + tall[frame + 4:]), 4
+    yield put(room, "one pixel too wide", tall[:frame + 2] + (16385).to_bytes(2, "big") + tall[frame + 4:]), 6, 0, 0
+    # its one MCU has six blocks, and where the seventh would begin stands the last marker
+    wide = tall[:frame + 2] + (16384).to_bytes(2, "big") + tall[frame + 4:]
+    yield put(room, "as wide as may be, and too short", wide), 10, 6, len(wide) - 2
     # of no bytes but zeros that a disk does not keep; the second is one that no browser could read whole
     for name, size in (("one byte too long", (256 << 20) + 1), ("far too long", 40 << 30)):
         path = os.path.join(room, name + ".jpg")
         with open(path, "wb") as file:
             file.truncate(size)
-        yield path, 1
+        yield path, 1, 0, 0
 
 
 def test_refusals(browser, room, shots):
-    """A refusal is a sentence with its number, and nothing of another picture stays; the next file is read."""
+    """A refusal is a sentence with its number and, where a scan broke, its place; nothing of another picture stays, and the next file is
+    read."""
     page, wanted = Tillsparrow(browser), list(refused(room))
     page.drop_all(TRAY)
-    page.choose_all(*(path for path, _ in wanted))
-    held([f"refused {number}" for _, number in wanted], page.texts("#strip .bad .verdict"), "the list")
-    for i, (path, number) in enumerate(wanted):
+    page.choose_all(*(path for path, *_ in wanted))
+    held([f"refused {number}" for _, number, *_ in wanted], page.texts("#strip .bad .verdict"), "the list")
+    for i, (path, *numbers) in enumerate(wanted):
         page.select(i + 1)
-        held(SENTENCES[number] + " No picture is shown.", page.text("refused"), os.path.basename(path))
+        said = sentence(*numbers, os.path.getsize(path)) + " No picture is shown."
+        held(said, page.text("refused"), os.path.basename(path))
         held([True, False, False], [page.seen(each) for each in ("refused", "view", "about")], f"{path}: what is seen")
-    held(set(SENTENCES), {number for _, number in wanted}, "the numbers that came up")
+    held({*SENTENCES, *BROKEN}, {number for _, number, *_ in wanted}, "the numbers that came up")
+    held(set(BROKEN), {number for _, number, _, place in wanted if place}, "the numbers of scans that broke")
     shots(page, "refused")
     page.select(0)
     hold_picture(page, "docs/tray.jpg, behind the refused", tillsparrow.read(TRAY))

@@ -33,11 +33,13 @@ pub struct Asked {
     budget: u64,
 }
 
-/// The number and what is left; settle's length beside it.
+/// The number, what is left, and where a scan broke; settle's length beside it.
 #[repr(C)]
 pub struct Told {
     number: u64,
     left: u64,
+    block: u64,
+    place: u64,
     length: u64,
 }
 
@@ -54,7 +56,8 @@ impl Asked {
 }
 
 fn told(answer: Answer, length: u64) -> Told {
-    Told { number: u64::from(answer.number), left: answer.left, length }
+    let Answer { number, left, block, place } = answer;
+    Told { number: u64::from(number), left, block, place, length }
 }
 
 /// # Safety

@@ -189,7 +189,8 @@ class Errors(unittest.TestCase):
         with self.assertRaises(Refused) as raised:
             tillsparrow.read(b"GIF89a")
         refused = raised.exception
-        self.assertEqual(str(refused), "refused 4: a rule of the format is broken, in header, tables or scan")
+        self.assertEqual(str(refused), "refused 4: a rule of the format is broken, in header or tables")
+        self.assertEqual(refused.meaning, "a rule of the format is broken, in header, tables or scan")
         self.assertEqual((refused.number, refused.left, refused.needed), (4, MOST - 13, None))
         with self.assertRaises(Refused) as raised:
             tillsparrow.settle(DATA, bytearray())
@@ -210,6 +211,7 @@ class Errors(unittest.TestCase):
     def test_a_refusal_goes_to_another_process(self):
         sent = pickle.loads(pickle.dumps(Refused(7, "a lent buffer is too short", 5, 141, "tray.jpg")))
         self.assertEqual((sent.number, sent.meaning, sent.left, sent.needed, sent.path), (7, "a lent buffer is too short", 5, 141, "tray.jpg"))
+        self.assertEqual((sent.block, sent.place, sent.length), (0, 0, None))
 
     def imported(self, library):
         done = subprocess.run([sys.executable, "-c", "import tillsparrow"], env={**os.environ, "TILLSPARROW_LIBRARY": library},

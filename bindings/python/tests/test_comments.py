@@ -21,11 +21,11 @@ def one_by_one(data):
 
 
 def answer(call, data):
-    """The texts, or the refusal's number and what is left of the budget."""
+    """The texts, or the refusal's numbers and what is left of the budget."""
     try:
         return [bytes(text) for text in call(data)]
     except Refused as refused:
-        return refused.number, refused.left
+        return refused.number, refused.left, refused.block, refused.place
 
 
 def filled(jpeg, source):

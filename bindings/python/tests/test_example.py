@@ -89,7 +89,8 @@ class Scores(unittest.TestCase):
     def test_what_cannot_be_scored_is_said(self):
         cut = self.room / "cut.jpg"
         cut.write_bytes(files.docs_tray()[:-9])
-        for words, wanted in (([cut], f"{cut}: refused 4: "), (["nowhere.jpg"], "nowhere.jpg: .*No such file"),
+        broke = f"{cut}: refused 3: the bytes ran out in block 485, which begins at byte 10,677 of 10,679"
+        for words, wanted in (([cut], broke), (["nowhere.jpg"], "nowhere.jpg: .*No such file"),
                               (["--rows", "145"], "144 x 144 pixels have no room for 6 x 145 wells")):
             status, said, lines = scored(*words, out=self.room)
             self.assertEqual((status, lines), (1, []), said)

@@ -66,16 +66,18 @@ class WithImageio(unittest.TestCase):
     def test_a_refused_file_is_refused(self):
         before = len(os.listdir("/proc/self/fd"))
         progressive = files.encoded(["-progressive"], files.tray, 64, 64)
-        for data, number in ((progressive, 5), (files.docs_tray()[:-40], 4), (b"\xff\xd8", 4)):
+        for data, wanted in ((progressive, (5, 0, 0)), (files.docs_tray()[:-40], (3, 483, 10634)),
+                             (files.docs_tray()[:-2], (4, 486, 10686)), (b"\xff\xd8", (4, 0, 0))):
             with tempfile.NamedTemporaryFile(suffix=".jpg") as file:
                 file.write(data)
                 file.flush()
                 for source in (file.name, data):
                     with self.assertRaises(Refused) as raised:
                         imageio.imread(source)
-                    self.assertEqual(raised.exception.number, number)
-                    raised.exception.__traceback__ = None
-        del raised
+                    refused = raised.exception
+                    self.assertEqual((refused.number, refused.block, refused.place), wanted)
+                    refused.__traceback__ = None
+        del raised, refused
         self.assertEqual(len(os.listdir("/proc/self/fd")), before)
         ours.register(Limits(side=143))
         self.assertRaisesRegex(Refused, "refused 6", imageio.imread, TRAY)

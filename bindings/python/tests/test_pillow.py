@@ -161,18 +161,33 @@ class Refusing(WithPillow):
     def test_a_refusal_says_number_and_meaning(self):
         plain = files.encoded(["-sample", "2x2"], files.tray, 64, 64)
         progressive = files.encoded(["-progressive"], files.tray, 64, 64)
-        for data, number in ((progressive, 5), (plain[:-40], 4), (plain + b"\0", 4), (plain[:100], 3), (b"\xff\xd8", 4)):
-            for named in ({}, {"formats": ["JPEG"]}, {"formats": ["TILLSPARROW", "JPEG"]}):
-                refused = said_by(opened, data, **named)
-                self.assertEqual((refused.number, refused.meaning), (number, tillsparrow.MEANINGS[number]))
-                self.assertEqual(str(refused), f"refused {number}: {tillsparrow.MEANINGS[number]}")
-                self.assertIsInstance(refused.__cause__, Refused)
+        self.hold(progressive, 5, 0, 0, "refused 5: a form of JPEG that is not read")
+        self.hold(plain[:100], 3, 0, 0, "refused 3: the header is cut short")
+        self.hold(b"\xff\xd8", 4, 0, 0, "refused 4: a rule of the format is broken, in header or tables")
         sent = pickle.loads(pickle.dumps(said_by(opened, progressive)))
         self.assertEqual((sent.number, str(sent)), (5, "refused 5: a form of JPEG that is not read"))
 
+    def test_a_refusal_says_where_a_scan_broke(self):
+        plain, bare = files.docs_tray(), bytearray(files.docs_tray())
+        bare[3000:3002] = b"\xff\xfe"
+        self.hold(plain[:-40], 3, 483, 10634, "refused 3: the bytes ran out in block 483, which begins at byte 10,634 of 10,648")
+        self.hold(bytes(bare), 10, 120, 2993,
+                  "refused 10: a 255 is followed by neither 0 nor the end in block 120, which begins at byte 2993 of 10,688")
+        self.hold(plain + b"\0", 4, 486, 10686,
+                  "refused 4: the scan breaks a rule of the format at block 486, whose reading began at byte 10,686 of 10,689")
+        sent = pickle.loads(pickle.dumps(said_by(opened, plain[:-40])))
+        self.assertEqual((sent.number, sent.meaning, sent.block, sent.place), (3, tillsparrow.MEANINGS[3], 483, 10634))
+
+    def hold(self, data, number, block, place, line):
+        for named in ({}, {"formats": ["JPEG"]}, {"formats": ["TILLSPARROW", "JPEG"]}):
+            refused = said_by(opened, data, **named)
+            self.assertEqual((refused.number, refused.meaning), (number, tillsparrow.MEANINGS[number]))
+            self.assertEqual((refused.block, refused.place, str(refused)), (block, place, line))
+            self.assertIsInstance(refused.__cause__, Refused)
+
     def test_a_cut_file_is_refused_where_pillow_is_told_to_take_it(self):
         with mock.patch.object(ImageFile, "LOAD_TRUNCATED_IMAGES", True):
-            self.assertEqual(said_by(opened, files.docs_tray()[:-40]).number, 4)
+            self.assertEqual(said_by(opened, files.docs_tray()[:-40]).number, 3)
 
     def test_a_refused_file_is_named_and_closed(self):
         with tempfile.NamedTemporaryFile(suffix=".jpg") as file:
@@ -180,7 +195,8 @@ class Refusing(WithPillow):
             file.flush()
             before = os.listdir("/proc/self/fd")
             for _ in range(20):
-                self.assertEqual(str(said_by(Image.open, file.name)), f"{file.name}: refused 4: {tillsparrow.MEANINGS[4]}")
+                self.assertEqual(str(said_by(Image.open, file.name)), f"{file.name}: refused 4: the scan breaks a rule of the format "
+                                 "at block 486, whose reading began at byte 10,686 of 10,686")
             self.assertEqual(len(os.listdir("/proc/self/fd")), len(before))
 
     def test_pillows_decoder_is_never_taken_instead(self):

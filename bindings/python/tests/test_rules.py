@@ -88,16 +88,17 @@ class Rules(unittest.TestCase):
         """A 255 before a 255 where a bit is wanted is no fill; fill wants the marker that is due behind it, and nothing stands behind the
         last one."""
         record, ended = tillsparrow.inspect(TWO).record, restarted([63, 255, 208, 63, 255])
-        strays = (restarted([255, 255, 63, 255, 208, 63]), restarted([63, 255, 208, 255, 255, 63]),
-                  restarted([63, 255, 255, 0, 255, 208, 63]), restarted([63, 255, 255, 209, 63]), ended[:-1], ended + b"\xff")
-        for stray in strays:
+        strays = ((restarted([255, 255, 63, 255, 208, 63]), 10), (restarted([63, 255, 208, 255, 255, 63]), 10),
+                  (restarted([63, 255, 255, 0, 255, 208, 63]), 4), (restarted([63, 255, 255, 209, 63]), 4), (ended[:-1], 4),
+                  (ended + b"\xff", 4))
+        for stray, number in strays:
             room, output, scratch = (bytearray(b"\x03" * length) for length in (400, 128, 128))
             budget = price_of(stray) + 17
             for call in (lambda: tillsparrow.inspect(stray, budget=budget), lambda: tillsparrow.has_comment(stray, 0, budget=budget),
                          lambda: tillsparrow.settle(stray, room, budget=budget)):
                 with self.assertRaises(Refused) as raised:
                     call()
-                self.assertEqual((raised.exception.number, raised.exception.left, raised.exception.needed), (4, 17, None))
+                self.assertEqual((raised.exception.number, raised.exception.left, raised.exception.needed), (number, 17, None))
             with self.assertRaises(Refused) as raised:
                 tillsparrow.decode(stray, record, output, scratch, budget)
             self.assertEqual((raised.exception.number, raised.exception.left), (8, 17))
@@ -179,5 +180,5 @@ class Header(unittest.TestCase):
         self.assertEqual(ours, header)
 
     def test_meanings_are_those_of_the_header(self):
-        found = re.findall(r"TILLSPARROW_\w+ = (\d),?\s*/\* (.*?) \*/", self.text)
+        found = re.findall(r"TILLSPARROW_\w+ = (\d+),?\s*/\* (.*?) \*/", self.text)
         self.assertEqual({int(number): meaning.replace("settle: ", "") for number, meaning in found}, MEANINGS)

@@ -7,8 +7,9 @@
     picture.array()                             # the same as a numpy array, where numpy is installed
 
 The calls of the library are ``inspect``, ``decode``, ``settle``, ``comment`` and ``has_comment``; ``read``, ``settled`` and
-``comments`` are built on them. What is refused raises ``Refused``, with the number of the refusal, its meaning and what is left of
-the budget; every lent buffer is then as it was. A wrong argument raises ``TypeError`` or ``ValueError`` before the library is called.
+``comments`` are built on them. What is refused raises ``Refused``, with the number of the refusal, its meaning, what is left of the
+budget and, where a scan broke, the block and the place in the file; every lent buffer is then as it was. A wrong argument raises
+``TypeError`` or ``ValueError`` before the library is called.
 """
 from pathlib import Path
 

@@ -43,9 +43,11 @@ class Presence(NamedTuple):
     left: int
 
 
-def _test(refusal: int, left: int, needed: Optional[int] = None) -> None:
+def _test(length: int, refusal: int, left: int, block: int = 0, place: int = 0, needed: Optional[int] = None) -> None:
+    """Raises a refusal of a file of so many bytes."""
     if refusal:
-        raise Refused(refusal, MEANINGS.get(refusal, "a number that this module does not know"), left, needed)
+        meaning = MEANINGS.get(refusal, "a number that this module does not know")
+        raise Refused(refusal, meaning, left, needed, None, block, place, length)
 
 
 def _limits(limits: Limits) -> Tuple[int, int, int]:
@@ -104,14 +106,16 @@ def inspect(data: Any, colour: bool = True, limits: Limits = NO_LIMITS, budget: 
     """What a file holds.
 
     It takes 2 for each byte of the file and 1 from the budget, and the record's work where it comes to the scan. ``colour``
-    chooses what decode writes for three channels: red, green and blue, or the channels as they are coded.
+    chooses what decode writes for three channels: red, green and blue, or the channels as they are coded. Where the scan broke, the
+    refusal names the block and the place in the file.
     """
     if not isinstance(colour, bool):
         raise TypeError(f"colour must be True or False, not {type(colour).__name__}")
     bounds, budget = _limits(limits), number("budget", budget)
     with Lent() as lent:
-        seen = library.tillsparrow_inspect(*lent.read("data", data), colour, *bounds, budget)
-    _test(seen.number, seen.left)
+        at, length = lent.read("data", data)
+        seen = library.tillsparrow_inspect(at, length, colour, *bounds, budget)
+    _test(length, seen.number, seen.left, seen.block, seen.place)
     return Inspected(_from_native(seen.found), seen.left)
 
 
@@ -130,16 +134,17 @@ def decode(data: Any, record: Record, output: Any = None, scratch: Any = None, b
     output = _fresh(native.output, most) if output is None else output
     scratch = _fresh(native.scratch, most) if scratch is None else scratch
     with Lent() as lent:
-        drawn = library.tillsparrow_decode(
-            *lent.read("data", data), native, *lent.write("output", output), *lent.write("scratch", scratch), budget)
-    _test(drawn.number, drawn.left)
+        at, length = lent.read("data", data)
+        drawn = library.tillsparrow_decode(at, length, native, *lent.write("output", output), *lent.write("scratch", scratch), budget)
+    _test(length, drawn.number, drawn.left)
     return Decoded(output, scratch, drawn.left)
 
 
 def _settle_into(data: Any, output: Any, bounds: Tuple[int, int, int], budget: int) -> Settled:
     with Lent() as lent:
-        made = library.tillsparrow_settle(*lent.read("data", data), *bounds, budget, *lent.write("output", output))
-    _test(made.number, made.left, made.length if made.number == 7 else None)
+        at, length = lent.read("data", data)
+        made = library.tillsparrow_settle(at, length, *bounds, budget, *lent.write("output", output))
+    _test(length, made.number, made.left, made.block, made.place, made.length if made.number == 7 else None)
     return Settled(output, made.length, made.left)
 
 
@@ -148,7 +153,8 @@ def settle(data: Any, output: Any = None, limits: Limits = NO_LIMITS, budget: in
     fill bytes that may stand before a scan's markers.
 
     ``output`` is the caller's (writable, contiguous, apart from the data) or, where None, a fresh bytearray of just the settled
-    file. Where the caller's is too short, the refusal's ``needed`` says how long it must be. At inspect's price.
+    file. Where the caller's is too short, the refusal's ``needed`` says how long it must be. At inspect's price, and with the block
+    and the place that inspect names.
     """
     bounds, budget = _limits(limits), number("budget", budget)
     if output is not None:
@@ -174,9 +180,11 @@ def comment(data: Any, i: int) -> memoryview:
 
 
 def has_comment(data: Any, i: int, limits: Limits = NO_LIMITS, budget: int = MOST) -> Presence:
-    """Whether comment i is there, which an empty text does not tell. At inspect's price and with its numbers."""
+    """Whether comment i is there, which an empty text does not tell. At inspect's price, with its numbers, and with the block and the
+    place that it names."""
     i, bounds, budget = number("i", i), _limits(limits), number("budget", budget)
     with Lent() as lent:
-        found = library.tillsparrow_has_comment(*lent.read("data", data), i, *bounds, budget)
-    _test(found.number, found.left)
+        at, length = lent.read("data", data)
+        found = library.tillsparrow_has_comment(at, length, i, *bounds, budget)
+    _test(length, found.number, found.left, found.block, found.place)
     return Presence(found.there == 1, found.left)

@@ -26,7 +26,7 @@ class Record(ctypes.Structure):
 
 
 class Inspected(ctypes.Structure):
-    _fields_ = [("number", Number), ("left", Number), ("found", Record)]
+    _fields_ = [("number", Number), ("left", Number), ("block", Number), ("place", Number), ("found", Record)]
 
 
 class Decoded(ctypes.Structure):
@@ -34,7 +34,7 @@ class Decoded(ctypes.Structure):
 
 
 class Settled(ctypes.Structure):
-    _fields_ = [("number", Number), ("left", Number), ("length", Number)]
+    _fields_ = [("number", Number), ("left", Number), ("block", Number), ("place", Number), ("length", Number)]
 
 
 class Part(ctypes.Structure):
@@ -42,7 +42,7 @@ class Part(ctypes.Structure):
 
 
 class Presence(ctypes.Structure):
-    _fields_ = [("number", Number), ("left", Number), ("there", Number)]
+    _fields_ = [("number", Number), ("left", Number), ("block", Number), ("place", Number), ("there", Number)]
 
 
 LIMITS = [Number, Number, Number]

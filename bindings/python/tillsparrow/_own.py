@@ -53,7 +53,8 @@ def _lent(source: Any) -> Iterator[Any]:
     except Refused as refused:
         if not isinstance(source, (str, os.PathLike)):
             raise
-        raise Refused(refused.number, refused.meaning, refused.left, refused.needed, os.fsdecode(source)) from None
+        raise Refused(refused.number, refused.meaning, refused.left, refused.needed, os.fsdecode(source),
+                      refused.block, refused.place, refused.length) from None
 
 
 def read(source: Union[str, "os.PathLike[str]", Any], limits: Limits = NO_LIMITS) -> Picture:

@@ -13,14 +13,27 @@ MOST = 2**64 - 1
 MEANINGS = {
     1: "more bytes than the limit on input",
     2: "the price is above the budget",
-    3: "the header is cut short",
+    3: "the header is cut short, or the bytes ran out in a block of the scan",
     4: "a rule of the format is broken, in header, tables or scan",
     5: "a form of JPEG that is not read",
     6: "a side, or the samples, above a limit",
     7: "a lent buffer is too short",
     8: "the record is not the file's",
     9: "a block wants an end-of-block code, and its table has none",
+    10: "in a block of the scan, a 255 that is followed by neither 0 nor the end",
+    11: "in a block of the scan, sixteen bits that are no code of its table",
 }
+
+#: What the line of a refusal says where a scan broke. 4 may be the restart before the block, or the end of the scan.
+IN_SCAN = {
+    3: "the bytes ran out in block {block}, which begins at byte {place}",
+    4: "the scan breaks a rule of the format at block {block}, whose reading began at byte {place}",
+    10: "a 255 is followed by neither 0 nor the end in block {block}, which begins at byte {place}",
+    11: "no code of the table matches in block {block}, which begins at byte {place}",
+}
+
+#: And where no scan broke, of the numbers that a scan may have too.
+IN_HEADER = {3: "the header is cut short", 4: "a rule of the format is broken, in header or tables"}
 
 
 def number(name: str, value: int) -> int:
@@ -34,13 +47,19 @@ def number(name: str, value: int) -> int:
     return whole
 
 
+def counted(value: int) -> str:
+    """A number for people: with commas from 10,000 on."""
+    return f"{value:,}" if value > 9999 else str(value)
+
+
 class Refused(Exception):
     """Why a call did not do what was asked. Every lent buffer is as it was."""
 
-    def __init__(self, number: int, meaning: str, left: int, needed: Optional[int] = None, path: Optional[str] = None):
+    def __init__(self, number: int, meaning: str, left: int, needed: Optional[int] = None, path: Optional[str] = None,
+                 block: int = 0, place: int = 0, length: Optional[int] = None):
         # The arguments are kept as they came, so that a refusal can be sent to another process.
-        super().__init__(number, meaning, left, needed, path)
-        #: 1 to 9.
+        super().__init__(number, meaning, left, needed, path, block, place, length)
+        #: 1 to 11.
         self.number = number
         #: What the number means, for people.
         self.meaning = meaning
@@ -50,9 +69,24 @@ class Refused(Exception):
         self.needed = needed
         #: The file's path, where the call was given one; else None.
         self.path = path
+        #: Where a scan broke, the number of the block it broke in, counted from 0; the block count where the end of the scan is wrong.
+        #: Else 0.
+        self.block = block
+        #: Where a scan broke, the first byte that was not yet taken when the reading of that block began, before any restart, counted
+        #: from the file's start. It is never 0 there; 0 says that no scan broke.
+        self.place = place
+        #: The bytes of the file, where they are known; else None.
+        self.length = length
+
+    def _said(self) -> str:
+        """What happened to this file: the number alone does not tell header and scan apart."""
+        if not self.place or self.number not in IN_SCAN:
+            return IN_HEADER.get(self.number, self.meaning)
+        said = IN_SCAN[self.number].format(block=counted(self.block), place=counted(self.place))
+        return said if self.length is None else f"{said} of {counted(self.length)}"
 
     def __str__(self) -> str:
-        line = f"refused {self.number}: {self.meaning}"
+        line = f"refused {self.number}: {self._said()}"
         line = line if self.path is None else f"{self.path}: {line}"
         return line if self.needed is None else f"{line}; {self.needed} bytes are needed"
 

@@ -33,15 +33,17 @@ _replaced: Any = None
 
 
 class RefusedImage(OSError):
-    """A JPEG file that Tillsparrow refuses. The refusal itself is the cause."""
+    """A JPEG file that Tillsparrow refuses. The refusal itself is the cause; these are its numbers and its meaning."""
 
     number: int = 0
     meaning: str = ""
+    block: int = 0
+    place: int = 0
 
 
 def _refusal(name: Any, refused: Refused) -> RefusedImage:
     error = RefusedImage(f"{name}: {refused}" if name else str(refused))
-    error.number, error.meaning = refused.number, refused.meaning
+    error.number, error.meaning, error.block, error.place = refused.number, refused.meaning, refused.block, refused.place
     return error
 
 

@@ -22,14 +22,15 @@ pub struct Settled {
 }
 
 /// `value` where the number is 0, else the refusal.
-fn answer<T>(number: u64, left: u64, value: T) -> Result<T, Refused> {
-    match number {
+fn answer<T>(value: T, refused: Refused) -> Result<T, Refused> {
+    match refused.number {
         0 => Ok(value),
-        _ => Err(Refused { number, left, needed: None }),
+        _ => Err(refused),
     }
 }
 
-/// What a file holds, or the number of the first rule that refuses it.
+/// What a file holds, or the number of the first rule that refuses it, and where its scan broke
+/// the block and the place.
 ///
 /// It takes 2 for each byte of the file and 1 from the budget, and the record's work where it
 /// comes to the scan.
@@ -63,14 +64,16 @@ pub fn inspect(
             budget,
         )
     };
-    answer(seen.number, seen.left, Inspected { record: seen.found, left: seen.left })
+    let raw::Inspected { number, left, block, place, found } = seen;
+    let refused = Refused { number, left, block, place, needed: None };
+    answer(Inspected { record: found, left }, refused)
 }
 
 /// The picture of a file whose record is given, row by row, channels interleaved, at the front of
 /// `output`, and the samples of its blocks at the front of `scratch`. What is left of the budget.
 ///
-/// Any record may come in; one that is not the file's is refused 8. Limits are set aside. It takes
-/// what [`inspect`] takes.
+/// Any record may come in; one that is not the file's is refused 8, which names no block, also
+/// where the scan broke. Limits are set aside. It takes what [`inspect`] takes.
 ///
 /// ```
 /// use tillsparrow::{decode, inspect, Colour, Limits};
@@ -102,12 +105,13 @@ pub fn decode(
             budget,
         )
     };
-    answer(drawn.number, drawn.left, drawn.left)
+    let raw::Decoded { number, left } = drawn;
+    answer(left, Refused { number, left, block: 0, place: 0, needed: None })
 }
 
 /// The settled file at the front of `output`: the same head and the same coefficients, coded in
 /// the one settled way, without the fill bytes that may stand before a scan's markers. At
-/// [`inspect`]'s price.
+/// [`inspect`]'s price, and a scan that broke is refused as [`inspect`] refuses it.
 ///
 /// Where the buffer is too short the refusal says how many bytes are needed:
 ///
@@ -139,9 +143,10 @@ pub fn settle(
             output.len(),
         )
     };
-    let needed = (made.number == Refused::SHORT_ROOM).then_some(made.length);
-    answer(made.number, made.left, Settled { length: made.length as usize, left: made.left })
-        .map_err(|refused| Refused { needed, ..refused })
+    let raw::Settled { number, left, block, place, length } = made;
+    let needed = (number == Refused::SHORT_ROOM).then_some(length);
+    let refused = Refused { number, left, block, place, needed };
+    answer(Settled { length: length as usize, left }, refused)
 }
 
 /// The text of comment `i`, counted from 0 over the comment segments before the scan: a part of
@@ -163,7 +168,7 @@ pub fn comment(bytes: &[u8], i: usize) -> &[u8] {
 }
 
 /// Whether comment `i` is there, which an empty text does not tell, and what is left of the
-/// budget. At [`inspect`]'s price and with its numbers.
+/// budget. At [`inspect`]'s price and with its numbers, its block and its place.
 pub fn has_comment(
     bytes: &[u8],
     i: usize,
@@ -183,5 +188,6 @@ pub fn has_comment(
             budget,
         )
     };
-    answer(found.number, found.left, (found.there == 1, found.left))
+    let raw::Presence { number, left, block, place, there } = found;
+    answer((there == 1, left), Refused { number, left, block, place, needed: None })
 }

@@ -20,6 +20,20 @@
 //! # Ok::<(), Box<dyn std::error::Error>>(())
 //! ```
 //!
+//! A refusal is a [`Refused`]: its number and, where the scan broke, the block and the place, so
+//! that a copy that was cut is told from a camera that writes what it should not:
+//!
+//! ```
+//! let file = std::fs::read("../../docs/tray.jpg")?;
+//! let refused = tillsparrow::read(&file[..10_600]).unwrap_err();
+//! assert_eq!((refused.number, refused.block, refused.place), (3, 481, 10_588));
+//! assert_eq!(
+//!     refused.line_for(10_600),
+//!     "refused 3: the bytes ran out in block 481, which begins at byte 10,588 of 10,600"
+//! );
+//! # Ok::<(), Box<dyn std::error::Error>>(())
+//! ```
+//!
 //! A call has a price: 2 for each byte of the file and 1, and the record's work where it comes to
 //! the scan. What a call may take is its budget; `u64::MAX` always suffices for a file that is
 //! read without a given record.

@@ -7,6 +7,8 @@ use crate::Record;
 pub struct Inspected {
     pub number: u64,
     pub left: u64,
+    pub block: u64,
+    pub place: u64,
     pub found: Record,
 }
 
@@ -20,6 +22,8 @@ pub struct Decoded {
 pub struct Settled {
     pub number: u64,
     pub left: u64,
+    pub block: u64,
+    pub place: u64,
     pub length: u64,
 }
 
@@ -33,6 +37,8 @@ pub struct Part {
 pub struct Presence {
     pub number: u64,
     pub left: u64,
+    pub block: u64,
+    pub place: u64,
     pub there: u64,
 }
 
@@ -91,11 +97,11 @@ const _: () = {
     assert!(size_of::<bool>() == 1);
     assert!(size_of::<Record>() == 36 * 8);
     assert!(align_of::<Record>() == 8);
-    assert!(size_of::<Inspected>() == 38 * 8);
+    assert!(size_of::<Inspected>() == 40 * 8);
     assert!(size_of::<Decoded>() == 2 * 8);
-    assert!(size_of::<Settled>() == 3 * 8);
+    assert!(size_of::<Settled>() == 5 * 8);
     assert!(size_of::<Part>() == 2 * 8);
-    assert!(size_of::<Presence>() == 3 * 8);
+    assert!(size_of::<Presence>() == 5 * 8);
 };
 
 #[cfg(test)]
@@ -146,10 +152,10 @@ mod tests {
         as_in_header!("tillsparrow_record", Record,
             width height channels hs vs ids qids dcids acids quants dcs acs
             interval start blocks scratch output work colour);
-        as_in_header!("tillsparrow_inspected", Inspected, number left found);
+        as_in_header!("tillsparrow_inspected", Inspected, number left block place found);
         as_in_header!("tillsparrow_decoded", Decoded, number left);
-        as_in_header!("tillsparrow_settled", Settled, number left length);
+        as_in_header!("tillsparrow_settled", Settled, number left block place length);
         as_in_header!("tillsparrow_part", Part, at length);
-        as_in_header!("tillsparrow_presence", Presence, number left there);
+        as_in_header!("tillsparrow_presence", Presence, number left block place there);
     }
 }

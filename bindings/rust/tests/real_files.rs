@@ -98,10 +98,11 @@ fn fill_changes_the_price_alone() {
     }
 }
 
-/// Every way in refuses the file by this number.
-fn all_refuse(name: &str, file: &[u8], number: u64) {
+/// Every way in refuses the file by this number, and names the same block and place: of the scan
+/// where that is what broke, and else 0 and 0.
+fn all_refuse(name: &str, file: &[u8], number: u64, scan_broke: bool) {
     let mut room = vec![7; 2 * file.len()];
-    let numbers = [
+    let refused = [
         inspect(file, BEST, Limits::NONE, u64::MAX).map(|_| ()),
         inspect(file, Colour::AsCoded, Limits::NONE, u64::MAX).map(|_| ()),
         settle(file, Limits::NONE, u64::MAX, &mut room).map(|_| ()),
@@ -110,8 +111,10 @@ fn all_refuse(name: &str, file: &[u8], number: u64) {
         settled(file).map(|_| ()),
         comments(file).map(|_| ()),
     ]
-    .map(|answer| answer.expect_err(name).number);
-    assert_eq!(numbers, [number; 7], "{name}");
+    .map(|answer| answer.expect_err(name));
+    assert_eq!(refused, [refused[0]; 7], "{name}");
+    assert_eq!((refused[0].number, refused[0].scan_broke()), (number, scan_broke), "{name}");
+    assert!(scan_broke || refused[0].block == 0, "{name}");
     assert!(room.iter().all(|&byte| byte == 7), "{name}: settle wrote");
     assert!(comment(file, 0).is_empty(), "{name}");
 }
@@ -121,22 +124,38 @@ fn other_files_are_refused_by_number() {
     let plain = encoded(&["-sample", "2x2"], tray, 64, 64);
     let noted = run(&["wrjpgcom", "-comment", "row B"], &plain);
     let longer = [&plain[..], &[0]].concat();
-    all_refuse("progressive", &encoded(&["-progressive"], tray, 64, 64), 5);
-    all_refuse("arithmetic", &encoded(&["-arithmetic"], tray, 64, 64), 5);
-    all_refuse("cut in the scan", &noted[..noted.len() - 40], 4);
-    all_refuse("a byte behind the end", &longer, 4);
-    all_refuse("cut in the head", &noted[..100], 3);
-    all_refuse("empty", &[], 4);
-    all_refuse("no JPEG", b"GIF89a and so on", 4);
+    all_refuse("progressive", &encoded(&["-progressive"], tray, 64, 64), 5, false);
+    all_refuse("arithmetic", &encoded(&["-arithmetic"], tray, 64, 64), 5, false);
+    all_refuse("cut in the scan", &noted[..noted.len() - 40], 3, true);
+    all_refuse("a byte behind the end", &longer, 4, true);
+    all_refuse("cut in the head", &noted[..100], 3, false);
+    all_refuse("empty", &[], 4, false);
+    all_refuse("no JPEG", b"GIF89a and so on", 4, false);
 }
 
+/// Cut in its header, the file names nothing. Cut in its scan, it names the block in which the
+/// bytes ran out, which is the first one and then never an earlier one as the file grows; cut in
+/// the end, it names the block count.
 #[test]
-fn no_cut_file_is_accepted() {
+fn a_cut_file_names_the_block_in_which_it_ends() {
     let file = docs_tray();
+    let record = record_of(&file);
+    let (start, mut next) = (record.start as usize, 0);
     for length in 0..file.len() {
-        let number = inspect(&file[..length], BEST, Limits::NONE, u64::MAX).unwrap_err().number;
-        assert!(number == 3 || number == 4, "cut to {length}: {number}");
+        let refused = inspect(&file[..length], BEST, Limits::NONE, u64::MAX).unwrap_err();
+        let Refused { number, block, place, .. } = refused;
+        if length < start {
+            assert!(number == 3 || number == 4, "cut to {length}: {number}");
+            assert_eq!((block, place), (0, 0), "cut to {length}");
+            continue;
+        }
+        assert!(length > start || (block, place) == (0, record.start), "{refused:?}");
+        assert_eq!(number, if length < file.len() - 2 { 3 } else { 4 }, "cut to {length}");
+        assert!(block >= next && block <= record.blocks, "cut to {length}: block {block}");
+        assert!(start <= place as usize && place as usize <= length, "cut to {length}: {place}");
+        next = block;
     }
+    assert_eq!(next, record.blocks);
 }
 
 #[test]
@@ -156,7 +175,7 @@ fn limits_are_kept() {
     has_comment(&file, 0, fits, u64::MAX).unwrap();
     read_within(&file, fits).unwrap();
     for (limits, number, left) in short {
-        let refused = Refused { number, left, needed: None };
+        let refused = Refused { number, left, block: 0, place: 0, needed: None };
         assert_eq!(inspect(&file, BEST, limits, u64::MAX), Err(refused));
         assert_eq!(settle(&file, limits, u64::MAX, &mut room), Err(refused));
         assert_eq!(has_comment(&file, 0, limits, u64::MAX), Err(refused));
@@ -290,7 +309,7 @@ fn damaged_files_are_answered() {
             state.wrapping_mul(6_364_136_223_846_793_005).wrapping_add(1_442_695_040_888_963_407);
         (state >> 33) as usize % below
     };
-    let mut seen = [0; 10];
+    let mut seen = [0; 12];
     for _ in 0..400 {
         let mut damaged = file.clone();
         for _ in 0..1 + next(3) {
@@ -298,15 +317,19 @@ fn damaged_files_are_answered() {
             let reach = if next(2) == 0 { 620 } else { file.len() };
             damaged[next(reach)] = next(256) as u8;
         }
-        let number =
-            |answer: Result<(), Refused>| answer.map_or_else(|refused| refused.number, |_| 0);
         let limits = Limits { output: 1 << 24, ..Limits::NONE };
-        let found = number(inspect(&damaged, BEST, limits, u64::MAX).map(|_| ()));
-        assert_eq!(number(read_within(&damaged, limits).map(|_| ())), found);
-        assert_eq!(number(has_comment(&damaged, 0, limits, u64::MAX).map(|_| ())), found);
-        seen[found as usize] += 1;
+        let found = inspect(&damaged, BEST, limits, u64::MAX).map(|_| ());
+        assert_eq!(read_within(&damaged, limits).map(|_| ()), found);
+        assert_eq!(has_comment(&damaged, 0, limits, u64::MAX).map(|_| ()), found);
+        let mut room = vec![0; 2 * damaged.len()];
+        match settle(&damaged, limits, u64::MAX, &mut room) {
+            // Such a file is accepted, and its table has no code to end a block.
+            Err(Refused { number: Refused::NO_END_CODE, .. }) => assert_eq!(found, Ok(())),
+            made => assert_eq!(made.map(|_| ()), found),
+        }
+        seen[found.map_or_else(|refused| refused.number, |_| 0) as usize] += 1;
     }
-    assert!(seen[0] > 0 && seen[4] > 0 && seen[5] > 0, "{seen:?}");
+    assert!([0, 3, 4, 5, 11].iter().all(|&number| seen[number] > 0), "{seen:?}");
     println!("held: 400 damaged files answered, {} of them accepted", seen[0]);
 }
 

@@ -14,7 +14,7 @@ use Rattle.reading.specs.declared.Budget.{Budget}
 use Rattle.reading.specs.declared.Refusal.the-variants.{OverBudget, ShortRoom, NotItsRecord}
 use Rattle.reading.specs.declared.Bits.{Bits}
 use Rattle.reading.specs.Tests.{_and_, _or_}
-use Rattle.reading.specs.Reader.{Read, got, fault}
+use Rattle.reading.specs.Scan.{Scanned, whole, broke}
 use Rattle.reading.specs.Header.{Stage, more, done, stop, header, noRecord}
 use Rattle.reading.specs.Scan.{levels}
 use Rattle.reading.specs.Reading.{scanned, readFrom, reading}
@@ -47,9 +47,9 @@ module _ (s : List ℕ) (y : AllBytes s) (f : FlatRecord) (out scratch : List �
   refused-so rest (stop x) e = refl
   refused-so rest (done q) e = by (levels s q)
     where
-      by : (l : Read Bits (List (List ℤ))) → itsLevels (channelless f) (scanned q l) rest ≡ refuses NotItsRecord rest
-      by (fault x) = refl
-      by (got ls b) = rw (other q f (some (q .channels) (header-accepted (eqb (f .colour) 1) s y q e .frame .few .0))) refl
+      by : (l : Scanned Bits (List (List ℤ))) → itsLevels (channelless f) (scanned q l) rest ≡ refuses NotItsRecord rest
+      by (broke x) = refl
+      by (whole ls b) = rw (other q f (some (q .channels) (header-accepted (eqb (f .colour) 1) s y q e .frame .few .0))) refl
 
   channelless-decodes : (budget : Budget) → decode s (channelless f) out scratch budget ≡ notItsRecord s f out scratch budget
   unfolding decode

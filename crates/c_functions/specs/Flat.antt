@@ -24,7 +24,14 @@ use Rattle.c_functions.specs.declared.Decoded.{Decoded}
 -- ---- inspect
 
 abbrev pub inspected : Inspection → Inspected
-inspected q = record { number = calls.number (q .verdict); left = q .budget .left; found = flat (q .found) }
+inspected q =
+    record {
+      number = calls.number (q .verdict);
+      left = q .budget .left;
+      block = calls.named (q .verdict) .block;
+      place = calls.named (q .verdict) .place;
+      found = flat (q .found);
+    }
 
 -- ---- decode
 
@@ -61,4 +68,11 @@ abbrev pub flatPart : Part → FlatPart
 flatPart p = record { at = p .at; length = p .length }
 
 abbrev pub flatPresence : Presence → FlatPresence
-flatPresence q = record { number = calls.number (q .verdict); left = q .budget .left; there = digit (q .there) }
+flatPresence q =
+    record {
+      number = calls.number (q .verdict);
+      left = q .budget .left;
+      block = calls.named (q .verdict) .block;
+      place = calls.named (q .verdict) .place;
+      there = digit (q .there);
+    }

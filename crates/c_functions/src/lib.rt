@@ -11,6 +11,8 @@ use reading::Budget;
 pub struct Inspected {
     pub number: usize,
     pub left: u64,
+    pub block: usize,
+    pub place: usize,
     pub found: FlatRecord,
 }
 
@@ -31,6 +33,8 @@ pub struct FlatPart {
 pub struct FlatPresence {
     pub number: usize,
     pub left: u64,
+    pub block: usize,
+    pub place: usize,
     pub there: usize,
 }
 
@@ -55,9 +59,12 @@ pub extern "C" fn tillsparrow_inspect(
     let found = c_record::flat(seen.found);
     let verdict = seen.verdict;
     let rest = seen.budget;
+    let named = verdict.named();
     Inspected {
         number: c_record::number(verdict),
         left: rest.left,
+        block: named.block,
+        place: named.place,
         found: found,
     }
 }
@@ -121,9 +128,12 @@ pub extern "C" fn tillsparrow_has_comment(
     let verdict = seen.verdict;
     let rest = seen.budget;
     let there = c_record::digit(seen.there);
+    let named = verdict.named();
     FlatPresence {
         number: c_record::number(verdict),
         left: rest.left,
+        block: named.block,
+        place: named.place,
         there: there,
     }
 }

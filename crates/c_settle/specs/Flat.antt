@@ -15,5 +15,11 @@ remade answer out = record { answer = answer; output = out }
 abbrev pub settled : calls.Rewritten → Remade
 settled t =
     remade
-    (record { number = calls.number (t .answer .verdict); left = t .answer .budget .left; length = t .answer .length })
+    (record {
+      number = calls.number (t .answer .verdict);
+      left = t .answer .budget .left;
+      block = calls.named (t .answer .verdict) .block;
+      place = calls.named (t .answer .verdict) .place;
+      length = t .answer .length;
+    })
     (t .output)

@@ -9,6 +9,8 @@ use reading::Budget;
 pub struct Settled {
     pub number: usize,
     pub left: u64,
+    pub block: usize,
+    pub place: usize,
     pub length: usize,
 }
 
@@ -32,9 +34,12 @@ pub extern "C" fn tillsparrow_settle(
     );
     let verdict = seen.verdict;
     let rest = seen.budget;
+    let named = verdict.named();
     Settled {
         number: c_record::number(verdict),
         left: rest.left,
+        block: named.block,
+        place: named.place,
         length: seen.length,
     }
 }

@@ -9,12 +9,12 @@ use lib.IntN.{ℤ}
 use lib.ListN.{length}
 use Rattle.reading.specs.declared.Bits.{Bits}
 use Rattle.reading.specs.declared.Budget.{Budget}
-use Rattle.reading.specs.declared.Fault.{Fault}
+use Rattle.reading.specs.declared.Break.{Break}
 use Rattle.reading.specs.declared.Record.{Record}
 use Rattle.reading.specs.declared.Refusal.{Refusal}
 use Rattle.reading.specs.declared.Refusal.the-variants.{OverBudget, ShortRoom, NotItsRecord}
 use Rattle.reading.specs.declared.Verdict.the-variants.{Refused}
-use Rattle.reading.specs.Reader.{Read, got, fault}
+use Rattle.reading.specs.Scan.{Scanned, whole, broke}
 use Rattle.reading.specs.Header.{Stage, more, done, stop, header}
 use Rattle.reading.specs.Code.Heads.{headed}
 use Rattle.reading.specs.Scan.{levels}
@@ -95,19 +95,19 @@ module _ (s : List ℕ) (q r : Record) (out scratch : List ℕ) (rest : Budget) 
   unfolding drawnAs
   drawn-other n = go (levels s q)
     where
-      go : (x : Read Bits (List (List ℤ))) → undecoded NotItsRecord rest out scratch ≡ decoded s r out scratch (itsLevels r (scanned q x) rest)
-      go (got ls b) = rw n refl
-      go (fault f) = refl
+      go : (x : Scanned Bits (List (List ℤ))) → undecoded NotItsRecord rest out scratch ≡ decoded s r out scratch (itsLevels r (scanned q x) rest)
+      go (whole ls b) = rw n refl
+      go (broke f) = refl
 
   module _ (e : same q r ≡ true) where
     itself : q ≡ r
     itself = records-equal q r (subst⁻¹ T e tt)
 
-    pub drawn-fault : (f : Fault) → levels s r ≡ fault f → undecoded NotItsRecord rest out scratch ≡ drawnAs s q r out scratch rest
+    pub drawn-fault : (f : Break) → levels s r ≡ broke f → undecoded NotItsRecord rest out scratch ≡ drawnAs s q r out scratch rest
     unfolding drawnAs
     drawn-fault f p = sym (ap (λ x. decoded s r out scratch (itsLevels r (scanned q x) rest)) (ap (levels s) itself ∙ p))
 
-    pub drawn-done : (ls : List (List ℤ)) (b : Bits) → levels s r ≡ got ls b → decodedWith r out scratch rest (allSamples s r ls) ≡ drawnAs s q r out scratch rest
+    pub drawn-done : (ls : List (List ℤ)) (b : Bits) → levels s r ≡ whole ls b → decodedWith r out scratch rest (allSamples s r ls) ≡ drawnAs s q r out scratch rest
     unfolding drawnAs
     drawn-done ls b p = with-it ∙ sym (ap (λ x. decoded s r out scratch (itsLevels r (scanned q x) rest)) (ap (levels s) itself ∙ p))
       where

@@ -9,14 +9,14 @@ use lib.ListN.{length, take, drop}
 use lib.Seq.{take-at}
 use Rattle.reading.specs.declared.Budget.{Budget}
 use Rattle.reading.specs.declared.Decoding.{Decoding}
-use Rattle.reading.specs.declared.Fault.{Fault}
+use Rattle.reading.specs.declared.Break.{Break}
 use Rattle.reading.specs.declared.Record.{Record}
 use Rattle.reading.specs.declared.Refusal.the-variants.{NotItsRecord}
 use Rattle.reading.specs.declared.ScanRead.{ScanRead}
 use Rattle.reading.specs.declared.ScanRead.the-variants.{Done, Stop}
 use Rattle.reading.specs.declared.Verdict.the-variants.{Accepted, Refused}
 use Rattle.reading.specs.Tests.{over}
-use Rattle.reading.specs.Reader.{got}
+use Rattle.reading.specs.Scan.{whole}
 use Rattle.reading.specs.Header.{done, header}
 use Rattle.reading.specs.Scan.{levels}
 use Rattle.reading.specs.Code.Scans.{readable, scanOf}
@@ -72,14 +72,14 @@ module _ (s : List ℕ) (y : AllBytes s) (q r : Record) (out scratch : List ℕ)
     room = omega (arith, m .scratch-room, accepted .scratch)
 
     module _ (v : ScanRead) (e3 : v ≡ scanRead (scanOf s r)) (scratch′ : List ℕ) (e4 : scratch′ ≡ drawn s r (scanOf s r) scratch) where
-      pub draws-stop : {answer : Decoding} → answer ≡ record { verdict = Refused NotItsRecord; budget = rest } → (g : Fault) → v ≡ Stop g → leaving answer out scratch′ ≡ drawnAs s q r out scratch rest
+      pub draws-stop : {answer : Decoding} → answer ≡ record { verdict = Refused NotItsRecord; budget = rest } → (g : Break) → v ≡ Stop g → leaving answer out scratch′ ≡ drawnAs s q r out scratch rest
       draws-stop a g p =
           let o = E.refused (scanOf s r) e3 p in
           ap₂ (λ x z. leaving x out z) a (e4 ∙ sym (E.drawn-stop s r scratch o))
           ∙ drawn-fault s q r out scratch rest (sym e ∙ f) g (sym (scan-is s r okay) ∙ o)
 
       module _ (p : v ≡ Done) where
-        scanned : levels s r ≡ got (E.accepted (scanOf s r) e3 p .blocks-read) (E.accepted (scanOf s r) e3 p .behind)
+        scanned : levels s r ≡ whole (E.accepted (scanOf s r) e3 p .blocks-read) (E.accepted (scanOf s r) e3 p .behind)
         scanned = scan-levels s r (E.accepted (scanOf s r) e3 p .is)
 
         all : List ℕ

@@ -6,7 +6,7 @@ use Prim.Native.Nat.{ℕ}
 use lib.IntN.{ℤ}
 use Rattle.reading.specs.declared.Bits.{Bits}
 use Rattle.reading.specs.declared.Budget.{Budget}
-use Rattle.reading.specs.declared.Fault.{Fault}
+use Rattle.reading.specs.declared.Break.{Break}
 use Rattle.reading.specs.declared.Inspection.{Inspection}
 use Rattle.reading.specs.declared.Limits.{Limits}
 use Rattle.reading.specs.declared.Record.{Record}
@@ -15,7 +15,7 @@ use Rattle.reading.specs.declared.Refusal.the-variants.{Scan}
 use Rattle.reading.specs.declared.ScanRead.{ScanRead}
 use Rattle.reading.specs.declared.ScanRead.the-variants.{Done, Stop}
 use Rattle.reading.specs.Code.Answers.{scanRead}
-use Rattle.reading.specs.Reader.{Read}
+use Rattle.reading.specs.Scan.{Scanned}
 use Rattle.reading.specs.Scan.{levels}
 use Rattle.reading.specs.Code.Scans.{readable, scanOf}
 use Rattle.reading.specs.Judging.{Judged, accepts, refuses, onward, give, unbroken}
@@ -31,7 +31,7 @@ use Rattle.jpeg_price.proofs.Admitted.{Goes}
 abbrev answer : List ℕ → Judged Record → Inspection
 answer s m = foundIn (onward m (scanBehind s))
 
-abbrev read : Record → Budget → Read Bits (List (List ℤ)) → Inspection
+abbrev read : Record → Budget → Scanned Bits (List (List ℤ)) → Inspection
 read r rest o = foundIn (onward (unbroken o rest) (λ ls. give (record { found = r; blocks = ls })))
 
 module _ (s : List ℕ) (colour : Bool) (l : Limits) (budget : Budget) {rest : Budget} where
@@ -47,7 +47,7 @@ module _ (s : List ℕ) (colour : Bool) (l : Limits) (budget : Budget) {rest : B
     unfolding inspect
     by-scan = sym (ap (answer s) (z .is))
 
-    pub inspect-fault : {f : Fault} → v ≡ Stop f → inspection (refuses (Scan f) rest) ≡ inspect s colour l budget
+    pub inspect-fault : {f : Break} → v ≡ Stop f → inspection (refuses (Scan f) rest) ≡ inspect s colour l budget
     inspect-fault p = sym (ap (read r rest) (sym (scan-is s r okay) ∙ E.refused (scanOf s r) e p)) ∙ by-scan
 
     pub inspect-done : v ≡ Done → inspection (accepts r rest) ≡ inspect s colour l budget

@@ -13,7 +13,7 @@ use Rattle.reading.specs.declared.Record.{Record}
 use Rattle.reading.specs.declared.Refusal.{Refusal}
 use Rattle.reading.specs.declared.Settling.{Settling}
 use Rattle.reading.specs.declared.Verdict.the-variants.{Refused}
-use Rattle.reading.specs.Reader.{Read, got, fault}
+use Rattle.reading.specs.Scan.{Scanned, whole, broke}
 use Rattle.reading.specs.Header.{done, header}
 use Rattle.reading.specs.Scan.{levels, planOf}
 use Rattle.reading.specs.Code.Scans.{settledRead, settledOf}
@@ -57,6 +57,6 @@ module _ (s : List ℕ) (l : Limits) (budget : Budget) (out : List ℕ) {rest : 
         refiled-is s r rest out (omega (arith, z .counted)) ∙ ap (refiledBy s r rest out) (settled-is s y r (z .head)) ∙ go (levels s r)
         ∙ sym (ap (answer s out) (z .is))
       where
-        go : (x : Read Bits (List (List ℤ))) → refiledBy s r rest out (settledRead (planOf s r) x) ≡ rewritten out (onward (onward (unbroken x rest) (λ ls. give (record { found = r; blocks = ls }))) (fileOf s))
-        go (got ls b) = refl
-        go (fault f) = refl
+        go : (x : Scanned Bits (List (List ℤ))) → refiledBy s r rest out (settledRead (planOf s r) x) ≡ rewritten out (onward (onward (unbroken x rest) (λ ls. give (record { found = r; blocks = ls }))) (fileOf s))
+        go (whole ls b) = refl
+        go (broke f) = refl

@@ -12,7 +12,7 @@ use Rattle.reading.specs.declared.Budget.{Budget}
 use Rattle.reading.specs.declared.Inspection.{Inspection}
 use Rattle.reading.specs.declared.Limits.{Limits}
 use Rattle.reading.specs.declared.Presence.{Presence}
-use Rattle.reading.specs.declared.Fault.{Fault}
+use Rattle.reading.specs.declared.Break.{Break}
 use Rattle.reading.specs.declared.Head.{Head}
 use Rattle.reading.specs.declared.Part.{Part}
 use Rattle.reading.specs.declared.Record.{Record}
@@ -69,7 +69,7 @@ module _ (s : List ℕ) (head : Head) (e : head ≡ headed (header s false)) whe
     by-scan : reading s false ≡ scanned (head .found) (scanOf s (head .found))
     by-scan = ap (readFrom s) (head-done v) ∙ ap (scanned (head .found)) is-levels
 
-    pub read-fault : {f : Fault} → w ≡ Stop f → false ≡ isRead (reading s false)
+    pub read-fault : {f : Break} → w ≡ Stop f → false ≡ isRead (reading s false)
     read-fault p = sym (ap isRead (by-scan ∙ ap (scanned (head .found)) (E.refused (scanOf s (head .found)) g p)))
 
     pub read-done : w ≡ Done → true ≡ isRead (reading s false)

@@ -11,17 +11,18 @@ use lib.ListN.{length, take, length-append}
 use lib.IntN.{ℤ}
 use Rattle.reading.specs.declared.Fault.{Fault}
 use Rattle.reading.specs.declared.ScanCursor.{ScanCursor}
-use Rattle.reading.specs.Reader.{got, fault}
 use Rattle.reading.specs.Scan as scan
+use Rattle.reading.specs.Scan.{whole, broke}
+use Rattle.reading.specs.Code.Scans.{cursorOf, brokeAt}
 use Rattle.jpeg_scan_plan.specs.declared.Plan.{Plan}
 use Rattle.jpeg_scan_plan.specs.declared.Halt.{Halt}
 use Rattle.jpeg_scan_plan.specs.declared.Halt.the-variants.{No, Yes}
 use Rattle.jpeg_scan_plan.specs.declared.CursorRead.{CursorRead}
 use Rattle.jpeg_scan_plan.specs.Plans.{Stands}
-use Rattle.jpeg_scan_plan.specs.Marks.{restarted}
+use Rattle.jpeg_scan_plan.specs.Marks.{restarted, brokeIn}
 use Rattle.jpeg_scan.specs.Steps.{ahead, resumed, before, inked, Passed, Behind, Went}
 use Rattle.jpeg_scan_plan.proofs.Marks.{restart-done}
-use Rattle.jpeg_scan.proofs.Onward.{before-none, before-before, before-fault, before-got, ahead-none, wentBy, went-by, restart-next}
+use Rattle.jpeg_scan.proofs.Onward.{before-none, before-before, before-broke, before-whole, ahead-none, wentBy, went-by, restart-next}
 use Rattle.jpeg_scan.proofs.Samples.{inked-none, inked-not, inked-more}
 
 -- what was read of the scan before the cursor q, for a plan of the rules
@@ -50,9 +51,9 @@ module _ {s : List ℕ} {n : Plan} {write : Bool} {old : List ℕ} {q₀ : ScanC
     o : On s p n write old q₀ new q
     o = w .on p st
 
-    pub all-read : n .blocks ≤ q .done → ahead s p (n .blocks) q₀ ≡ got (w .on p st .levels) (q .bits)
+    pub all-read : n .blocks ≤ q .done → ahead s p (n .blocks) q₀ ≡ whole (w .on p st .levels) (cursorOf q)
     unfolding o
-    all-read h = o .same ∙ ap (before (o .levels)) (ahead-none s p (n .blocks) q h) ∙ before-got (o .levels) (q .bits)
+    all-read h = o .same ∙ ap (before (o .levels)) (ahead-none s p (n .blocks) q h) ∙ before-whole (o .levels) (cursorOf q)
 
     pub unchanged : write ≡ false → new ≡ old
     unchanged t = o .here ∙ ap (λ (b : Bool). inked b p 0 (o .levels) old) t ∙ inked-not p 0 (o .levels) old
@@ -64,11 +65,11 @@ module _ {s : List ℕ} {n : Plan} {write : Bool} {old : List ℕ} {q₀ : ScanC
     -- ---- the restart
 
     module _ {a : CursorRead} (e : a ≡ restarted s (n .interval) m q) where
-      on-from : (p : scan.Plan) (st : Stands (take (n .start) s) n p) {h : Halt} → a .halt ≡ h → ahead s p (n .blocks) q₀ ≡ before (o p st .levels) (wentBy h (a .cursor) (resumed s p (n .blocks)))
-      on-from p st g = o p st .same ∙ ap (before (o p st .levels)) (restart-next st s m (n .blocks) q at-mcu i ∙ went-by (sym e) g (resumed s p (n .blocks)))
+      on-from : (p : scan.Plan) (st : Stands (take (n .start) s) n p) {h : Halt} → a .halt ≡ h → ahead s p (n .blocks) q₀ ≡ before (o p st .levels) (wentBy q h (a .cursor) (resumed s p (n .blocks) q))
+      on-from p st g = o p st .same ∙ ap (before (o p st .levels)) (restart-next st s m (n .blocks) q at-mcu i ∙ went-by q (sym e) g (resumed s p (n .blocks) q))
 
-      pub stopped : (p : scan.Plan) (st : Stands (take (n .start) s) n p) {f : Fault} → a .halt ≡ Yes f → ahead s p (n .blocks) q₀ ≡ fault f
-      stopped p st {f} g = on-from p st g ∙ before-fault (o p st .levels) f
+      pub stopped : (p : scan.Plan) (st : Stands (take (n .start) s) n p) {f : Fault} → a .halt ≡ Yes f → ahead s p (n .blocks) q₀ ≡ broke (brokeAt q f)
+      stopped p st {f} g = on-from p st g ∙ before-broke (o p st .levels) (brokeAt q f)
 
       -- ---- the blocks
 
@@ -80,10 +81,10 @@ module _ {s : List ℕ} {n : Plan} {write : Bool} {old : List ℕ} {q₀ : ScanC
           behind : {h : Halt} → b .halt ≡ h → Behind s p n (a .cursor) write new h (b .cursor) new′
           behind k = subst (λ (h : Halt). Behind s p n (a .cursor) write new h (b .cursor) new′) k (v .each p m st (done-same ∙ at-mcu))
 
-          pub broken : {f : Fault} → b .halt ≡ Yes f → (ahead s p (n .blocks) q₀ ≡ fault f) × (write ≡ false → new′ ≡ old)
+          pub broken : {f : Fault} → b .halt ≡ Yes f → (ahead s p (n .blocks) q₀ ≡ broke (brokeIn q (b .cursor) f)) × (write ≡ false → new′ ≡ old)
           broken {f} k =
               let x : Behind s p n (a .cursor) write new (Yes f) (b .cursor) new′ = behind k in
-              (on-from p st g ∙ ap (before (o p st .levels)) (x .0) ∙ before-fault (o p st .levels) f, λ (t : write ≡ false). x .1 t ∙ unchanged p st t)
+              (on-from p st g ∙ ap (before (o p st .levels)) (x .0 q (sym done-same)) ∙ before-broke (o p st .levels) (brokeIn q (b .cursor) f), λ (t : write ≡ false). x .1 t ∙ unchanged p st t)
 
           module _ (k : b .halt ≡ No) where
             passed : Passed s p n (a .cursor) (b .cursor) write new new′
@@ -100,7 +101,7 @@ module _ {s : List ℕ} {n : Plan} {write : Bool} {old : List ℕ} {q₀ : ScanC
                 record {
                   levels = ls ++ ms;
                   count = length-append ls ms ∙ omega (arith, o p st .count, done-same, passed .place);
-                  same = on-from p st g ∙ ap (before ls) (passed .same) ∙ before-before ls ms (ahead s p (n .blocks) (b .cursor));
+                  same = on-from p st g ∙ ap (before ls) (passed .same q (sym done-same)) ∙ before-before ls ms (ahead s p (n .blocks) (b .cursor));
                   here =
                       passed .here ∙ ap₂ (λ (k : ℕ) (x : List ℕ). inked write p k ms x) z (o p st .here)
                       ∙ inked-more write p 0 ls ms old (λ (t : write ≡ true). omega arith);

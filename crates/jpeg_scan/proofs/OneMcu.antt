@@ -9,22 +9,25 @@ use native.Mathlib.Omega.{arith}
 use lib.Dec.{ltb}
 use lib.ListN.{length, getD, take, drop, length-append}
 use lib.IntN.{ℤ}
-use borrow.Author.Tests.{lt-ltb, ltb-true}
+use borrow.Author.Tests.{lt-ltb, ltb-true, ltb-false}
 use Rattle.reading.specs.declared.Bits.{Bits}
 use Rattle.reading.specs.declared.BlockRead.{BlockRead}
 use Rattle.reading.specs.declared.BlockRead.the-variants.{Got, Stop}
 use Rattle.reading.specs.declared.Fault.{Fault}
 use Rattle.reading.specs.declared.ScanCursor.{ScanCursor}
-use Rattle.reading.specs.Reader.{fault}
 use Rattle.reading.specs.Code.Places.{places}
 use Rattle.reading.specs.Code.Answers.{said, levelsOf}
 use Rattle.reading.specs.Code.Painted.{samplesTo}
 use Rattle.reading.specs.Scan as scan
+use Rattle.reading.specs.Scan.{broke}
+use Rattle.reading.specs.Code.Scans.{brokeAt}
 use Rattle.jpeg_scan_plan.specs.declared.Plan.{Plan}
 use Rattle.jpeg_scan_plan.specs.Plans.{chan, Stands}
+use Rattle.jpeg_scan_plan.specs.Marks.{brokeIn}
 use Rattle.jpeg_scan.specs.Steps.{ahead, resumed, before, placed, inked, Passed}
 use Rattle.jpeg_scan_plan.proofs.Standing.{chan-below}
-use Rattle.jpeg_scan.proofs.Onward.{before-none, before-before, before-fault, ahead-none, resumed-none, inside, channel-here, blockAt, past, block-stop, block-next, block-reach}
+use Rattle.jpeg_scan_plan.proofs.Marks.{broke-first, broke-later}
+use Rattle.jpeg_scan.proofs.Onward.{before-none, before-before, before-broke, ahead-none, resumed-none, inside, channel-here, blockAt, past, block-stop, block-next, block-reach}
 use Rattle.jpeg_scan.proofs.Samples.{inked-not, inked-none, inked-more, inked-one, painted-length}
 
 -- the bytes that have the tables
@@ -79,12 +82,25 @@ module _ {A : Type 0} (j : ℕ) (x y : A) where
       go true = refl
       go false = e
 
-  pub entered-here : (0 < j → x ≡ y) → entered j x y ≡ y
+-- the cursor before the turn of block j: where the block is to be read, and before the first block `turn`, which is before the restart
+abbrev pub turnOf : ℕ → ScanCursor → ScanCursor → ScanCursor
+turnOf j turn q = entered j q turn
+
+module _ {A : Type 0} (j : ℕ) (x : A) (y : ScanCursor → A) (turn q : ScanCursor) where
+  pub entered-here : (0 < j → x ≡ y q) → entered j x (y turn) ≡ y (turnOf j turn q)
   entered-here f = go (ltb 0 j) refl
     where
-      go : (t : Bool) → ltb 0 j ≡ t → cond t x y ≡ y
+      go : (t : Bool) → ltb 0 j ≡ t → cond t x (y turn) ≡ y (cond t q turn)
       go true l = f (ltb-true 0 j l)
       go false l = refl
+
+-- what a fault in block j names
+pub turn-names : {n : Plan} {from q : ScanCursor} {j : ℕ} → Along n from q j → (turn : ScanCursor) → turn .done ≡ from .done → (f : Fault) → brokeAt (turnOf j turn q) f ≡ brokeIn turn q f
+turn-names {n} {from} {q} {j} a turn d f = go (ltb 0 j) refl
+  where
+    go : (t : Bool) → ltb 0 j ≡ t → brokeAt (cond t q turn) f ≡ brokeIn turn q f
+    go true l = sym (broke-later turn q f (λ (z : q .done ≡ turn .done). omega (arith, z, d, a .place, ltb-true 0 j l)))
+    go false l = sym (broke-first turn q f (omega (arith, d, a .place, ltb-false 0 j l)))
 
 -- ---- the blocks and their samples
 
@@ -92,7 +108,10 @@ module _ {A : Type 0} (j : ℕ) (x y : A) where
 pub record On (s : List ℕ) (p : scan.Plan) (n : Plan) (write : Bool) (old : List ℕ) (from : ScanCursor) (new : List ℕ) (q : ScanCursor) (j : ℕ) : Type 0 where
   pub levels : List (List ℤ)
   pub count : length levels ≡ j
-  pub same : resumed s p (n .blocks) from ≡ before levels (entered j (ahead s p (n .blocks) q) (resumed s p (n .blocks) q))
+  pub same :
+      (turn : ScanCursor)
+      → turn .done ≡ from .done
+      → resumed s p (n .blocks) turn from ≡ before levels (entered j (ahead s p (n .blocks) q) (resumed s p (n .blocks) turn q))
   pub here : new ≡ inked write p (from .done) levels old
 
 -- before block j: `from` is the cursor and `old` the scratch at the start of the MCU, q and `new` are those now
@@ -107,7 +126,7 @@ begin s n write old q =
       size = refl;
       along = along-none n q;
       on = λ p m st e.
-          record { levels = []; count = refl; same = sym (before-none (resumed s p (n .blocks) q)); here = sym (inked-none write p (q .done) old) };
+          record { levels = []; count = refl; same = λ turn d. sym (before-none (resumed s p (n .blocks) turn q)); here = sym (inked-none write p (q .done) old) };
     }
 
 module _ {s : List ℕ} {n : Plan} {write : Bool} {old : List ℕ} {from : ScanCursor} {new : List ℕ} {q : ScanCursor} {j : ℕ} (w : Walk s n write old from new q j) where
@@ -120,51 +139,54 @@ module _ {s : List ℕ} {n : Plan} {write : Bool} {old : List ℕ} {from : ScanC
 
     -- ---- the last block is read
 
-    finish : entered j (ahead s p (n .blocks) q) (resumed s p (n .blocks) q) ≡ ahead s p (n .blocks) q → j ≡ min (n .per) (n .blocks - from .done) → Passed s p n from q write old new
+    finish : ((turn : ScanCursor) → entered j (ahead s p (n .blocks) q) (resumed s p (n .blocks) turn q) ≡ ahead s p (n .blocks) q) → j ≡ min (n .per) (n .blocks - from .done) → Passed s p n from q write old new
     finish a c =
         record {
           levels = o .levels;
           count = o .count ∙ c;
           place = w .along .place ∙ ap (λ (k : ℕ). from .done + k) (sym (o .count));
-          same = o .same ∙ ap (before (o .levels)) a;
+          same = λ turn d. o .same turn d ∙ ap (before (o .levels)) (a turn);
           here = o .here;
         }
 
     -- of the MCU
     pub whole : n .per ≤ j → Passed s p n from q write old new
-    whole h = finish (entered-later j _ _ (omega (arith, st .some))) (along-whole (w .along) h)
+    whole h = finish (λ turn. entered-later j _ _ (omega (arith, st .some))) (along-whole (w .along) h)
 
     -- of the scan
     pub out : n .blocks ≤ q .done → Passed s p n from q write old new
-    out h = finish (entered-out j _ _ (resumed-none s p (n .blocks) q h ∙ sym (ahead-none s p (n .blocks) q h))) (along-out (w .along) h)
+    out h = finish (λ turn. entered-out j _ _ (resumed-none s p (n .blocks) turn q h ∙ sym (ahead-none s p (n .blocks) q h))) (along-out (w .along) h)
 
     -- ---- block j is read
 
-    behind : j < n .per → entered j (ahead s p (n .blocks) q) (resumed s p (n .blocks) q) ≡ resumed s p (n .blocks) q
-    behind h = entered-here j _ _ (λ (l : 0 < j). inside st s m j (n .blocks) q at l h)
+    behind : (turn : ScanCursor) → j < n .per → entered j (ahead s p (n .blocks) q) (resumed s p (n .blocks) turn q) ≡ resumed s p (n .blocks) (turnOf j turn q) q
+    behind turn h = entered-here j _ (λ (c : ScanCursor). resumed s p (n .blocks) c q) turn q (λ (l : 0 < j). inside st s m j (n .blocks) q at l h)
 
     module _ (h : j < n .per) (i : q .done < n .blocks) {c : ℕ} (u : c ≡ chan (n .lumas) j) {x : BlockRead} (v : x ≡ said (blockAt (head n s) n s c q)) where
       few-c : c < 3
       few-c = below (n .lumas) j u
 
-      pub broken : {f : Fault} → x ≡ Stop f → (resumed s p (n .blocks) from ≡ fault f) × (write ≡ false → new ≡ old)
+      pub broken : {f : Fault} → x ≡ Stop f
+          → ((turn : ScanCursor) → turn .done ≡ from .done → resumed s p (n .blocks) turn from ≡ broke (brokeIn turn q f)) × (write ≡ false → new ≡ old)
       broken {f} g = (
-        o .same ∙ ap (before (o .levels)) (behind h ∙ block-stop st s m j (n .blocks) q at h i c u few-c v g) ∙ before-fault (o .levels) f,
+        λ turn d. o .same turn d
+            ∙ ap (before (o .levels)) (behind turn h ∙ block-stop st s m j (n .blocks) (turnOf j turn q) q at h i c u few-c v g ∙ ap broke (turn-names (w .along) turn d f))
+            ∙ before-broke (o .levels) (brokeIn turn q f),
         λ (t : write ≡ false). o .here ∙ ap (λ (b : Bool). inked b p (from .done) (o .levels) old) t ∙ inked-not p (from .done) (o .levels) old,
       )
 
       more : {b : Bits} {z : ℤ} {k : ℕ} → x ≡ Got b z k → {l : List ℤ} → l ≡ levelsOf (blockAt (head n s) n s c q) → {new′ : List ℕ} → new′ ≡ paintedAt n s c q write l k new
           → (write ≡ true → 64 * n .blocks ≤ length old) → On s p n write old from new′ (past q c z b) (j + 1)
       more {b} {z} {k} g {l} y {new′} d room =
-          let next : resumed s p (n .blocks) q ≡ before (l ∷ []) (ahead s p (n .blocks) (past q c z b)) =
-          block-next st s m j (n .blocks) q at h i c u few-c v g ∙ ap (λ (r : List ℤ). before (r ∷ []) (ahead s p (n .blocks) (past q c z b))) (sym y) in
-          let reach : k ≡ places l = block-reach st s m j (n .blocks) q at h i c u few-c v g ∙ ap places (sym y) in
+          let next : (turn : ScanCursor) → resumed s p (n .blocks) turn q ≡ before (l ∷ []) (ahead s p (n .blocks) (past q c z b)) =
+          λ turn. block-next st s m j (n .blocks) turn q at h i c u few-c v g ∙ ap (λ (r : List ℤ). before (r ∷ []) (ahead s p (n .blocks) (past q c z b))) (sym y) in
+          let reach : k ≡ places l = block-reach st s m j (n .blocks) q q at h i c u few-c v g ∙ ap places (sym y) in
           let place : q .done ≡ from .done + length (o .levels) = w .along .place ∙ ap (λ (a : ℕ). from .done + a) (sym (o .count)) in
           record {
             levels = o .levels ++ (l ∷ []);
             count = length-append (o .levels) (l ∷ []) ∙ ap (λ (a : ℕ). a + 1) (o .count);
             same =
-                o .same ∙ ap (before (o .levels)) (behind h ∙ next) ∙ before-before (o .levels) (l ∷ []) (ahead s p (n .blocks) (past q c z b))
+                λ turn d. o .same turn d ∙ ap (before (o .levels)) (behind turn h ∙ next (turnOf j turn q)) ∙ before-before (o .levels) (l ∷ []) (ahead s p (n .blocks) (past q c z b))
                 ∙ ap (before (o .levels ++ (l ∷ []))) (sym (entered-later (j + 1) _ _ (omega arith)));
             here =
                 d ∙ inked-one write p (q .done) c (take 64 (drop (getD (n .quants) c 0) (head n s))) l k new (channel-here st s m j (q .done) at h ∙ sym u) (st .quant-is c few-c) reach

@@ -9,43 +9,46 @@ use Rattle.reading.specs.declared.Bits.{Bits}
 use Rattle.reading.specs.declared.Record.{Record}
 use Rattle.reading.specs.declared.ScanCursor.{ScanCursor}
 use Rattle.reading.specs.Tests.{over}
-use Rattle.reading.specs.Reader.{Read, got, fault, Reader, _>>=_, give}
 use Rattle.reading.specs.Bits.{Source, file}
 use Rattle.reading.specs.Block.{block}
 use Rattle.reading.specs.Layout.{channelOf}
 use Rattle.reading.specs.Scan as scan
-use Rattle.reading.specs.Code.Scans.{scanOf}
+use Rattle.reading.specs.Scan.{Cursor, Scanned, whole, broke, here, onwards}
+use Rattle.reading.specs.Code.Scans.{cursorOf, scanOf}
 use Rattle.reading.specs.Reading.{dequantized, blockSamples, allSamples}
 use Rattle.jpeg_scan_plan.specs.declared.Plan.{Plan}
 use Rattle.jpeg_scan_plan.specs.declared.Halt.{Halt}
 use Rattle.jpeg_scan_plan.specs.declared.Halt.the-variants.{No, Yes}
 use Rattle.jpeg_scan_plan.specs.declared.CursorRead.{CursorRead}
 use Rattle.jpeg_scan_plan.specs.Plans.{Stands}
+use Rattle.jpeg_scan_plan.specs.Marks.{brokeIn}
 
 -- ---- the blocks from a cursor on
 
--- n more blocks from block k on, the restart before the first of them done
-abbrev pub begun : {S : Type 0} → Source S → scan.Plan → ℕ → ℕ → List ℤ → Reader S (List (List ℤ))
-begun src p zero k ps = give []
-begun src p (suc n) k ps =
-    let c = channelOf (p .shape) k in
+-- n more blocks from the cursor q on, the restart before the first of them done; `turn` is the cursor before it, which a fault in the first
+-- block names
+abbrev pub begun : {S : Type 0} → Source S → scan.Plan → ℕ → Cursor S → Cursor S → Scanned (Cursor S) (List (List ℤ))
+begun src p zero turn q = whole [] q
+begun src p (suc n) turn q =
+    let c = channelOf (p .shape) (q .done) in
     let ch = p .channels c in
-    block (src .next) (ch .dc) (ch .ac) (getD ps c (pos 0)) >>= λ l. scan.blocks src p n (suc k) (set ps c (getD l 0 (pos 0))) >>= λ ls. give (l ∷ ls)
+    onwards (here src turn (block (src .next) (ch .dc) (ch .ac) (getD (q .predictors) c (pos 0)) (q .bits))) (λ l s.
+    onwards (scan.readOn src p n (record { bits = s; predictors = set (q .predictors) c (getD l 0 (pos 0)); done = suc (q .done) })) (λ ls e. whole (l ∷ ls) e))
 
 -- the blocks from a cursor on, of n blocks in all
-unfoldable pub ahead : List ℕ → scan.Plan → ℕ → ScanCursor → Read Bits (List (List ℤ))
+unfoldable pub ahead : List ℕ → scan.Plan → ℕ → ScanCursor → Scanned (Cursor Bits) (List (List ℤ))
 unfolding file
-ahead s p n q = scan.blocks (file s) p (n - q .done) (q .done) (q .predictors) (q .bits)
+ahead s p n q = scan.readOn (file s) p (n - q .done) (cursorOf q)
 
 -- the same, the restart before the first of them done
-unfoldable pub resumed : List ℕ → scan.Plan → ℕ → ScanCursor → Read Bits (List (List ℤ))
+unfoldable pub resumed : List ℕ → scan.Plan → ℕ → ScanCursor → ScanCursor → Scanned (Cursor Bits) (List (List ℤ))
 unfolding file
-resumed s p n q = begun (file s) p (n - q .done) (q .done) (q .predictors) (q .bits)
+resumed s p n turn q = begun (file s) p (n - q .done) (cursorOf turn) (cursorOf q)
 
 -- blocks that were read, put before those that are read
-unfoldable pub before : List (List ℤ) → Read Bits (List (List ℤ)) → Read Bits (List (List ℤ))
-before ls (got ms b) = got (ls ++ ms) b
-before ls (fault f) = fault f
+unfoldable pub before : List (List ℤ) → Scanned (Cursor Bits) (List (List ℤ)) → Scanned (Cursor Bits) (List (List ℤ))
+before ls (whole ms e) = whole (ls ++ ms) e
+before ls (broke w) = broke w
 
 -- ---- the scratch
 
@@ -61,17 +64,18 @@ inked true p k ls old = placed (64 * k) (blockSamples (dequantized p k ls)) old
 
 -- ---- what the blocks of one MCU leave
 
--- they were read: as many as an MCU has, or as are left
+-- they were read: as many as an MCU has, or as are left; whatever cursor stood before the restart
 pub record Passed (s : List ℕ) (p : scan.Plan) (n : Plan) (from q : ScanCursor) (write : Bool) (old new : List ℕ) : Type 0 where
   pub levels : List (List ℤ)
   pub count : length levels ≡ min (n .per) (n .blocks - from .done)
   pub place : q .done ≡ from .done + length levels
-  pub same : resumed s p (n .blocks) from ≡ before levels (ahead s p (n .blocks) q)
+  pub same : (turn : ScanCursor) → turn .done ≡ from .done → resumed s p (n .blocks) turn from ≡ before levels (ahead s p (n .blocks) q)
   pub here : new ≡ inked write p (from .done) levels old
 
 abbrev pub Behind : List ℕ → scan.Plan → Plan → ScanCursor → Bool → List ℕ → Halt → ScanCursor → List ℕ → Type 0
 Behind s p n from write old No q new = Passed s p n from q write old new
-Behind s p n from write old (Yes f) q new = (resumed s p (n .blocks) from ≡ fault f) × (write ≡ false → new ≡ old)
+Behind s p n from write old (Yes f) q new =
+    ((turn : ScanCursor) → turn .done ≡ from .done → resumed s p (n .blocks) turn from ≡ broke (brokeIn turn q f)) × (write ≡ false → new ≡ old)
 
 -- for every plan of the rules that the numbers stand for, where an MCU starts at the cursor
 pub record Went (s : List ℕ) (n : Plan) (from : ScanCursor) (write : Bool) (old : List ℕ) (r : CursorRead) (new : List ℕ) : Type 0 where
@@ -83,4 +87,4 @@ pub record Went (s : List ℕ) (n : Plan) (from : ScanCursor) (write : Bool) (ol
 abbrev pub Left : Bool → List ℕ → Record → List ℕ → List ℕ → Type 0
 Left false s r old new = new ≡ old
 Left true s r old new =
-    (ls : List (List ℤ)) (b : Bits) → scanOf s r ≡ got ls b → new ≡ over (allSamples s r ls) old
+    (ls : List (List ℤ)) (b : Bits) → scanOf s r ≡ whole ls b → new ≡ over (allSamples s r ls) old

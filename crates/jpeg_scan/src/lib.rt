@@ -12,6 +12,7 @@ use jpeg_scan_plan::CursorRead;
 use jpeg_scan_plan::Halt;
 use jpeg_scan_plan::Plan;
 use reading::BlockRead;
+use reading::Break;
 use reading::Fault;
 use reading::Record;
 use reading::ScanCursor;
@@ -101,7 +102,7 @@ fn run(s: &[u8], found: Record, write: bool, scratch: &mut [u8]) -> ScanRead
     let interval = plan.interval;
     let blocks = plan.blocks;
     if plan.per == 0 {
-        return ScanRead::Stop(Fault::Broken);
+        return ScanRead::Stop(Break::nowhere());
     }
     let mut cursor = ScanCursor::fresh(plan.start);
     let mut m = 0usize;
@@ -110,20 +111,20 @@ fn run(s: &[u8], found: Record, write: bool, scratch: &mut [u8]) -> ScanRead
             if jpeg_scan_plan::at_end(s, cursor.bits) {
                 break 'mcus ScanRead::Done;
             }
-            break 'mcus ScanRead::Stop(Fault::Broken);
+            break 'mcus ScanRead::Stop(cursor.broke(Fault::Broken));
         }
         let a = jpeg_scan_plan::restart(s, cursor, m, interval);
         let h = a.halt;
         match h {
             Halt::Yes(f) => {
-                break 'mcus ScanRead::Stop(f);
+                break 'mcus ScanRead::Stop(cursor.broke(f));
             }
             Halt::No => {
                 let b = mcu(s, plan, a.cursor, write, scratch);
                 let g = b.halt;
                 match g {
                     Halt::Yes(f) => {
-                        break 'mcus ScanRead::Stop(f);
+                        break 'mcus ScanRead::Stop(jpeg_scan_plan::broke_in(cursor, b.cursor, f));
                     }
                     Halt::No => {
                         cursor = b.cursor;

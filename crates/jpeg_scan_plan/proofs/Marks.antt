@@ -8,6 +8,7 @@ use lib.Dec.{eqb, ltb}
 use lib.ListN.{length, getD, drop}
 use borrow.Author.Tests.{eq-eqb, ne-eqb, lt-ltb, le-ltb}
 use Rattle.reading.specs.declared.Bits.{Bits}
+use Rattle.reading.specs.declared.Fault.{Fault}
 use Rattle.reading.specs.declared.Fault.the-variants.{Broken}
 use Rattle.reading.specs.declared.ScanCursor.{ScanCursor}
 use Rattle.reading.specs.Reader.{Read, got, fault, rule}
@@ -15,12 +16,13 @@ use Rattle.reading.specs.Tests.{isAt}
 use Rattle.reading.specs.Bits.{padded, fulls, mark, file, firstBit}
 use Rattle.reading.specs.Layout.{dueBefore, restartBefore}
 use Rattle.reading.specs.Scan.{closed}
+use Rattle.reading.specs.Code.Scans.{brokeAt}
 use Rattle.reading.proofs.Restarts.{is-at, is-out}
 use Rattle.reading.proofs.Marks.{Ended, ended, unended, closed-ended}
 use Rattle.jpeg_scan_plan.specs.declared.CursorRead.{CursorRead}
 use Rattle.jpeg_scan_plan.specs.declared.Mark.{Mark}
 use Rattle.jpeg_scan_plan.specs.declared.Mark.the-variants.{Missing, Behind}
-use Rattle.jpeg_scan_plan.specs.Marks.{looked, passes, closes, onTo, behindMarker, restarted}
+use Rattle.jpeg_scan_plan.specs.Marks.{looked, passes, closes, onTo, behindMarker, restarted, brokeIn}
 
 abbrev nothing : Unit {0}
 nothing = tt
@@ -110,3 +112,14 @@ restart-done s interval m q e = ap (λ (x : CursorRead). x .cursor .done) e ∙ 
     go true (got _ b) = refl
     go true (fault f) = refl
     go false r = refl
+
+-- ---- what a fault in an MCU names
+
+module _ (before here : ScanCursor) (f : Fault) where
+  pub broke-first : here .done ≡ before .done → brokeIn before here f ≡ brokeAt before f
+  unfolding brokeIn
+  broke-first e = rw (eq-eqb (here .done) (before .done) e) refl
+
+  pub broke-later : (here .done ≡ before .done → ⊥) → brokeIn before here f ≡ brokeAt here f
+  unfolding brokeIn
+  broke-later n = rw (ne-eqb (here .done) (before .done) n) refl

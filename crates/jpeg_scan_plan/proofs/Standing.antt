@@ -9,13 +9,11 @@ use lib.Dec.{T, leb, ltb, eqb, leb→le}
 use lib.ListN.{length, getD, take, drop}
 use borrow.Author.Tests.{lt-ltb, le-ltb, eq-eqb, ne-eqb, ltb-false, eqb-true, eqb-false}
 use Rattle.reading.specs.declared.Record.{Record}
-use Rattle.reading.specs.declared.Fault.the-variants.{Broken}
 use Rattle.reading.specs.Tests.{_and_, within}
-use Rattle.reading.specs.Reader.{fault}
 use Rattle.reading.specs.Huffman.{tableAt}
 use Rattle.reading.specs.Tables.{quantAt, dcAt, acAt}
-use Rattle.reading.specs.Scan.{planOf}
-use Rattle.reading.specs.Code.Scans.{readable, scanOf}
+use Rattle.reading.specs.Scan.{planOf, broke}
+use Rattle.reading.specs.Code.Scans.{nowhere, readable, scanOf}
 use Rattle.reading.proofs.Plain.{and-left, and-right}
 use Rattle.reading.proofs.Fits.{within-known}
 use Rattle.reading.proofs.Places.{per-is, channel-at}
@@ -147,11 +145,11 @@ module _ (s : List ℕ) (r : Record) where
           }
       go false x = absurd (h (ap (λ (k : Plan). k .per) (e ∙ plan-none x)))
 
-  pub unready : {n : Plan} → n ≡ planFor s r → n .per ≡ 0 → scanOf s r ≡ fault Broken
+  pub unready : {n : Plan} → n ≡ planFor s r → n .per ≡ 0 → scanOf s r ≡ broke nowhere
   unfolding scanOf
   unready {n} e h = go (readable s r) refl
     where
-      go : (t : Bool) → readable s r ≡ t → scanOf s r ≡ fault Broken
+      go : (t : Bool) → readable s r ≡ t → scanOf s r ≡ broke nowhere
       go false x = rw x
       go true x =
           let a : 1 ≤ r .hs * r .vs = lumas-some (readable-says s r x) in

@@ -8,8 +8,9 @@ ghost use Rattle.reading.specs.Layout.{dueBefore, restartBefore};
 ghost use Rattle.reading.specs.Tables.{chosen};
 ghost use Rattle.reading.specs.Code.Scans.{readable};
 ghost use Rattle.jpeg_scan_plan.specs.Plans.{three, noPlan, planFor, chan};
-ghost use Rattle.jpeg_scan_plan.specs.Marks.{looked, closes, restarted};
+ghost use Rattle.jpeg_scan_plan.specs.Marks.{looked, closes, restarted, brokeIn};
 use reading::Bits;
+use reading::Break;
 use reading::Fault;
 use reading::Record;
 use reading::ScanCursor;
@@ -242,6 +243,17 @@ pub fn restart(s: &[u8], from: ScanCursor, m: usize, interval: usize) -> CursorR
             },
         },
     }
+}
+
+// A fault in the MCU before which a scan stood at `before`, once its restart was done: `here` is where the block that broke was to be
+// read. The turn of an MCU's first block begins before the restart, that of a later one where the block before it ended.
+pub fn broke_in(before: ScanCursor, here: ScanCursor, f: Fault) -> Break
+    ensures { λ r. ⌜ r ≡ brokeIn before here f ⌝ }
+{
+    if here.done == before.done {
+        return before.broke(f);
+    }
+    here.broke(f)
 }
 
 // The quantizer at a place: its 64 bytes, or those that there are.

@@ -12,8 +12,7 @@ use lib.ListN.{length, take, drop, set, getD, take-append-drop, drop-of-length-l
 use lib.Seq.{set-at, drop-at, drop-cons, drop-drop, take-suc, take-all, length-take-le}
 use Rattle.reading.specs.declared.Bits.{Bits}
 use Rattle.reading.specs.declared.Budget.{Budget}
-use Rattle.reading.specs.declared.Fault.{Fault}
-use Rattle.reading.specs.declared.Fault.the-variants.{Broken}
+use Rattle.reading.specs.declared.Break.{Break}
 use Rattle.reading.specs.declared.Record.{Record}
 use Rattle.reading.specs.declared.Refusal.the-variants.{TooLong, ShortRoom, NoEndCode, Scan}
 use Rattle.reading.specs.declared.ScanSettled.{ScanSettled}
@@ -21,9 +20,9 @@ use Rattle.reading.specs.declared.ScanSettled.the-variants.{Done, Lacking, Stop
 use Rattle.reading.specs.declared.Settling.{Settling}
 use Rattle.reading.specs.declared.Verdict.the-variants.{Accepted, Refused}
 use Rattle.reading.specs.Tests.{_and_, over}
-use Rattle.reading.specs.Reader.{Read, got, fault}
+use Rattle.reading.specs.Scan.{Scanned, whole, broke}
 use Rattle.reading.specs.Scan.{levels, planOf}
-use Rattle.reading.specs.Code.Scans.{readable, scanOf, settledRead, settledOf, scanSettled, laidOver}
+use Rattle.reading.specs.Code.Scans.{nowhere, readable, scanOf, settledRead, settledOf, scanSettled, laidOver}
 use Rattle.reading.specs.Settled.{settledScan}
 use Rattle.reading.specs.Calls.{Rewritten, unsettled}
 use Rattle.reading.proofs.Counted.{scan-levels}
@@ -53,14 +52,14 @@ module _ (s out : List ℕ) (i : ℕ) where
 -- ---- the scan's place
 
 -- nothing is laid over an empty part
-none-laid : (t : Read Bits (Option (List ℕ))) → laidOver t [] ≡ []
+none-laid : (t : Scanned Bits (Option (List ℕ))) → laidOver t [] ≡ []
 unfolding laidOver
-none-laid (got none b) = refl
-none-laid (got (some []) b) = refl
-none-laid (got (some (x ∷ t)) b) = ap (λ q. cond q [] (over (x ∷ t) [])) (lt-ltb 0 (suc (length t)) (omega arith))
-none-laid (fault f) = refl
+none-laid (whole none b) = refl
+none-laid (whole (some []) b) = refl
+none-laid (whole (some (x ∷ t)) b) = ap (λ q. cond q [] (over (x ∷ t) [])) (lt-ltb 0 (suc (length t)) (omega arith))
+none-laid (broke f) = refl
 
-pub laid-short : (start : ℕ) (t : Read Bits (Option (List ℕ))) (out part : List ℕ) → length out < start → part ≡ laidOver t [] → part ++ out ≡ scanLaid start t out
+pub laid-short : (start : ℕ) (t : Scanned Bits (Option (List ℕ))) (out part : List ℕ) → length out < start → part ≡ laidOver t [] → part ++ out ≡ scanLaid start t out
 unfolding scanLaid
 laid-short start t out part h e = ap (λ l. l ++ out) (e ∙ none-laid t) ∙ sym short
   where
@@ -68,7 +67,7 @@ laid-short start t out part h e = ap (λ l. l ++ out) (e ∙ none-laid t) ∙ sy
     short = rw (lt-ltb (length out) start h) refl
 
 -- (the part that is lent is all that lies behind the start)
-pub laid-long : (start : ℕ) (t : Read Bits (Option (List ℕ))) (out part : List ℕ) → start ≤ length out → part ≡ laidOver t (take (length out - start) (drop start out)) → take start out ++ (part ++ drop (length out - start) (drop start out)) ≡ scanLaid start t out
+pub laid-long : (start : ℕ) (t : Scanned Bits (Option (List ℕ))) (out part : List ℕ) → start ≤ length out → part ≡ laidOver t (take (length out - start) (drop start out)) → take start out ++ (part ++ drop (length out - start) (drop start out)) ≡ scanLaid start t out
 unfolding scanLaid
 laid-long start t out part h e =
     ap (λ l. take start out ++ (part ++ l)) (drop-of-length-le (drop start out) {i = length out - start} few)
@@ -85,16 +84,16 @@ kept start out true = refl
 kept start out false = take-append-drop start out
 
 -- a refusal leaves the buffer as it was
-laid-stop : (start : ℕ) (g : Fault) (out : List ℕ) → scanLaid start (fault g) out ≡ out
+laid-stop : (start : ℕ) (g : Break) (out : List ℕ) → scanLaid start (broke g) out ≡ out
 unfolding scanLaid laidOver
 laid-stop start g out = kept start out (ltb (length out) start)
 
-laid-none : (start : ℕ) (b : Bits) (out : List ℕ) → scanLaid start (got none b) out ≡ out
+laid-none : (start : ℕ) (b : Bits) (out : List ℕ) → scanLaid start (whole none b) out ≡ out
 unfolding scanLaid laidOver
 laid-none start b out = kept start out (ltb (length out) start)
 
 -- and so is one that is too short for the file
-laid-not : (start : ℕ) (t : List ℕ) (b : Bits) (out : List ℕ) → length out < start + length t → scanLaid start (got (some t) b) out ≡ out
+laid-not : (start : ℕ) (t : List ℕ) (b : Bits) (out : List ℕ) → length out < start + length t → scanLaid start (whole (some t) b) out ≡ out
 unfolding scanLaid laidOver
 laid-not start t b out h = go (ltb (length out) start) refl
   where
@@ -103,7 +102,7 @@ laid-not start t b out h = go (ltb (length out) start) refl
     go false e = rw (lt-ltb (length (drop start out)) (length t) (omega (arith, length-drop start out, ltb-false (length out) start e))) (take-append-drop start out)
 
 -- else the scan lies at its place
-laid-all : (start : ℕ) (t : List ℕ) (b : Bits) (out : List ℕ) → start + length t ≤ length out → scanLaid start (got (some t) b) out ≡ take start out ++ (t ++ drop (length t) (drop start out))
+laid-all : (start : ℕ) (t : List ℕ) (b : Bits) (out : List ℕ) → start + length t ≤ length out → scanLaid start (whole (some t) b) out ≡ take start out ++ (t ++ drop (length t) (drop start out))
 unfolding scanLaid laidOver
 laid-all start t b out h = rw (le-ltb (length out) start (omega (arith, h)), le-ltb (length (drop start out)) (length t) (omega (arith, length-drop start out, h))) refl
 
@@ -119,7 +118,7 @@ module _ (s : List ℕ) (start n : ℕ) (rest : Budget) (out : List ℕ) where
   joined-all h e = ap (remade (record { verdict = Accepted; budget = rest; length = start + n })) e ∙ sym (rw (le-ltb (length out) (start + n) h) refl)
 
 -- both are what the settled file makes of the buffer
-join-is : (s : List ℕ) (start : ℕ) (t : List ℕ) (b : Bits) (rest : Budget) (out : List ℕ) → start ≤ length s → joined s start (length t) rest (scanLaid start (got (some t) b) out) ≡ settledInto out rest (some (take start s ++ t))
+join-is : (s : List ℕ) (start : ℕ) (t : List ℕ) (b : Bits) (rest : Budget) (out : List ℕ) → start ≤ length s → joined s start (length t) rest (scanLaid start (whole (some t) b) out) ≡ settledInto out rest (some (take start s ++ t))
 unfolding joined
 join-is s start t b rest out h = go (ltb (length out) (start + length t)) refl
   where
@@ -135,7 +134,7 @@ join-is s start t b rest out h = go (ltb (length out) (start + length t)) refl
     laid : List ℕ
     laid = take start out ++ (t ++ drop (length t) (drop start out))
 
-    go : (q : Bool) → ltb (length out) (start + length t) ≡ q → joined s start (length t) rest (scanLaid start (got (some t) b) out) ≡ settledInto out rest (some (take start s ++ t))
+    go : (q : Bool) → ltb (length out) (start + length t) ≡ q → joined s start (length t) rest (scanLaid start (whole (some t) b) out) ≡ settledInto out rest (some (take start s ++ t))
     go true e = ap (joined s start (length t) rest) (laid-not start t b out (ltb-true (length out) (start + length t) e)) ∙ here ∙ sym (counted ∙ there)
       where
         here : joined s start (length t) rest out ≡ unsettled ShortRoom rest (start + length t) out
@@ -179,57 +178,57 @@ IsStop Lacking = ⊥
 IsStop (Stop f) = Unit {0}
 
 -- a scan that was settled to n bytes
-record Laid (o : Read Bits (Option (List ℕ))) (n : ℕ) : Type 0 where
+record Laid (o : Scanned Bits (Option (List ℕ))) (n : ℕ) : Type 0 where
   bytes : List ℕ
   place : Bits
-  is : o ≡ got (some bytes) place
+  is : o ≡ whole (some bytes) place
   long : n ≡ length bytes
 
-done-laid : (o : Read Bits (Option (List ℕ))) (n : ℕ) → Done n ≡ scanSettled o → Laid o n
+done-laid : (o : Scanned Bits (Option (List ℕ))) (n : ℕ) → Done n ≡ scanSettled o → Laid o n
 unfolding scanSettled
-done-laid (got none b) n e = absurd (subst IsDone e tt)
-done-laid (got (some t) b) n e = let same : n ≡ length t = cc in record { bytes = t; place = b; is = refl; long = same }
-done-laid (fault f) n e = absurd (subst IsDone e tt)
+done-laid (whole none b) n e = absurd (subst IsDone e tt)
+done-laid (whole (some t) b) n e = let same : n ≡ length t = cc in record { bytes = t; place = b; is = refl; long = same }
+done-laid (broke f) n e = absurd (subst IsDone e tt)
 
-stop-laid : (o : Read Bits (Option (List ℕ))) (g : Fault) → Stop g ≡ scanSettled o → o ≡ fault g
+stop-laid : (o : Scanned Bits (Option (List ℕ))) (g : Break) → Stop g ≡ scanSettled o → o ≡ broke g
 unfolding scanSettled
-stop-laid (got none b) g e = absurd (subst IsStop e tt)
-stop-laid (got (some t) b) g e = absurd (subst IsStop e tt)
-stop-laid (fault h) g e = let same : g ≡ h = cc in ap fault (sym same)
+stop-laid (whole none b) g e = absurd (subst IsStop e tt)
+stop-laid (whole (some t) b) g e = absurd (subst IsStop e tt)
+stop-laid (broke h) g e = let same : g ≡ h = cc in ap broke (sym same)
 
 abbrev IsNone : ScanSettled → Type 0
 IsNone (Done n) = ⊥
 IsNone Lacking = Unit {0}
 IsNone (Stop f) = ⊥
 
-none-laid-of : (o : Read Bits (Option (List ℕ))) → Lacking ≡ scanSettled o → (b : Bits) × (o ≡ got none b)
+none-laid-of : (o : Scanned Bits (Option (List ℕ))) → Lacking ≡ scanSettled o → (b : Bits) × (o ≡ whole none b)
 unfolding scanSettled
-none-laid-of (got none b) e = (b, refl)
-none-laid-of (got (some t) b) e = absurd (subst IsNone e tt)
-none-laid-of (fault h) e = absurd (subst IsNone e tt)
+none-laid-of (whole none b) e = (b, refl)
+none-laid-of (whole (some t) b) e = absurd (subst IsNone e tt)
+none-laid-of (broke h) e = absurd (subst IsNone e tt)
 
 -- ---- the file
 
 -- a scan that was settled begins within the bytes, and is far shorter than what can be counted
 module _ (s : List ℕ) (r : Record) where
-  scan-within : (ls : List (List ℤ)) (a : Bits) → scanOf s r ≡ got ls a → r .start ≤ length s
+  scan-within : (ls : List (List ℤ)) (a : Bits) → scanOf s r ≡ whole ls a → r .start ≤ length s
   unfolding scanOf readable
   scan-within ls a e = go (readable s r) refl e
     where
-      go : (k : Bool) → readable s r ≡ k → cond k (levels s r) (fault Broken) ≡ got ls a → r .start ≤ length s
+      go : (k : Bool) → readable s r ≡ k → cond k (levels s r) (broke nowhere) ≡ whole ls a → r .start ≤ length s
       go true p e = leb→le (r .start) (length s) (and-left (leb (r .start) (length s)) _ (subst⁻¹ T p tt))
       go false p e = let z : _≡_ {A = ℕ} 0 1 = cc in let n : ⊥ = omega arith in absurd n
 
-  laid-within : (t : List ℕ) (b : Bits) → settledOf s r ≡ got (some t) b → (r .start ≤ length s) × (length t ≤ 2199023255556)
+  laid-within : (t : List ℕ) (b : Bits) → settledOf s r ≡ whole (some t) b → (r .start ≤ length s) × (length t ≤ 2199023255556)
   unfolding settledOf
   laid-within t b e = go (ltb (r .blocks) (2 ^ 32)) refl (scanOf s r) refl e
     where
-      go : (k : Bool) → ltb (r .blocks) (2 ^ 32) ≡ k → (x : Read Bits (List (List ℤ))) → scanOf s r ≡ x
-          → cond k (settledRead (planOf s r) x) (fault Broken) ≡ got (some t) b → (r .start ≤ length s) × (length t ≤ 2199023255556)
-      go true p (got ls a) q e =
+      go : (k : Bool) → ltb (r .blocks) (2 ^ 32) ≡ k → (x : Scanned Bits (List (List ℤ))) → scanOf s r ≡ x
+          → cond k (settledRead (planOf s r) x) (broke nowhere) ≡ whole (some t) b → (r .start ≤ length s) × (length t ≤ 2199023255556)
+      go true p (whole ls a) q e =
           let same : settledScan (planOf s r) ls ≡ some t = cc in
           (scan-within ls a q, omega (arith, ltb-true (r .blocks) (2 ^ 32) p, settled-length s r ls a t (scan-levels s r q) same))
-      go true p (fault g) q e = let z : _≡_ {A = ℕ} 0 1 = cc in let n : ⊥ = omega arith in absurd n
+      go true p (broke g) q e = let z : _≡_ {A = ℕ} 0 1 = cc in let n : ⊥ = omega arith in absurd n
       go false p x q e = let z : _≡_ {A = ℕ} 0 1 = cc in let n : ⊥ = omega arith in absurd n
 
 module _ (s : List ℕ) (r : Record) (rest : Budget) (out : List ℕ) where
@@ -243,10 +242,10 @@ module _ (s : List ℕ) (r : Record) (rest : Budget) (out : List ℕ) where
 
 module _ (s : List ℕ) (r : Record) (few : length s < 2 ^ 63) where
   module _ (rest : Budget) (out : List ℕ) {v : ScanSettled} {out′ : List ℕ} (e : v ≡ scanSettled (settledOf s r)) (w : out′ ≡ scanLaid (r .start) (settledOf s r) out) where
-    by-scan : {x : Read Bits (Option (List ℕ))} → settledOf s r ≡ x → refiled s r rest out ≡ refiledBy s r rest out x
+    by-scan : {x : Scanned Bits (Option (List ℕ))} → settledOf s r ≡ x → refiled s r rest out ≡ refiledBy s r rest out x
     by-scan q = refiled-is s r rest out few ∙ ap (refiledBy s r rest out) q
 
-    pub file-stop : {g : Fault} → v ≡ Stop g → {answer : Settling} → answer ≡ record { verdict = Refused (Scan g); budget = rest; length = 0 } → remade answer out′ ≡ refiled s r rest out
+    pub file-stop : {g : Break} → v ≡ Stop g → {answer : Settling} → answer ≡ record { verdict = Refused (Scan g); budget = rest; length = 0 } → remade answer out′ ≡ refiled s r rest out
     file-stop {g} p {answer} a =
         let o = stop-laid (settledOf s r) g (sym p ∙ e) in
         ap₂ remade a (w ∙ ap (λ x. scanLaid (r .start) x out) o ∙ laid-stop (r .start) g out) ∙ sym (by-scan o)

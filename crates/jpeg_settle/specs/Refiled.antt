@@ -11,7 +11,7 @@ use Rattle.reading.specs.declared.Record.{Record}
 use Rattle.reading.specs.declared.Refusal.the-variants.{TooLong, ShortRoom, NoEndCode, Scan}
 use Rattle.reading.specs.declared.Settling.{Settling}
 use Rattle.reading.specs.declared.Verdict.the-variants.{Accepted}
-use Rattle.reading.specs.Reader.{Read, got, fault}
+use Rattle.reading.specs.Scan.{Scanned, whole, broke}
 use Rattle.reading.specs.Settled.{behind}
 use Rattle.reading.specs.Code.Scans.{settledOf, laidOver}
 use Rattle.reading.specs.Judging.{give-or}
@@ -22,7 +22,7 @@ abbrev pub remade : Settling → List ℕ → Rewritten
 remade answer out = record { answer = answer; output = out }
 
 -- a settled scan laid from its first coded byte on, where the buffer reaches so far
-unfoldable pub scanLaid : ℕ → Read Bits (Option (List ℕ)) → List ℕ → List ℕ
+unfoldable pub scanLaid : ℕ → Scanned Bits (Option (List ℕ)) → List ℕ → List ℕ
 unfolding laidOver
 scanLaid start t out = cond (ltb (length out) start) out (take start out ++ laidOver t (drop start out))
 
@@ -37,9 +37,9 @@ abbrev pub settledInto : List ℕ → Budget → Option (List ℕ) → Rewritten
 settledInto out rest t = rewritten out (give-or NoEndCode t rest)
 
 -- what a scan that was read and settled makes of the buffer
-abbrev pub refiledBy : List ℕ → Record → Budget → List ℕ → Read Bits (Option (List ℕ)) → Rewritten
-refiledBy s r rest out (got t b) = settledInto out rest (behind (take (r .start) s) t)
-refiledBy s r rest out (fault f) = unsettled (Scan f) rest 0 out
+abbrev pub refiledBy : List ℕ → Record → Budget → List ℕ → Scanned Bits (Option (List ℕ)) → Rewritten
+refiledBy s r rest out (whole t b) = settledInto out rest (behind (take (r .start) s) t)
+refiledBy s r rest out (broke f) = unsettled (Scan f) rest 0 out
 
 -- settle behind the tests before the scan, which gave the record r. (Bytes that cannot be counted twice are too long.)
 unfoldable pub refiled : List ℕ → Record → Budget → List ℕ → Rewritten

@@ -10,16 +10,19 @@ use native.Mathlib.Omega.{arith}
 use lib.IntN.{ℤ, pos}
 use lib.ListN.{getD, set}
 use Rattle.reading.specs.declared.Bits.{Bits}
+use Rattle.reading.specs.declared.Break.{Break}
 use Rattle.reading.specs.declared.BlockRead.{BlockRead}
 use Rattle.reading.specs.declared.BlockRead.the-variants as read
 use Rattle.reading.specs.declared.Fault.{Fault}
 use Rattle.reading.specs.declared.ScanCursor.{ScanCursor}
-use Rattle.reading.specs.Reader.{Read, got, fault, onward}
-use Rattle.reading.specs.Bits.{one, mark}
+use Rattle.reading.specs.Reader.{Read, got, fault}
+use Rattle.reading.specs.Bits.{one, mark, file}
 use Rattle.reading.specs.Block.{block}
 use Rattle.reading.specs.Layout.{channelOf, dueBefore, restartBefore, restartDue, restartCode}
 use Rattle.reading.specs.Code.Answers.{said, levelsOf}
 use Rattle.reading.specs.Scan as scan
+use Rattle.reading.specs.Scan.{Cursor, Scanned, whole, broke, here, onwards}
+use Rattle.reading.specs.Code.Scans.{cursorOf, brokeAt}
 use Rattle.reading.specs.Settled.{Written, Coded, onto, cut, blockBits, predictors, written}
 use Rattle.reading.proofs.BlockAnswers.{Taken, told}
 use Rattle.jpeg_scan_plan.specs.declared.Plan.{Plan}
@@ -40,26 +43,26 @@ Blocks = List (List ℤ)
 
 -- ---- what is made of blocks
 
-settling-fault : (f : Blocks → Option Spot) {o : Read Bits Blocks} {e : Fault} → o ≡ fault e → settling f o ≡ fault e
+settling-broke : (f : Blocks → Option Spot) {o : Scanned (Cursor Bits) Blocks} {w : Break} → o ≡ broke w → settling f o ≡ broke w
 unfolding settling
-settling-fault f g = ap (settling f) g
+settling-broke f g = ap (settling f) g
 
-settling-same : (f g : Blocks → Option Spot) (o : Read Bits Blocks) → ((ls : Blocks) → f ls ≡ g ls) → settling f o ≡ settling g o
+settling-same : (f g : Blocks → Option Spot) (o : Scanned (Cursor Bits) Blocks) → ((ls : Blocks) → f ls ≡ g ls) → settling f o ≡ settling g o
 unfolding settling
-settling-same f g (got ls b) h = ap (λ (x : Option Spot). got x b) (h ls)
-settling-same f g (fault e) h = refl
+settling-same f g (whole ls q) h = ap (λ (x : Option Spot). whole x q) (h ls)
+settling-same f g (broke w) h = refl
 
-settling-before : (f : Blocks → Option Spot) (l : List ℤ) (o : Read Bits Blocks) → settling f (before (l ∷ []) o) ≡ settling (λ ls. f (l ∷ ls)) o
+settling-before : (f : Blocks → Option Spot) (l : List ℤ) (o : Scanned (Cursor Bits) Blocks) → settling f (before (l ∷ []) o) ≡ settling (λ ls. f (l ∷ ls)) o
 unfolding settling before
-settling-before f l (got ls b) = refl
-settling-before f l (fault e) = refl
+settling-before f l (whole ls q) = refl
+settling-before f l (broke w) = refl
 
-settling-some : (f g : Blocks → Option Spot) (o : Read Bits (List ℤ)) (more : List ℤ → Bits → Read Bits Blocks) → ((l : List ℤ) (ls : Blocks) → f (l ∷ ls) ≡ g (l ∷ ls))
-    → settling f (onward o (λ l b. before (l ∷ []) (more l b))) ≡ settling g (onward o (λ l b. before (l ∷ []) (more l b)))
+settling-some : (f g : Blocks → Option Spot) (o : Scanned Bits (List ℤ)) (more : List ℤ → Bits → Scanned (Cursor Bits) Blocks) → ((l : List ℤ) (ls : Blocks) → f (l ∷ ls) ≡ g (l ∷ ls))
+    → settling f (onwards o (λ l b. before (l ∷ []) (more l b))) ≡ settling g (onwards o (λ l b. before (l ∷ []) (more l b)))
 unfolding settling
-settling-some f g (got l b) more h =
+settling-some f g (whole l b) more h =
     settling-before f l (more l b) ∙ settling-same (λ ls. f (l ∷ ls)) (λ ls. g (l ∷ ls)) (more l b) (h l) ∙ sym (settling-before g l (more l b))
-settling-some f g (fault e) more h = refl
+settling-some f g (broke w) more h = refl
 
 -- ---- a restart that is not due
 
@@ -79,33 +82,33 @@ written-on p k ps e (l ∷ ls) =
 -- ---- behind the last block
 
 module _ (s : List ℕ) (p : scan.Plan) (N : ℕ) (q : ScanCursor) (ink : Outcome) (out : List ℕ) (h : N ≤ q .done) where
-  pub coming-none : coming s p N q ink out ≡ got (finalBy ink out (some lastPart)) (q .bits)
+  pub coming-none : coming s p N q ink out ≡ whole (finalBy ink out (some lastPart)) (cursorOf q)
   unfolding coming settling
   coming-none = ap (settling (λ ls. finalBy ink out (written p (q .done) (q .predictors) ls))) (ahead-none s p N q h)
 
-  pub resuming-none : resuming s p N q ink out ≡ coming s p N q ink out
+  pub resuming-none : (turn : ScanCursor) → resuming s p N turn q ink out ≡ coming s p N q ink out
   unfolding coming resuming settling
-  resuming-none =
-      ap (settling (λ ls. finalBy ink out (writtenOn p (q .done) (q .predictors) ls))) (resumed-none s p N q h)
+  resuming-none turn =
+      ap (settling (λ ls. finalBy ink out (writtenOn p (q .done) (q .predictors) ls))) (resumed-none s p N turn q h)
       ∙ sym (ap (settling (λ ls. finalBy ink out (written p (q .done) (q .predictors) ls))) (ahead-none s p N q h))
 
 module _ {t : List ℕ} {n : Plan} {p : scan.Plan} (st : Stands t n p) (s : List ℕ) where
   -- ---- inside an MCU
 
-  pub coming-inside : (m j N : ℕ) (q : ScanCursor) (ink : Outcome) (out : List ℕ) → q .done ≡ m * n .per + j → 0 < j → j < n .per → coming s p N q ink out ≡ resuming s p N q ink out
+  pub coming-inside : (m j N : ℕ) (q : ScanCursor) (ink : Outcome) (out : List ℕ) → q .done ≡ m * n .per + j → 0 < j → j < n .per → coming s p N q ink out ≡ resuming s p N q q ink out
   unfolding coming resuming
   coming-inside m j N q ink out e i h =
       ap (settling (λ ls. finalBy ink out (written p (q .done) (q .predictors) ls))) (inside st s m j N q e i h)
-      ∙ settling-same (λ ls. finalBy ink out (written p (q .done) (q .predictors) ls)) (λ ls. finalBy ink out (writtenOn p (q .done) (q .predictors) ls)) (resumed s p N q)
+      ∙ settling-same (λ ls. finalBy ink out (written p (q .done) (q .predictors) ls)) (λ ls. finalBy ink out (writtenOn p (q .done) (q .predictors) ls)) (resumed s p N q q)
       (λ ls. ap (finalBy ink out) (written-on p (q .done) (q .predictors) (not-due st s m j (q .done) e h i) ls))
 
   -- ---- a block
 
-  module _ (m j N : ℕ) (q : ScanCursor) (ink : Outcome) (out : List ℕ) (e : q .done ≡ m * n .per + j) (h : j < n .per) (i : q .done < N) (c : ℕ) (u : c ≡ chan (n .lumas) j) (few : c < 3)
+  module _ (m j N : ℕ) (turn q : ScanCursor) (ink : Outcome) (out : List ℕ) (e : q .done ≡ m * n .per + j) (h : j < n .per) (i : q .done < N) (c : ℕ) (u : c ≡ chan (n .lumas) j) (few : c < 3)
       {x : BlockRead} (v : x ≡ said (blockAt t n s c q)) where
-    pub resuming-stop : {f : Fault} → x ≡ read.Stop f → resuming s p N q ink out ≡ fault f
+    pub resuming-stop : {f : Fault} → x ≡ read.Stop f → resuming s p N turn q ink out ≡ broke (brokeAt turn f)
     unfolding resuming
-    resuming-stop g = settling-fault (λ ls. finalBy ink out (writtenOn p (q .done) (q .predictors) ls)) (block-stop st s m j N q e h i c u few v g)
+    resuming-stop g = settling-broke (λ ls. finalBy ink out (writtenOn p (q .done) (q .predictors) ls)) (block-stop st s m j N turn q e h i c u few v g)
 
     module _ {b : Bits} {z : ℤ} {k : ℕ} (g : x ≡ read.Got b z k) {l : List ℤ} (y : l ≡ levelsOf (blockAt t n s c q)) {w : Written} (is : blockBits (p .channels c) (getD (q .predictors) c (pos 0)) l ≡ w)
         {r : Outcome} {new : List ℕ} (a : Moves (onto w) ink out r new) where
@@ -122,23 +125,23 @@ module _ {t : List ℕ} {n : Plan} {p : scan.Plan} (st : Stands t n p) (s : List
           ∙ a .same (written p (suc (q .done)) (set (q .predictors) c z) ls)
           ∙ ap (λ (d : ℕ). finalBy r new (written p d (set (q .predictors) c z) ls)) (sym (add-one (q .done)))
 
-      pub resuming-next : resuming s p N q ink out ≡ coming s p N (past q c z b) r new
+      pub resuming-next : resuming s p N turn q ink out ≡ coming s p N (past q c z b) r new
       unfolding resuming coming
       resuming-next =
           ap (settling (λ ls. finalBy ink out (writtenOn p (q .done) (q .predictors) ls)))
-          (block-next st s m j N q e h i c u few v g ∙ ap (λ (o : List ℤ). before (o ∷ []) (ahead s p N (past q c z b))) (sym y))
+          (block-next st s m j N turn q e h i c u few v g ∙ ap (λ (o : List ℤ). before (o ∷ []) (ahead s p N (past q c z b))) (sym y))
           ∙ settling-before (λ ls. finalBy ink out (writtenOn p (q .done) (q .predictors) ls)) l (ahead s p N (past q c z b))
           ∙ settling-same (λ ls. finalBy ink out (writtenOn p (q .done) (q .predictors) (l ∷ ls))) (λ ls. finalBy r new (written p (q .done + 1) (set (q .predictors) c z) ls)) (ahead s p N (past q c z b)) block-on
 
   -- ---- the restart before MCU m
 
   module _ (m N : ℕ) (q : ScanCursor) (e : q .done ≡ m * n .per) (i : q .done < N) {a : CursorRead} (u : a ≡ restarted s (n .interval) m q) where
-    went-on : {h : Halt} → a .halt ≡ h → ahead s p N q ≡ wentBy h (a .cursor) (resumed s p N)
-    went-on g = restart-next st s m N q e i ∙ went-by (sym u) g (resumed s p N)
+    went-on : {h : Halt} → a .halt ≡ h → ahead s p N q ≡ wentBy q h (a .cursor) (resumed s p N q)
+    went-on g = restart-next st s m N q e i ∙ went-by q (sym u) g (resumed s p N q)
 
-    pub coming-stop : (ink : Outcome) (out : List ℕ) {f : Fault} → a .halt ≡ Yes f → coming s p N q ink out ≡ fault f
+    pub coming-stop : (ink : Outcome) (out : List ℕ) {f : Fault} → a .halt ≡ Yes f → coming s p N q ink out ≡ broke (brokeAt q f)
     unfolding coming
-    coming-stop ink out g = settling-fault (λ ls. finalBy ink out (written p (q .done) (q .predictors) ls)) (went-on g)
+    coming-stop ink out g = settling-broke (λ ls. finalBy ink out (written p (q .done) (q .predictors) ls)) (went-on g)
 
     module _ (g : a .halt ≡ No) where
       predicted : a .cursor .predictors ≡ predictors (dueBefore (n .interval) m) (q .predictors)
@@ -161,14 +164,14 @@ module _ {t : List ℕ} {n : Plan} {p : scan.Plan} (st : Stands t n p) (s : List
             ∙ o .same (writtenOn p (q .done) (predictors (dueBefore (n .interval) m) (q .predictors)) (l ∷ ls))
             ∙ sym (ap₂ (λ (k : ℕ) (ps : List ℤ). finalBy r new (writtenOn p k ps (l ∷ ls))) (restart-done s (n .interval) m q u) predicted)
 
-        pub coming-restart : coming s p N q ink out ≡ resuming s p N (a .cursor) r new
+        pub coming-restart : coming s p N q ink out ≡ resuming s p N q (a .cursor) r new
         unfolding coming resuming
         coming-restart =
             let less : a .cursor .done < N = omega (arith, restart-done s (n .interval) m q u) in
             let c : ℕ = channelOf (p .shape) (a .cursor .done) in
-            let blocks = resumed-block s p N (a .cursor) less c refl in
+            let blocks = resumed-block s p N q (a .cursor) less c refl in
             ap (settling (λ ls. finalBy ink out (written p (q .done) (q .predictors) ls))) (went-on g ∙ blocks)
             ∙ settling-some (λ ls. finalBy ink out (written p (q .done) (q .predictors) ls)) (λ ls. finalBy r new (writtenOn p (a .cursor .done) (a .cursor .predictors) ls))
-            (block (one s) (p .channels c .dc) (p .channels c .ac) (getD (a .cursor .predictors) c (pos 0)) (a .cursor .bits))
+            (here (file s) (cursorOf q) (block (one s) (p .channels c .dc) (p .channels c .ac) (getD (a .cursor .predictors) c (pos 0)) (a .cursor .bits)))
             (λ l b. ahead s p N (past (a .cursor) c (getD l 0 (pos 0)) b)) restart-on
             ∙ ap (settling (λ ls. finalBy r new (writtenOn p (a .cursor .done) (a .cursor .predictors) ls))) (sym blocks)

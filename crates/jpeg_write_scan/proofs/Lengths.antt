@@ -13,10 +13,9 @@ use lib.ListN.{length, getD, set, take, drop, length-append, length-take}
 use lib.Seq.{sets}
 use Rattle.reading.specs.declared.Bits.{Bits}
 use Rattle.reading.specs.declared.Record.{Record}
-use Rattle.reading.specs.Reader.{got}
 use Rattle.reading.specs.Huffman.{tableAt, codeOf}
 use Rattle.reading.specs.Layout.{channelOf, restartDue, restartCode}
-use Rattle.reading.specs.Scan.{Plan, planOf, noPredictors, levels}
+use Rattle.reading.specs.Scan.{Plan, planOf, noPredictors, whole, levels}
 use Rattle.reading.specs.Settled.{Written, Coder, _then_, size, fieldOf, valueBits, firstBits, skips, levelBits, restBits, blockBy, blockBits, packed, Coded, bytesOf, onto, cut, predictors, written, scanBytes, settledScan}
 use Rattle.reading.specs.Tables.{dcAt, acAt}
 use Rattle.reading.proofs.Unstuffed.{length-bitsOf}
@@ -145,7 +144,7 @@ scan-length p ls t s w e = go (written p 0 noPredictors ls) (written-weight p s 
 
 -- ---- a scan that was read
 
-module _ (s : List ℕ) (r : Record) (ls : List (List ℤ)) (b : Bits) (t : List ℕ) (e : levels s r ≡ got ls b) (f : settledScan (planOf s r) ls ≡ some t) where
+module _ (s : List ℕ) (r : Record) (ls : List (List ℤ)) (b : Bits) (t : List ℕ) (e : levels s r ≡ whole ls b) (f : settledScan (planOf s r) ls ≡ some t) where
   pub settled-length : length t ≤ 512 * r .blocks + 4
   settled-length = subst (λ n. length t ≤ 512 * n + 4) (blocks-counted s r e) (scan-length (planOf s r) ls t (plan-short s r) (blocks-whole s r e) f)
 

@@ -14,12 +14,13 @@ use Rattle.reading.specs.declared.Fault.{Fault}
 use Rattle.reading.specs.declared.ScanCursor.{ScanCursor}
 use Rattle.reading.specs.Code.Answers.{said, levelsOf}
 use Rattle.reading.specs.Scan as scan
+use Rattle.reading.specs.Scan.{broke}
 use Rattle.reading.specs.Settled.{Written, onto, blockBy}
 use Rattle.jpeg_scan_plan.specs.declared.Plan.{Plan}
 use Rattle.jpeg_scan_plan.specs.declared.Halt.the-variants.{No, Yes}
 use Rattle.jpeg_scan_plan.specs.Plans.{chan, Stands}
 use Rattle.jpeg_scan.proofs.Onward.{blockAt, past}
-use Rattle.jpeg_scan.proofs.OneMcu.{head, below, Along, along-none, along-at, along-more, along-whole, along-out, entered, entered-later, entered-out, entered-here}
+use Rattle.jpeg_scan.proofs.OneMcu.{head, below, Along, along-none, along-at, along-more, along-whole, along-out, entered, entered-later, entered-out, turnOf, entered-here, turn-names}
 use Rattle.jpeg_write_bits.specs.declared.Outcome.{Outcome}
 use Rattle.jpeg_write_codes.specs.Words.{coderOf}
 use Rattle.jpeg_write_codes.specs.Sheets.{sheet, wordsIn}
@@ -33,11 +34,17 @@ pub record Walk (s : List ℕ) (n : Plan) (from : ScanCursor) (pen : Outcome) (o
   pub size : length new ≡ length old
   pub fit : Fit ink
   pub along : Along n from q j
-  pub on : (p : scan.Plan) (m : ℕ) → Stands (head n s) n p → from .done ≡ m * n .per → resuming s p (n .blocks) from pen old ≡ entered j (coming s p (n .blocks) q ink new) (resuming s p (n .blocks) q ink new)
+  pub on :
+      (p : scan.Plan) (m : ℕ)
+      → Stands (head n s) n p
+      → from .done ≡ m * n .per
+      → (turn : ScanCursor)
+      → turn .done ≡ from .done
+      → resuming s p (n .blocks) turn from pen old ≡ entered j (coming s p (n .blocks) q ink new) (resuming s p (n .blocks) turn q ink new)
 
 pub begin : (s : List ℕ) (n : Plan) (q : ScanCursor) (pen : Outcome) (old : List ℕ) → Fit pen → Walk s n q pen old old q pen 0
 begin s n q pen old f =
-    record { size = refl; fit = f; along = along-none n q; on = λ p m st e. refl }
+    record { size = refl; fit = f; along = along-none n q; on = λ p m st e turn d. refl }
 
 -- the block of channel c as it is written by the words
 abbrev pub blockIn : List ℕ → ℕ → ℤ → List ℤ → Written
@@ -53,7 +60,7 @@ module _ {s : List ℕ} {n : Plan} {from : ScanCursor} {pen : Outcome} {old new 
         size = w .size;
         fit = w .fit;
         place = λ t. w .along .place ∙ ap (λ (k : ℕ). from .done + k) (along-whole (w .along) h);
-        each = λ p m st e. w .on p m st e ∙ entered-later j _ _ (omega (arith, st .some));
+        each = λ p m st e turn d. w .on p m st e turn d ∙ entered-later j _ _ (omega (arith, st .some));
       }
 
   -- of the scan
@@ -63,7 +70,7 @@ module _ {s : List ℕ} {n : Plan} {from : ScanCursor} {pen : Outcome} {old new 
         size = w .size;
         fit = w .fit;
         place = λ t. w .along .place ∙ ap (λ (k : ℕ). from .done + k) (along-out (w .along) h);
-        each = λ p m st e. w .on p m st e ∙ entered-out j _ _ (resuming-none s p (n .blocks) q ink new h);
+        each = λ p m st e turn d. w .on p m st e turn d ∙ entered-out j _ _ (resuming-none s p (n .blocks) q ink new h turn);
       }
 
   -- ---- block j
@@ -76,8 +83,10 @@ module _ {s : List ℕ} {n : Plan} {from : ScanCursor} {pen : Outcome} {old new 
       at : q .done ≡ m * n .per + j
       at = along-at (w .along) m e
 
-      onto-block : resuming s p (n .blocks) from pen old ≡ resuming s p (n .blocks) q ink new
-      onto-block = w .on p m st e ∙ entered-here j _ _ (λ (l : 0 < j). coming-inside st s m j (n .blocks) q ink new at l h)
+      onto-block : (turn : ScanCursor) → turn .done ≡ from .done → resuming s p (n .blocks) turn from pen old ≡ resuming s p (n .blocks) (turnOf j turn q) q ink new
+      onto-block turn d =
+          w .on p m st e turn d
+          ∙ entered-here j _ (λ (c : ScanCursor). resuming s p (n .blocks) c q ink new) turn q (λ (l : 0 < j). coming-inside st s m j (n .blocks) q ink new at l h)
 
     pub broken : {f : Fault} → x ≡ Stop f → Went s n from pen old (record { halt = Yes f; cursor = q; ink = ink }) new
     broken {f} g =
@@ -85,7 +94,9 @@ module _ {s : List ℕ} {n : Plan} {from : ScanCursor} {pen : Outcome} {old new 
           size = w .size;
           fit = w .fit;
           place = λ t. absurd (suc-ne-zero 0 cc);
-          each = λ p m st e. onto-block p m st e ∙ resuming-stop st s m j (n .blocks) q ink new (at p m st e) h i c u few-c v g;
+          each = λ p m st e turn d.
+              onto-block p m st e turn d ∙ resuming-stop st s m j (n .blocks) (turnOf j turn q) q ink new (at p m st e) h i c u few-c v g
+              ∙ ap broke (turn-names (w .along) turn d f);
         }
 
     pub further : {b : Bits} {z : ℤ} {k : ℕ} → x ≡ Got b z k → {l : List ℤ} → l ≡ levelsOf (blockAt (head n s) n s c q) → {ws : List ℕ} → ws ≡ sheet (head n s) (basesOf n)
@@ -96,8 +107,8 @@ module _ {s : List ℕ} {n : Plan} {from : ScanCursor} {pen : Outcome} {old new 
           size = long ∙ w .size;
           fit = a .fit;
           along = along-more (w .along) h i c _ _;
-          on = λ p m st e.
-              onto-block p m st e
-              ∙ resuming-next st s m j (n .blocks) q ink new (at p m st e) h i c u few-c v g y (sheet-block st sheet c few-c (getD (q .predictors) c (pos 0)) l) a
+          on = λ p m st e turn d.
+              onto-block p m st e turn d
+              ∙ resuming-next st s m j (n .blocks) (turnOf j turn q) q ink new (at p m st e) h i c u few-c v g y (sheet-block st sheet c few-c (getD (q .predictors) c (pos 0)) l) a
               ∙ sym (entered-later (j + 1) _ _ (omega arith));
         }

@@ -13,7 +13,7 @@ use lib.ListN.{length, getD, take}
 use borrow.Author.Tests.{ltb-false, eqb-false}
 use Rattle.whole.specs.Lists.{getD-from}
 use Rattle.reading.specs.declared.Bits.{Bits}
-use Rattle.reading.specs.declared.Fault.{Fault}
+use Rattle.reading.specs.declared.Break.{Break}
 use Rattle.reading.specs.declared.Record.{Record}
 use Rattle.reading.specs.declared.ScanRead.{ScanRead}
 use Rattle.reading.specs.declared.ScanRead.the-variants as reads
@@ -22,7 +22,7 @@ use Rattle.reading.specs.declared.ScanSettled.the-variants as answer
 use Rattle.reading.specs.Code.Answers.{scanRead}
 use Rattle.reading.specs.Huffman.{Table, codeOf}
 use Rattle.reading.specs.Layout.{channelOf}
-use Rattle.reading.specs.Reader.{Read, got, fault}
+use Rattle.reading.specs.Scan.{Scanned, whole, broke}
 use Rattle.reading.specs.Scan as scan
 use Rattle.reading.specs.Code.Scans.{scanOf, settledRead, settledOf, scanSettled, laidOver}
 use Rattle.reading.specs.Settled.{Written}
@@ -97,10 +97,10 @@ module _ (a : ℕ) (ws : List ℕ) (t : Table) (e : wordsIn a ws ≡ codeWords t
 -- ---- a scan that is sure
 
 -- it lacks no code, and fits
-abbrev pub Roomy : Read Bits (Option (List ℕ)) → ℕ → Type 0
-Roomy (got none b) room = ⊥
-Roomy (got (some t) b) room = length t ≤ room
-Roomy (fault f) room = Unit {0}
+abbrev pub Roomy : Scanned Bits (Option (List ℕ)) → ℕ → Type 0
+Roomy (whole none b) room = ⊥
+Roomy (whole (some t) b) room = length t ≤ room
+Roomy (broke w) room = Unit {0}
 
 module _ {s : List ℕ} {r : Record} {n : Plan} (u : Ready s r n) {ws : List ℕ} (w : ws ≡ sheet (take (n .start) s) (basesOf n)) where
   has : Readable s r
@@ -128,83 +128,83 @@ module _ {s : List ℕ} {r : Record} {n : Plan} (u : Ready s r n) {ws : List ℕ
           (word-coded (512 * c + 256) ws _ (words-ac (u .numbers) w c (third c h)) (subst (λ (a : ℕ). getD ws a 0 ≡ 0 → ⊥) place (coded-each ws (2 * r .channels) e (2 * c + 1) (omega arith))))
 
   sure-fits : r .blocks < 2 ^ 32 → AllBytes s → (room : ℕ) → sure r ws (length s - n .start) room ≡ true → Roomy (settledOf s r) room
-  sure-fits few ab room e = subst⁻¹ (λ (o : Read Bits (Option (List ℕ))). Roomy o room) (settled-is u few) (go (scanOf s r) refl)
+  sure-fits few ab room e = subst⁻¹ (λ (o : Scanned Bits (Option (List ℕ))). Roomy o room) (settled-is u few) (go (scanOf s r) refl)
     where
       starts : n .start ≡ r .start
       starts = ap (λ (k : Plan). k .start) (u .plan-is)
 
-      go : (o : Read Bits (List (List ℤ))) → scanOf s r ≡ o → Roomy (settledRead (scan.planOf s r) o) room
-      go (got ls b) f =
+      go : (o : Scanned Bits (List (List ℤ))) → scanOf s r ≡ o → Roomy (settledRead (scan.planOf s r) o) room
+      go (whole ls b) f =
           let says = sure-says r ws (length s - n .start) room e in
           let l = scan-levels s r f in
           let t = no-want s r ls b ab (zero-coded (says .1)) l in
-          subst⁻¹ (λ (o : Option (List ℕ)). Roomy (got o b) room) (t .1) (omega (arith, settled-short s r ls b (t .0) ab l (t .1), says .0, starts))
-      go (fault f) g = tt
+          subst⁻¹ (λ (o : Option (List ℕ)). Roomy (whole o b) room) (t .1) (omega (arith, settled-short s r ls b (t .0) ab l (t .1), says .0, starts))
+      go (broke x) g = tt
 
   -- what reading it tells
   module _ (few : r .blocks < 2 ^ 32) (room : ℕ) {x : ScanRead} (e : x ≡ scanRead (scanOf s r)) where
-    pub read-stop : {f : Fault} → x ≡ reads.Stop f → answer.Stop f ≡ foretold true room (settledOf s r)
+    pub read-stop : {f : Break} → x ≡ reads.Stop f → answer.Stop f ≡ foretold true room (settledOf s r)
     unfolding foretold scanRead
-    read-stop {f} g = subst⁻¹ (λ (o : Read Bits (Option (List ℕ))). answer.Stop f ≡ foretold true room o) (settled-is u few) (go (scanOf s r) e)
+    read-stop {f} g = subst⁻¹ (λ (o : Scanned Bits (Option (List ℕ))). answer.Stop f ≡ foretold true room o) (settled-is u few) (go (scanOf s r) e)
       where
-        go : (o : Read Bits (List (List ℤ))) → x ≡ scanRead o → answer.Stop f ≡ foretold true room (settledRead (scan.planOf s r) o)
-        go (got ls b) h = absurd (suc-ne-zero 0 cc)
-        go (fault k) h = let same : f ≡ k = cc in ap answer.Stop same
+        go : (o : Scanned Bits (List (List ℤ))) → x ≡ scanRead o → answer.Stop f ≡ foretold true room (settledRead (scan.planOf s r) o)
+        go (whole ls b) h = absurd (suc-ne-zero 0 cc)
+        go (broke k) h = let same : f ≡ k = cc in ap answer.Stop same
 
     pub read-done : x ≡ reads.Done → answer.Done room ≡ foretold true room (settledOf s r)
     unfolding foretold scanRead
-    read-done g = subst⁻¹ (λ (o : Read Bits (Option (List ℕ))). answer.Done room ≡ foretold true room o) (settled-is u few) (go (scanOf s r) e)
+    read-done g = subst⁻¹ (λ (o : Scanned Bits (Option (List ℕ))). answer.Done room ≡ foretold true room o) (settled-is u few) (go (scanOf s r) e)
       where
-        go : (o : Read Bits (List (List ℤ))) → x ≡ scanRead o → answer.Done room ≡ foretold true room (settledRead (scan.planOf s r) o)
-        go (got ls b) h = refl
-        go (fault k) h = absurd (suc-ne-zero 0 cc)
+        go : (o : Scanned Bits (List (List ℤ))) → x ≡ scanRead o → answer.Done room ≡ foretold true room (settledRead (scan.planOf s r) o)
+        go (whole ls b) h = refl
+        go (broke k) h = absurd (suc-ne-zero 0 cc)
 
 -- where it is measured
-pub foretold-measured : (t : Bool) (room : ℕ) (o : Read Bits (Option (List ℕ))) → t ≡ false → scanSettled o ≡ foretold t room o
+pub foretold-measured : (t : Bool) (room : ℕ) (o : Scanned Bits (Option (List ℕ))) → t ≡ false → scanSettled o ≡ foretold t room o
 unfolding foretold
 foretold-measured true room o e = absurd (suc-ne-zero 0 cc)
 foretold-measured false room o e = refl
 
 -- ---- what follows for the answer and the buffer
 
-module _ (old : List ℕ) (t : Bool) (o : Read Bits (Option (List ℕ))) {x : ScanSettled} (e : x ≡ foretold t (length old) o) where
-  pub told-stop : {f : Fault} → x ≡ answer.Stop f → (answer.Stop f ≡ scanSettled o) × (old ≡ laidOver o old)
+module _ (old : List ℕ) (t : Bool) (o : Scanned Bits (Option (List ℕ))) {x : ScanSettled} (e : x ≡ foretold t (length old) o) where
+  pub told-stop : {f : Break} → x ≡ answer.Stop f → (answer.Stop f ≡ scanSettled o) × (old ≡ laidOver o old)
   unfolding foretold scanSettled laidOver
   told-stop {f} g = go t o e
     where
-      go : (t : Bool) (o : Read Bits (Option (List ℕ))) → x ≡ foretold t (length old) o → (answer.Stop f ≡ scanSettled o) × (old ≡ laidOver o old)
+      go : (t : Bool) (o : Scanned Bits (Option (List ℕ))) → x ≡ foretold t (length old) o → (answer.Stop f ≡ scanSettled o) × (old ≡ laidOver o old)
       go false o h = (sym g ∙ h, stays-stop o old h g)
-      go true (got w b) h = absurd (suc-ne-zero 0 cc)
-      go true (fault k) h = (sym g ∙ h, refl)
+      go true (whole y b) h = absurd (suc-ne-zero 0 cc)
+      go true (broke k) h = (sym g ∙ h, refl)
 
   pub told-lacking : x ≡ answer.Lacking → (answer.Lacking ≡ scanSettled o) × (old ≡ laidOver o old)
   unfolding foretold scanSettled laidOver
   told-lacking g = go t o e
     where
-      go : (t : Bool) (o : Read Bits (Option (List ℕ))) → x ≡ foretold t (length old) o → (answer.Lacking ≡ scanSettled o) × (old ≡ laidOver o old)
+      go : (t : Bool) (o : Scanned Bits (Option (List ℕ))) → x ≡ foretold t (length old) o → (answer.Lacking ≡ scanSettled o) × (old ≡ laidOver o old)
       go false o h = (sym g ∙ h, stays-lacking o old h g)
-      go true (got w b) h = absurd (suc-ne-zero 0 cc)
-      go true (fault k) h = absurd (suc-ne-zero 0 cc)
+      go true (whole y b) h = absurd (suc-ne-zero 0 cc)
+      go true (broke k) h = absurd (suc-ne-zero 0 cc)
 
   module _ {n : ℕ} (g : x ≡ answer.Done n) where
     pub told-short : length old < n → (answer.Done n ≡ scanSettled o) × (old ≡ laidOver o old)
     unfolding foretold scanSettled laidOver
     told-short l = go t o e
       where
-        go : (t : Bool) (o : Read Bits (Option (List ℕ))) → x ≡ foretold t (length old) o → (answer.Done n ≡ scanSettled o) × (old ≡ laidOver o old)
+        go : (t : Bool) (o : Scanned Bits (Option (List ℕ))) → x ≡ foretold t (length old) o → (answer.Done n ≡ scanSettled o) × (old ≡ laidOver o old)
         go false o h = (sym g ∙ h, stays-short o old h g l)
-        go true (got w b) h = let same : n ≡ length old = cc in let y : ⊥ = omega arith in absurd y
-        go true (fault k) h = absurd (suc-ne-zero 0 cc)
+        go true (whole y b) h = let same : n ≡ length old = cc in let y : ⊥ = omega arith in absurd y
+        go true (broke k) h = absurd (suc-ne-zero 0 cc)
 
     told-fits : n ≤ length old → (t ≡ true → Roomy o (length old)) → {y : ScanSettled} {new : List ℕ} → Passed o old y new → new ≡ laidOver o old
     unfolding foretold scanSettled laidOver
     told-fits l room {y} {new} a = go t o e room a
       where
-        go : (t : Bool) (o : Read Bits (Option (List ℕ))) → x ≡ foretold t (length old) o → (t ≡ true → Roomy o (length old)) → Passed o old y new → new ≡ laidOver o old
+        go : (t : Bool) (o : Scanned Bits (Option (List ℕ))) → x ≡ foretold t (length old) o → (t ≡ true → Roomy o (length old)) → Passed o old y new → new ≡ laidOver o old
         go false o h q a = writes-all o old h g l a
-        go true (got none b) h q a = absurd (q refl)
-        go true (got (some k) b) h q a = writes-all (got (some k) b) old refl refl (q refl) a
-        go true (fault k) h q a = absurd (suc-ne-zero 0 cc)
+        go true (whole none b) h q a = absurd (q refl)
+        go true (whole (some k) b) h q a = writes-all (whole (some k) b) old refl refl (q refl) a
+        go true (broke k) h q a = absurd (suc-ne-zero 0 cc)
 
 -- what was foretold to fit is written
 module _ {s : List ℕ} {r : Record} {n : Plan} (u : Ready s r n) {ws : List ℕ} (w : ws ≡ sheet (take (n .start) s) (basesOf n)) (few : r .blocks < 2 ^ 32) (ab : AllBytes s) (old : List ℕ) where

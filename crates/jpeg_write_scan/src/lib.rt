@@ -21,6 +21,7 @@ use jpeg_scan_plan::Plan;
 use jpeg_write_bits::Outcome;
 use jpeg_write_bits::Pen;
 use reading::BlockRead;
+use reading::Break;
 use reading::Fault;
 use reading::Record;
 use reading::ScanCursor;
@@ -228,13 +229,13 @@ fn run(s: &[u8], plan: Plan, words: &[u32], out: &mut [u8]) -> ScanSettled
             if jpeg_scan_plan::at_end(s, cursor.bits) {
                 break 'mcus last(out, ink);
             }
-            break 'mcus ScanSettled::Stop(Fault::Broken);
+            break 'mcus ScanSettled::Stop(cursor.broke(Fault::Broken));
         }
         let a = jpeg_scan_plan::restart(s, cursor, m, interval);
         let h = a.halt;
         match h {
             Halt::Yes(f) => {
-                break 'mcus ScanSettled::Stop(f);
+                break 'mcus ScanSettled::Stop(cursor.broke(f));
             }
             Halt::No => {
                 let marked = mark(out, ink, m, interval);
@@ -242,7 +243,11 @@ fn run(s: &[u8], plan: Plan, words: &[u32], out: &mut [u8]) -> ScanSettled
                 let g = b.halt;
                 match g {
                     Halt::Yes(f) => {
-                        break 'mcus ScanSettled::Stop(f);
+                        break 'mcus ScanSettled::Stop(jpeg_scan_plan::broke_in(
+                            cursor,
+                            b.cursor,
+                            f,
+                        ));
                     }
                     Halt::No => {
                         cursor = b.cursor;
@@ -286,11 +291,11 @@ pub fn settled(s: &[u8], found: Record, out: &mut [u8]) -> ScanSettled
     ensures { λ r. ⌜ (r ≡ scanSettled (settledOf (now (s .entry)) found)) × (now (out .exit) ≡ laidOver (settledOf (now (s .entry)) found) (now (out .entry))) ⌝ }
 {
     if 4294967296 <= found.blocks {
-        return ScanSettled::Stop(Fault::Broken);
+        return ScanSettled::Stop(Break::nowhere());
     }
     let plan = Plan::of(s, found);
     if plan.per == 0 {
-        return ScanSettled::Stop(Fault::Broken);
+        return ScanSettled::Stop(Break::nowhere());
     }
     let start = plan.start;
     let words = jpeg_write_codes::sheet(&s[..start], bases(plan));

@@ -16,9 +16,8 @@ use Rattle.reading.specs.declared.Kind.the-variants.{Quants, Tables, Fra
 use Rattle.reading.specs.declared.Header.{Header}
 use Rattle.reading.specs.declared.Record.{Record}
 use Rattle.reading.specs.Tests.{_or_}
-use Rattle.reading.specs.Reader.{Read, got, fault}
 use Rattle.reading.specs.Header.{Stage, more, done, stop, stop-if, byte, word, window, moved, frame, scanSegment, kindOf, segment, segmentEnd, marker, stepIn, step, steps, opens, opening, started, header}
-use Rattle.reading.specs.Scan.{levels}
+use Rattle.reading.specs.Scan.{Scanned, whole, broke, levels}
 use Rattle.reading.specs.Reading.{Reading, accepted, refused, reading, readFrom, scanned}
 pub use Rattle.reading.specs.Words.{recolour, reread}
 
@@ -101,9 +100,9 @@ module _ (c d : Bool) where
   read-choice s (stop x) = refl
   read-choice s (done r) = go (levels s r)
     where
-      go : (x : Read Bits (List (List ℤ))) → scanned (recolour c r) x ≡ reread c (scanned r x)
-      go (got ls b) = refl
-      go (fault f) = refl
+      go : (x : Scanned Bits (List (List ℤ))) → scanned (recolour c r) x ≡ reread c (scanned r x)
+      go (whole ls b) = refl
+      go (broke w) = refl
 
   pub reading-choice : (s : List ℕ) → reading s c ≡ reread c (reading s d)
   reading-choice s = ap (readFrom s) (header-choice s) ∙ read-choice s (header s d)

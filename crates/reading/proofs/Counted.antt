@@ -9,15 +9,14 @@ use lib.IntN.{ℤ}
 use Rattle.reading.specs.declared.Bits.{Bits}
 use Rattle.reading.specs.declared.Fault.the-variants.{Broken}
 use Rattle.reading.specs.declared.Record.{Record}
-use Rattle.reading.specs.Reader.{got, fault}
 use Rattle.reading.specs.Layout.{channelOf}
 use Rattle.reading.specs.Transform.{coefficients, samples}
 use Rattle.reading.specs.Code.Painted.{samplesTo}
 use Rattle.reading.specs.Reading.{dequantized, blockSamples, allSamples}
-use Rattle.reading.specs.Scan.{Plan, planOf, noPredictors, levels}
-use Rattle.reading.specs.Code.Scans.{readable, scanOf}
+use Rattle.reading.specs.Scan.{Plan, planOf, noPredictors, whole, broke, levels}
+use Rattle.reading.specs.Code.Scans.{nowhere, readable, scanOf}
 use Rattle.reading.proofs.DoubleSum.{length-samples}
-use Rattle.reading.proofs.Readings.{no-fault}
+use Rattle.reading.proofs.Reasons.{no-break}
 use Rattle.reading.proofs.FineRead.{levels-fine}
 use Rattle.reading.proofs.ScanWritten.{FineBlocks}
 
@@ -63,15 +62,15 @@ unfolding scanOf
 scan-is s r e = rw e refl
 
 -- and where it is read at all, too
-pub scan-levels : (s : List ℕ) (r : Record) {ls : List (List ℤ)} {b : Bits} → scanOf s r ≡ got ls b → levels s r ≡ got ls b
+pub scan-levels : (s : List ℕ) (r : Record) {ls : List (List ℤ)} {b : Bits} → scanOf s r ≡ whole ls b → levels s r ≡ whole ls b
 unfolding scanOf
 scan-levels s r {ls} {b} e = go (readable s r) e
   where
-    go : (t : Bool) → cond t (levels s r) (fault Broken) ≡ got ls b → levels s r ≡ got ls b
+    go : (t : Bool) → cond t (levels s r) (broke nowhere) ≡ whole ls b → levels s r ≡ whole ls b
     go true h = h
-    go false h = absurd (no-fault Broken ls b h)
+    go false h = absurd (no-break nowhere ls b h)
 
-module _ (s : List ℕ) (r : Record) {ls : List (List ℤ)} {b : Bits} (e : levels s r ≡ got ls b) where
+module _ (s : List ℕ) (r : Record) {ls : List (List ℤ)} {b : Bits} (e : levels s r ≡ whole ls b) where
   pub blocks-counted : length ls ≡ r .blocks
   blocks-counted = levels-fine s r ls b e .1
 

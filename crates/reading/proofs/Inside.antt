@@ -17,8 +17,9 @@ use Rattle.reading.specs.Huffman.{Table, codeFrom, symbol}
 use Rattle.reading.proofs.FileBytes.{element-there}
 use Rattle.reading.proofs.Marks.{Looked, found, missed, mark-looked}
 use Rattle.reading.specs.Layout.{channelOf, restartDue, restartCode}
-use Rattle.reading.specs.Scan.{Plan, noPredictors, restart, blocks}
+use Rattle.reading.specs.Scan.{Plan, noPredictors, restart}
 use Rattle.reading.specs.Block.{Ask, end, skip, value, wrong, asked, predictable, first, zeros, answered, rest, block}
+use Rattle.reading.proofs.Reasons.{blocks}
 
 -- ---- what every reading keeps
 

@@ -17,7 +17,7 @@ use lib.ListN.{length}
 use borrow.Author.Tests.{lt-ltb, le-ltb, lt-leb, ltb-true, ltb-false, leb-false}
 use Rattle.reading.specs.declared.Bits.{Bits}
 use Rattle.reading.specs.declared.Budget.{Budget}
-use Rattle.reading.specs.declared.Fault.{Fault}
+use Rattle.reading.specs.declared.Break.{Break}
 use Rattle.reading.specs.declared.Inspection.{Inspection}
 use Rattle.reading.specs.declared.Limits.{Limits}
 use Rattle.reading.specs.declared.Record.{Record}
@@ -26,10 +26,9 @@ use Rattle.reading.specs.declared.Refusal.the-variants.{TooLong, OverBud
 use Rattle.reading.specs.declared.Verdict.{Verdict}
 use Rattle.reading.specs.declared.Verdict.the-variants.{Accepted, Refused}
 use Rattle.reading.specs.Tests.{_or_}
-use Rattle.reading.specs.Reader.{Read, got, fault}
 use Rattle.reading.specs.Header.{Stage, more, done, stop, header, ending}
 use Rattle.reading.specs.Code.Heads.{headed}
-use Rattle.reading.specs.Scan.{levels}
+use Rattle.reading.specs.Scan.{Scanned, whole, broke, levels}
 use Rattle.reading.specs.Reading.{accepted, reading}
 use Rattle.reading.specs.Judging.{Judged, accepts, refuses, Judging, onward, _>>_, give, refuse, refuse-if, pay, remaining, unbroken}
 use Rattle.reading.specs.Calls.{headerPrice, tooLong, tooLarge, weighing, admission, ReadFile, judgement, inspection, inspect}
@@ -75,12 +74,12 @@ module _ {B : Type 0} (P : Judged B → Type 0) where
   followed (refuses x b) k f g = f x b refl
 
   pub scanned :
-      {A : Type 0} (o : Read Bits A) (b : Budget) (k : A → Judging B)
-      → ((f : Fault) → o ≡ fault f → P (refuses (Scan f) b))
-      → ((a : A) (q : Bits) → o ≡ got a q → P (k a b))
+      {A : Type 0} (o : Scanned Bits A) (b : Budget) (k : A → Judging B)
+      → ((w : Break) → o ≡ broke w → P (refuses (Scan w) b))
+      → ((a : A) (q : Bits) → o ≡ whole a q → P (k a b))
       → P (onward (unbroken o b) k)
-  scanned (got a q) b k f g = g a q refl
-  scanned (fault e) b k f g = f e refl
+  scanned (whole a q) b k f g = g a q refl
+  scanned (broke w) b k f g = f w refl
 
 -- a price that is there is taken whole
 pub paid-whole : (b : Budget) (n : ℕ) → n ≤ b .left → remaining b n .left + n ≡ b .left
@@ -201,12 +200,12 @@ module _ (s : List ℕ) (colour : Bool) (l : Limits) (budget : Budget) where
   -- the ways of the whole judgement: one before the scan, or the scan breaks, or it is read to its end
   pub data Judges : Judged ReadFile → Type 0 where
     stopped : (x : Refusal) (b : Budget) → Way (refuses x b) → Judges (refuses x b)
-    broken : (r : Record) (f : Fault) → header s colour ≡ done r → Enough s r l budget → levels s r ≡ fault f → Judges (refuses (Scan f) (behindWork r))
+    broken : (r : Record) (x : Break) → header s colour ≡ done r → Enough s r l budget → levels s r ≡ broke x → Judges (refuses (Scan x) (behindWork r))
     through :
         (r : Record) (ls : List (List ℤ)) (q : Bits)
         → header s colour ≡ done r
         → Enough s r l budget
-        → levels s r ≡ got ls q
+        → levels s r ≡ whole ls q
         → Judges (accepts (record { found = r; blocks = ls }) (behindWork r))
 
   pub judged : Judges (judgement s colour l budget)
@@ -218,7 +217,7 @@ module _ (s : List ℕ) (colour : Bool) (l : Limits) (budget : Budget) where
       on m (headless x a e) = stopped x behindHeader (headless x a e)
       on m (large r a e c) = stopped TooLarge behindHeader (large r a e c)
       on m (poor-for-work r a e c q) = stopped WorkOverBudget behindHeader (poor-for-work r a e c q)
-      on m (admitted r e h) = scanned Judges (levels s r) (behindWork r) _ (λ f w. broken r f e h w) (λ ls q w. through r ls q e h w)
+      on m (admitted r e h) = scanned Judges (levels s r) (behindWork r) _ (λ x w. broken r x e h w) (λ ls q w. through r ls q e h w)
 
   -- ---- what is accepted
 
@@ -245,7 +244,7 @@ module _ (s : List ℕ) (colour : Bool) (l : Limits) (budget : Budget) where
     pub blocks : List (List ℤ)
     pub head : header s colour ≡ done (a .found)
     pub behind : Bits
-    pub scan : levels s (a .found) ≡ got blocks behind
+    pub scan : levels s (a .found) ≡ whole blocks behind
     pub read : reading s colour ≡ accepted (a .found) blocks
     pub enough : Enough s (a .found) l budget
     pub left : a .budget ≡ behindWork (a .found)

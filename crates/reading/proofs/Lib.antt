@@ -10,7 +10,9 @@ pub mod Plain
 pub mod Written
 pub mod BlockWritten
 pub mod Readings
+pub mod Reasons
 pub mod Taken
+pub mod Related
 pub mod Same
 pub mod Stages
 pub mod Fits
@@ -32,6 +34,7 @@ pub mod GoodTables
 pub mod Accepted
 pub mod States
 pub mod Demand3
+pub mod CutFiles
 pub mod Judgement
 pub mod Refusals
 pub mod Zigzag

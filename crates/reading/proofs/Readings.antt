@@ -27,6 +27,14 @@ pub got-val : {S A : Type 0} {a b : A} {s t : S} → got a s ≡ got b t → a �
 unfolding val-of
 got-val {a} q = ap (λ r. val-of a r) q
 
+at-of : {S A : Type 0} → S → Read S A → S
+at-of d (got a s) = s
+at-of d (fault e) = d
+
+pub got-at : {S A : Type 0} {a b : A} {s t : S} → got a s ≡ got b t → s ≡ t
+unfolding at-of
+got-at {s} q = ap (λ r. at-of s r) q
+
 pub two : {S A B : Type 0} (x : Read S A) (k : A → Reader S B) (b : B) (t : S) → onward x k ≡ got b t → Two x k b t
 two (got a s) k b t e = record { val = a; at = s; fst = refl; snd = e }
 two (fault d) k b t e = absurd (no-fault d b t e)

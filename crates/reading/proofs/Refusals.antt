@@ -8,10 +8,10 @@ use mathlib.Core.Logic.{_⊎_, inl, inr, _↔_}
 use mathlib.Core.Option.{Option, none, some}
 use native.Mathlib.Omega.{arith}
 use lib.Dec.{T, leb, ltb}
-use lib.ListN.{length}
+use lib.ListN.{length, take, length-take}
 use borrow.Author.Tests.{lt-ltb, le-ltb, le-leb, ltb-true, ltb-false, leb-true}
 use Rattle.reading.specs.declared.Budget.{Budget}
-use Rattle.reading.specs.declared.Fault.{Fault}
+use Rattle.reading.specs.declared.Break.{Break}
 use Rattle.reading.specs.declared.Inspection.{Inspection}
 use Rattle.reading.specs.declared.Limits.{Limits}
 use Rattle.reading.specs.declared.Record.{Record}
@@ -20,17 +20,17 @@ use Rattle.reading.specs.declared.Refusal.the-variants.{TooLong, OverBud
 use Rattle.reading.specs.declared.Verdict.{Verdict}
 use Rattle.reading.specs.declared.Verdict.the-variants.{Accepted, Refused}
 use Rattle.reading.specs.Tests.{_or_}
-use Rattle.reading.specs.Reader.{fault}
 use Rattle.reading.specs.Header.{Stage, more, done, stop, header}
 use Rattle.reading.specs.Code.Heads.{headed}
-use Rattle.reading.specs.Scan.{levels}
+use Rattle.reading.specs.Scan.{broke, levels}
 use Rattle.reading.specs.Judging.{Judged, accepts, refuses, onward, give, unbroken}
 use Rattle.reading.specs.Calls.{headerPrice, tooLong, tooLarge, admission, ReadFile, judgement, inspect}
-use Rattle.reading.specs.Words.{Not, Long, Begun, Within, Enough, InspectRefuses}
+use Rattle.reading.specs.Words.{Not, Long, Begun, Within, Enough, InspectRefuses, cutAt}
 use Rattle.reading.proofs.Choice.{recolour, restage, reread, header-choice, reading-choice}
 use Rattle.reading.proofs.HeaderEnds.{finished, header-ends}
 use Rattle.reading.proofs.HeaderNumbers.{OfHeader, cut-short, malformed, unsupported, header-number}
-use Rattle.reading.proofs.Judgement.{not-large, small-enough, Way, long, poor, headless, large, poor-for-work, admitted, way, way-back, admits, Judges, stopped, broken, through, judged, behindWork, scanBehind, foundIn, inspects, inspect-accepted}
+use Rattle.reading.proofs.Judgement.{not-large, small-enough, Way, long, poor, headless, large, poor-for-work, admitted, way, way-back, admits, Judges, stopped, broken, through, judged, behindWork, scanBehind, foundIn, inspects, Inspected, inspect-accepted}
+use Rattle.reading.proofs.CutFiles.{cut-header, cut-levels}
 
 -- ---- number 1, number 6 and the header, as tests and as statements
 
@@ -126,9 +126,9 @@ module _ (s : List ℕ) (colour : Bool) (l : Limits) (budget : Budget) where
   by-header : (x : Refusal) → Begun s l budget → header s colour ≡ stop x → inspect s colour l budget .verdict ≡ Refused x
   by-header x a e = by-way x _ (headless x a (ap (λ st. headed st .verdict) e))
 
-  by-scan : (f : Fault) → Refuses (Scan f) → inspect s colour l budget .verdict ≡ Refused (Scan f)
+  by-scan : (x : Break) → Refuses (Scan x) → inspect s colour l budget .verdict ≡ Refused (Scan x)
   unfolding inspect
-  by-scan f (r, e, h, w) =
+  by-scan x (r, e, h, w) =
       ap (λ m. foundIn (onward m (scanBehind s)) .verdict) (admits s colour l budget r e h)
       ∙ ap (λ o. foundIn (onward (unbroken o (behindWork s colour l budget r)) (λ ls. give (record { found = r; blocks = ls }))) .verdict) w
 
@@ -147,13 +147,32 @@ module _ (s : List ℕ) (colour : Bool) (l : Limits) (budget : Budget) where
   back Unsupported k = by-header Unsupported (k .0) (k .1)
   back TooLarge (a, (r, e, n)) = by-way TooLarge _ (large r a e (large-back r n))
   back WorkOverBudget (a, (r, e, c, q)) = by-way WorkOverBudget _ (poor-for-work r a e c q)
-  back (Scan f) k = by-scan f k
+  back (Scan x) k = by-scan x k
   back ShortRoom k = absurd k
   back NotItsRecord k = absurd k
   back NoEndCode k = absurd k
 
   pub inspect-refuses : (x : Refusal) → inspect s colour l budget .verdict ≡ Refused x ↔ Refuses x
   inspect-refuses x = (so x, back x)
+
+-- ---- a prefix
+
+-- what inspect accepts, cut behind its header
+module _ (s : List ℕ) (colour : Bool) (l : Limits) (budget : Budget) (c : ℕ) (e : inspect s colour l budget .verdict ≡ Accepted) (from : inspect s colour l budget .found .start ≤ c) (less : c < length s) where
+  whole-file : Inspected s colour l budget (inspect s colour l budget)
+  whole-file = inspect-accepted s colour l budget e
+
+  pub cut-inspects : inspect (take c s) colour l budget .verdict ≡ Refused (Scan (cutAt s (inspect s colour l budget .found) c))
+  cut-inspects =
+      let r = inspect s colour l budget .found in
+      let h = whole-file .enough in
+      let shorter : length (take c s) ≡ c = length-take c s ∙ omega (arith, less) in
+      inspect-refuses (take c s) colour l budget (Scan (cutAt s r c)) .1 (
+        r,
+        cut-header s c colour r (whole-file .blocks) (whole-file .read) from less,
+        record { input = omega (arith, h .input, shorter, less); counted = omega (arith, h .counted, shorter, less); sizes = h .sizes; price = omega (arith, h .price, shorter, less) },
+        cut-levels s c colour r (whole-file .blocks) (whole-file .read) from less,
+      )
 
 -- ---- the colour choice
 
@@ -173,9 +192,9 @@ module _ (s : List ℕ) (l : Limits) (budget : Budget) (c d : Bool) where
   within-back : (r : Record) → Within l (recolour d r) → Within l r
   within-back r w = record { width = w .width; height = w .height; scratch = w .scratch; output = w .output }
 
-  levels-alike : (r : Record) (f : Fault) → levels s r ≡ fault f → levels s (recolour d r) ≡ fault f
+  levels-alike : (r : Record) (x : Break) → levels s r ≡ broke x → levels s (recolour d r) ≡ broke x
   unfolding levels
-  levels-alike r f e = e
+  levels-alike r x e = e
 
   rule-alike : (x : Refusal) → InspectRefuses s c l budget x → InspectRefuses s d l budget x
   rule-alike TooLong k = k
@@ -185,7 +204,7 @@ module _ (s : List ℕ) (l : Limits) (budget : Budget) (c d : Bool) where
   rule-alike Unsupported (a, e) = (a, stop-alike Unsupported e)
   rule-alike TooLarge (a, (r, e, n)) = (a, (recolour d r, done-alike r e, λ w. n (within-back r w)))
   rule-alike WorkOverBudget (a, (r, e, w, q)) = (a, (recolour d r, done-alike r e, within-alike r w, q))
-  rule-alike (Scan f) (r, e, h, w) = (recolour d r, done-alike r e, enough-alike r h, levels-alike r f w)
+  rule-alike (Scan x) (r, e, h, w) = (recolour d r, done-alike r e, enough-alike r h, levels-alike r x w)
   rule-alike ShortRoom k = k
   rule-alike NotItsRecord k = k
   rule-alike NoEndCode k = k

@@ -7,47 +7,47 @@ use lib.ListN.{length}
 use lib.IntN.{ℤ}
 use borrow.Author.Tests.{lt-ltb, le-ltb}
 use Rattle.reading.specs.declared.Bits.{Bits}
-use Rattle.reading.specs.declared.Fault.{Fault}
+use Rattle.reading.specs.declared.Break.{Break}
 use Rattle.reading.specs.declared.Record.{Record}
 use Rattle.reading.specs.declared.ScanRead.{ScanRead}
 use Rattle.reading.specs.declared.ScanRead.the-variants.{Done, Stop}
 use Rattle.reading.specs.Tests.{over}
-use Rattle.reading.specs.Reader.{Read, got, fault}
+use Rattle.reading.specs.Scan.{Scanned, whole, broke}
 use Rattle.reading.specs.Code.Answers.{scanRead}
 use Rattle.reading.specs.Reading.{allSamples}
 use Rattle.reading.specs.Code.Painted.{drawn}
 
 -- ---- the answer
 
-pub answer-done : {o : Read Bits (List (List ℤ))} {ls : List (List ℤ)} {b : Bits} → o ≡ got ls b → Done ≡ scanRead o
+pub answer-done : {o : Scanned Bits (List (List ℤ))} {ls : List (List ℤ)} {b : Bits} → o ≡ whole ls b → Done ≡ scanRead o
 unfolding scanRead
 answer-done e = rw e
 
-pub answer-stop : {o : Read Bits (List (List ℤ))} {f : Fault} → o ≡ fault f → Stop f ≡ scanRead o
+pub answer-stop : {o : Scanned Bits (List (List ℤ))} {w : Break} → o ≡ broke w → Stop w ≡ scanRead o
 unfolding scanRead
 answer-stop e = rw e
 
 -- ---- an answer, back to what was read
 
-pub record Accepted (o : Read Bits (List (List ℤ))) : Type 0 where
+pub record Accepted (o : Scanned Bits (List (List ℤ))) : Type 0 where
   pub blocks-read : List (List ℤ)
   pub behind : Bits
-  pub is : o ≡ got blocks-read behind
+  pub is : o ≡ whole blocks-read behind
 
-pub accepted : (o : Read Bits (List (List ℤ))) {x : ScanRead} → x ≡ scanRead o → x ≡ Done → Accepted o
+pub accepted : (o : Scanned Bits (List (List ℤ))) {x : ScanRead} → x ≡ scanRead o → x ≡ Done → Accepted o
 unfolding scanRead
-accepted (got ls b) e h = record { blocks-read = ls; behind = b; is = refl }
-accepted (fault f) e h = absurd (suc-ne-zero 0 cc)
+accepted (whole ls b) e h = record { blocks-read = ls; behind = b; is = refl }
+accepted (broke w) e h = absurd (suc-ne-zero 0 cc)
 
-pub refused : (o : Read Bits (List (List ℤ))) {x : ScanRead} {f : Fault} → x ≡ scanRead o → x ≡ Stop f → o ≡ fault f
+pub refused : (o : Scanned Bits (List (List ℤ))) {x : ScanRead} {w : Break} → x ≡ scanRead o → x ≡ Stop w → o ≡ broke w
 unfolding scanRead
-refused (got ls b) e h = absurd (suc-ne-zero 0 cc)
-refused (fault g) e h = cc
+refused (whole ls b) e h = absurd (suc-ne-zero 0 cc)
+refused (broke g) e h = cc
 
 -- ---- what a scan is said to leave in the scratch
 
-module _ (s : List ℕ) (r : Record) (old : List ℕ) {o : Read Bits (List (List ℤ))} where
-  pub drawn-stop : {f : Fault} → o ≡ fault f → old ≡ drawn s r o old
+module _ (s : List ℕ) (r : Record) (old : List ℕ) {o : Scanned Bits (List (List ℤ))} where
+  pub drawn-stop : {w : Break} → o ≡ broke w → old ≡ drawn s r o old
   unfolding drawn
   drawn-stop e = rw e
 

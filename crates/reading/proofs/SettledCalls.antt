@@ -16,6 +16,8 @@ use Rattle.reading.specs.declared.Budget.{Budget}
 use Rattle.reading.specs.declared.Inspection.{Inspection}
 use Rattle.reading.specs.declared.Limits.{Limits}
 use Rattle.reading.specs.declared.Record.{Record}
+use Rattle.reading.specs.declared.Fault.{Fault}
+use Rattle.reading.specs.declared.Fault.the-variants.{RanOut, Bare, NoCode, Broken}
 use Rattle.reading.specs.declared.Refusal.{Refusal}
 use Rattle.reading.specs.declared.Refusal.the-variants.{ShortRoom, NoEndCode, Scan}
 use Rattle.reading.specs.declared.Verdict.{Verdict}
@@ -24,7 +26,7 @@ use Rattle.reading.specs.Tests.{_or_, over}
 use Rattle.reading.specs.Reading.{accepted, reading, picture}
 use Rattle.reading.specs.Settled.{settledFile}
 use Rattle.reading.specs.Judging.{Judged, accepts, refuses, Judging, onward, give-or, remaining}
-use Rattle.reading.specs.Calls.{number, headerPrice, ReadFile, judgement, inspection, inspect, Decoded, decode, Rewritten, unsettled, rewritten, settle}
+use Rattle.reading.specs.Calls.{faultNumber, number, headerPrice, ReadFile, judgement, inspection, inspect, Decoded, decode, Rewritten, unsettled, rewritten, settle}
 use Rattle.reading.specs.Files.{headIn, coefficientsIn, settledIn, lacksEndIn}
 use Rattle.reading.specs.Words.{Not, AllBytes, Enough, Alike}
 use Rattle.reading.proofs.HeaderNumbers.{OfHeader, cut-short, malformed, unsupported, header-number}
@@ -236,6 +238,12 @@ module _ (s : List ℕ) (l : Limits) (budget : Budget) (out : List ℕ) where
   way-not m (poor-for-work r a e c q) k = k
   way-not m (admitted r e h) k = k
 
+  fault-not : (f : Fault) → T (eqb (faultNumber f) 7 or eqb (faultNumber f) 9) → ⊥
+  fault-not RanOut k = k
+  fault-not Bare k = k
+  fault-not NoCode k = k
+  fault-not Broken k = k
+
   pub settle-way : SettleWay (settle s l budget out)
   unfolding settle inspect
   settle-way = go (judgement s false l budget) refl (judged s false l budget)
@@ -256,7 +264,7 @@ module _ (s : List ℕ) (l : Limits) (budget : Budget) (out : List ℕ) where
 
       go : (m : Judged ReadFile) → judgement s false l budget ≡ m → Judges s false l budget m → SettleWay (rewritten out (onward m (fileOf s)))
       go m p (stopped x b w) = as-inspect x b (ap foundIn p) (way-not (refuses x b) w)
-      go m p (broken r f e h w) = as-inspect (Scan f) (leftBehind s r budget) (ap foundIn p) (λ k. k)
+      go m p (broken r x e h w) = as-inspect (Scan x) (leftBehind s r budget) (ap foundIn p) (fault-not (x .fault))
       go m p (through r ls q e h w) = file-way (leftBehind s r budget) (ap (λ m. foundIn m .verdict) p) (settledFile s r ls) (accepted-so (settledFile s) none s false r ls (rw (e, w) refl))
 
   -- settle refuses as inspect does, with the same number and the same left

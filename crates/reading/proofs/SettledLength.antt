@@ -19,7 +19,7 @@ use Rattle.reading.specs.Bits.{one, file, mark, fieldFrom, field, amplit
 use Rattle.reading.specs.Huffman.{Table, tableAt, bitsOf, codeFrom, symbol, codeAt, codeAtPlace, codeOf}
 use Rattle.reading.specs.Block.{Ask, end, skip, value, wrong, asked, answered, zeros, rest, first, block, predictable}
 use Rattle.reading.specs.Layout.{channelOf, restartDue, restartCode}
-use Rattle.reading.specs.Scan.{Channel, Plan, planOf, blocks, closed, scan, levels, noPredictors}
+use Rattle.reading.specs.Scan.{Channel, Plan, planOf, closed, whole, levels, noPredictors}
 use Rattle.reading.specs.Settled.{Written, _then_, size, sizeFrom, fieldOf, valueBits, skips, levelBits, restBits, firstBits, blockBits, stuffed, padding, packNext, packFrom, packed, Coded, bytesOf, onto, cut, predictors, written, scanBytes, settledScan}
 use Rattle.reading.specs.Tables.{dcAt, acAt}
 use Rattle.reading.specs.Tests.{placeOf, placeFrom}
@@ -31,6 +31,7 @@ use Rattle.reading.proofs.Written.{absurd-some}
 use Rattle.reading.proofs.FineRead.{minus, file-bits, from}
 use Rattle.reading.proofs.WantOfCode.{amplitude-size, zeros-run, table-bytes}
 use Rattle.reading.proofs.Taken.{Says, asked-says}
+use Rattle.reading.proofs.Reasons.{blocks, scan, plainly}
 
 -- ---- how many bits are written
 
@@ -522,15 +523,15 @@ plan-tabled s r h =
 
 -- a scan that was read, settled: whatever the record and its tables
 pub settled-short : (s : List ℕ) (r : Record) (ls : List (List ℤ)) (b : Bits) (t : List ℕ)
-    → AllBytes s → levels s r ≡ got ls b → settledScan (planOf s r) ls ≡ some t → length t + 2 * r .start ≤ 2 * length s + 4 * r .blocks
-unfolding levels settledScan
+    → AllBytes s → levels s r ≡ whole ls b → settledScan (planOf s r) ls ≡ some t → length t + 2 * r .start ≤ 2 * length s + 4 * r .blocks
+unfolding settledScan
 settled-short s r ls b t h e f = go (written (planOf s r) 0 noPredictors ls) (read .weighs) f
   where
     read : Ends s (planOf s r) (r .blocks) (firstBit (r .start)) ls
     read =
         given (λ ls _. Ends s (planOf s r) (r .blocks) (firstBit (r .start)) ls)
         (scan (file s) (planOf s r) (r .blocks) (firstBit (r .start)))
-        (scan-weighs s (planOf s r) (plan-tabled s r h) (r .blocks) (firstBit (r .start))) ls b e
+        (scan-weighs s (planOf s r) (plan-tabled s r h) (r .blocks) (firstBit (r .start))) ls b (plainly s r ls b e)
 
     go : (o : Option Coded) → Weighs (r .blocks) (firstBit (r .start)) (read .last) o → scanBytes o ≡ some t
         → length t + 2 * r .start ≤ 2 * length s + 4 * r .blocks

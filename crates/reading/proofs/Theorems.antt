@@ -9,7 +9,7 @@ use mathlib.Core.Logic.{_↔_}
 use mathlib.Core.Option.{none, some}
 use lib.Dec.{T}
 use lib.IntN.{ℤ}
-use lib.ListN.{getD, length, drop}
+use lib.ListN.{getD, length, take, drop}
 use Rattle.reading.specs.declared.Bits.{Bits}
 use Rattle.reading.specs.declared.Budget.{Budget}
 use Rattle.reading.specs.declared.Decoding.{Decoding}
@@ -19,30 +19,30 @@ use Rattle.reading.specs.declared.Part.{Part}
 use Rattle.reading.specs.declared.Presence.{Presence}
 use Rattle.reading.specs.declared.Record.{Record}
 use Rattle.reading.specs.declared.Refusal.{Refusal}
-use Rattle.reading.specs.declared.Refusal.the-variants.{OverBudget, ShortRoom, NotItsRecord, NoEndCode}
+use Rattle.reading.specs.declared.Refusal.the-variants.{OverBudget, ShortRoom, NotItsRecord, NoEndCode, Scan}
 use Rattle.reading.specs.declared.Settling.{Settling}
 use Rattle.reading.specs.declared.Verdict.the-variants.{Accepted, Refused}
 use Rattle.reading.specs.Tests.{over}
-use Rattle.reading.specs.Reader.{got}
 use Rattle.reading.specs.Transform.{sampleOf, samples}
 use Rattle.reading.specs.Bits.{fulls}
-use Rattle.reading.specs.Scan.{planOf, levels}
+use Rattle.reading.specs.Scan.{planOf, whole, levels}
 use Rattle.reading.specs.Settled.{settledScan}
 use Rattle.reading.specs.Huffman.{tableAt}
 use Rattle.reading.specs.Block.{dcTaken, acTaken}
 use Rattle.reading.specs.Layout.{channelOf}
 use Rattle.reading.specs.Tables.{shapeIn}
 use Rattle.reading.specs.Header.{done, byte, listable, tableFits, header}
-use Rattle.reading.specs.Reading.{accepted, reading, allSamples, picture}
+use Rattle.reading.specs.Reading.{accepted, refused, reading, allSamples, picture}
 use Rattle.reading.specs.Calls.{headerPrice, inspect, Decoded, decode, Rewritten, settle}
 use Rattle.reading.specs.Comments.{comments, commentPart, comment, hasComment}
 use Rattle.reading.specs.Prices.{filePrice, decodePrice}
 use Rattle.reading.specs.Files.{headIn, coefficientsIn, samplesIn, pictureIn, settledIn, lacksEndIn}
-use Rattle.reading.specs.Words.{Not, AllBytes, Careful, doubleSum, ReadsAs, reread, SettlesTo, Enough, Roomy, InspectRefuses, Inspects, Priced, Alike}
+use Rattle.reading.specs.Words.{Not, AllBytes, Careful, doubleSum, ReadsAs, reread, SettlesTo, cutAt, Enough, Roomy, InspectRefuses, Inspects, Priced, Alike}
 use Rattle.reading.proofs.HeaderEnds.{finished, header-ends}
 use Rattle.reading.proofs.Choice.{reading-choice}
 use Rattle.reading.proofs.Judgement as J
 use Rattle.reading.proofs.Refusals as R
+use Rattle.reading.proofs.CutFiles as T
 use Rattle.reading.proofs.Decodings as D
 use Rattle.reading.proofs.WholeFiles as F
 use Rattle.reading.proofs.SettledCalls as C
@@ -184,6 +184,27 @@ pub colour-choice :
     (s : List ℕ) (c d : Bool)
     → reading s c ≡ reread c (reading s d)
 colour-choice s c d = reading-choice c d s
+
+-- ---- An accepted file, cut behind its header: support can tell a cut upload (`CutFiles`)
+
+-- A prefix of an accepted file that ends at a place c is refused at the first block whose restart or bits take a byte, or the 0 behind a 255,
+-- at or behind c: 4 in the restart, else 3, naming that block; if there is no such block, 4 and the block count. (`cutAt`)
+pub cut-file :
+    (s : List ℕ) (colour : Bool) (r : Record) (ls : List (List ℤ)) (c : ℕ)
+    → reading s colour ≡ accepted r ls
+    → r .start ≤ c
+    → c < length s
+    → reading (take c s) colour ≡ refused (Scan (cutAt s r c))
+cut-file s colour r ls c e from less = T.cut-file s c colour r ls e from less
+
+-- what inspect accepts, it refuses so when it is cut
+pub cut-inspects :
+    (s : List ℕ) (colour : Bool) (l : Limits) (budget : Budget) (c : ℕ)
+    → inspect s colour l budget .verdict ≡ Accepted
+    → inspect s colour l budget .found .start ≤ c
+    → c < length s
+    → inspect (take c s) colour l budget .verdict ≡ Refused (Scan (cutAt s (inspect s colour l budget .found) c))
+cut-inspects s colour l budget c e from less = R.cut-inspects s colour l budget c e from less
 
 -- ---- Decode, of any bytes and any record (`Decodings`)
 
@@ -375,7 +396,7 @@ settled-decodes s t r out scratch budget budget′ h v p = C.settled-decodes s t
 pub settled-short :
     (s : List ℕ) (r : Record) (ls : List (List ℤ)) (b : Bits) (t : List ℕ)
     → AllBytes s
-    → levels s r ≡ got ls b
+    → levels s r ≡ whole ls b
     → settledScan (planOf s r) ls ≡ some t
     → length t + 2 * r .start ≤ 2 * length s + 4 * r .blocks
 settled-short s r ls b t h e f = L.settled-short s r ls b t h e f

@@ -22,7 +22,7 @@ use Rattle.reading.specs.Reader.{got, Reader}
 use Rattle.reading.specs.Bits.{one, file, field, amplitude}
 use Rattle.reading.specs.Huffman.{Table}
 use Rattle.reading.specs.Block.{block}
-use Rattle.reading.specs.Scan.{Plan, blocks, levels}
+use Rattle.reading.specs.Scan.{Plan, whole, levels}
 use Rattle.reading.specs.Transform.{coefficients, line, sampleOf, samples}
 use Rattle.reading.specs.Calls.{headerPrice, inspect, decode}
 use Rattle.reading.proofs.FileBytes.{AllBytes, byte-below}
@@ -34,6 +34,7 @@ use Rattle.reading.proofs.DoubleSum.{sumOf, basisAt, doubleSum, line-su
 use Rattle.reading.proofs.States.{Fit, header-fits}
 use Rattle.reading.proofs.Judgement.{inspect-accepted, inspect-most}
 use Rattle.reading.proofs.Decodings.{decode-accepted, decode-refused, decode-taken, decode-lengths}
+use Rattle.reading.proofs.Reasons.{blocks}
 
 -- what a reader keeps holds behind what it gave
 stays : {A : Type 0} (P : Bits → Type 0) (m : Reader Bits A) → Keeps P m → (b c : Bits) (a : A) → P b → m b ≡ got a c → P c
@@ -128,7 +129,7 @@ pub record WellFormed (s : List ℕ) (colour : Bool) (r : Record) : Type 0 where
   pub fit : Fit s colour r
   pub levels-read : List (List ℤ)
   pub behind : Bits
-  pub read : levels s r ≡ got levels-read behind
+  pub read : levels s r ≡ whole levels-read behind
 
 module _ (s : List ℕ) (y : AllBytes s) (colour : Bool) (l : Limits) (budget : Budget) where
   -- on success the segment is well formed

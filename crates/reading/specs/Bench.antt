@@ -9,13 +9,14 @@ use Rattle.whole.specs.Expressions.{neg}
 use Rattle.reading.specs.declared.Limits.{Limits}
 use Rattle.reading.specs.declared.Budget.{Budget}
 use Rattle.reading.specs.declared.Record.{Record}
+use Rattle.reading.specs.declared.Verdict.{Verdict}
 use Rattle.reading.specs.Tests.{_and_, all}
 use Rattle.reading.specs.Bits.{meaning}
 use Rattle.reading.specs.Block.{zeros}
 use Rattle.reading.specs.Colour.{red, green, blue}
 use Rattle.reading.specs.Transform.{clamped, coefficients, samples}
 use Rattle.reading.specs.Layout.{Shape, factorsOf, blockCount, outputLength, workOf}
-use Rattle.reading.specs.Calls.{inspect, decode, settle, number, eqList}
+use Rattle.reading.specs.Calls.{inspect, decode, settle, number, named, eqList}
 use Rattle.reading.specs.Comments.{comments, commentPart, comment, hasComment}
 
 -- ---- files
@@ -81,6 +82,14 @@ between before last =
 abbrev restarting : List ℕ
 restarting = between [] []
 
+-- the same with other coded bytes
+abbrev twoParts : List ℕ → List ℕ
+twoParts coded = file 16 (16 ∷ replicate 63 1) (segment 221 (0 ∷ 1 ∷ [])) (oneCode 3) (oneCode 0) coded
+
+-- two blocks, and in each a value at place 63, as in `long`
+abbrev twoLong : List ℕ → List ℕ
+twoLong coded = file 16 (replicate 64 1) [] (oneCode 0) (twoCodes 240 233) coded
+
 -- so many fill bytes before the restart, and before 217
 abbrev filled : ℕ → ℕ → List ℕ
 filled n m = between (replicate n 255) (replicate m 255)
@@ -115,6 +124,13 @@ inspected s budget = let i = inspect s false wide (holding budget) in number (i 
 -- inspect's number
 abbrev verdict : List ℕ → List ℕ
 verdict s = take 1 (inspected s 10000)
+
+-- a verdict's number, the block and the place that it names
+abbrev told : Verdict → List ℕ
+told v = number v ∷ named v .block ∷ named v .place ∷ []
+
+abbrev broken : List ℕ → List ℕ
+broken s = told (inspect s false wide plenty .verdict)
 
 -- of an 8 x 8 file with these tables
 abbrev judged : List ℕ → List ℕ → List ℕ
@@ -251,10 +267,10 @@ table =
     ∷ gives (decoded (filled 3 1) 128 10000) (0 ∷ (10000 - 309 - 6400) ∷ replicate 256 138)
     -- a padded 255 and its 0, then fill; without the 0 it is a bare 255
     ∷ gives (settled (long 9 (11 ∷ 255 ∷ 0 ∷ 255 ∷ 255 ∷ []))) (0 ∷ long 9 (11 ∷ 255 ∷ 0 ∷ []) ++ replicate 2 0)
-    ∷ gives (verdict (long 9 (11 ∷ 255 ∷ 255 ∷ 255 ∷ []))) (4 ∷ [])
+    ∷ gives (verdict (long 9 (11 ∷ 255 ∷ 255 ∷ 255 ∷ []))) (10 ∷ [])
     -- fill where a bit is wanted: before the first bit, and before a data byte 255
-    ∷ gives (verdict (square (oneCode 0) (oneCode 0) (255 ∷ 255 ∷ []))) (4 ∷ [])
-    ∷ gives (verdict (long 9 (11 ∷ 255 ∷ 255 ∷ 0 ∷ []))) (4 ∷ [])
+    ∷ gives (verdict (square (oneCode 0) (oneCode 0) (255 ∷ 255 ∷ []))) (10 ∷ [])
+    ∷ gives (verdict (long 9 (11 ∷ 255 ∷ 255 ∷ 0 ∷ []))) (10 ∷ [])
     -- fill before the padding is complete
     ∷ gives (verdict (square (oneCode 0) (oneCode 0) (62 ∷ 255 ∷ []))) (4 ∷ [])
     -- fill with no marker behind it: the end, a byte of data, a 0; and with a wrong one
@@ -265,6 +281,37 @@ table =
     -- any byte behind 217
     ∷ gives (verdict (F ++ 0 ∷ [])) (4 ∷ [])
     ∷ gives (verdict (F ++ 255 ∷ [])) (4 ∷ [])
+    -- why and where a scan broke. In block 0: the bytes ran out; a 255 is the very last byte; it is followed by neither 0 nor the end;
+    -- sixteen bits are no code; they run out before, or meet a bare 255; a fourth run of 16
+    ∷ gives (broken F) (0 ∷ 0 ∷ 0 ∷ [])
+    ∷ gives (broken (take 138 F)) (3 ∷ 0 ∷ 138 ∷ [])
+    ∷ gives (broken (take 138 F ++ 255 ∷ [])) (3 ∷ 0 ∷ 138 ∷ [])
+    ∷ gives (broken (square (oneCode 0) (oneCode 0) (255 ∷ 1 ∷ []))) (10 ∷ 0 ∷ 138 ∷ [])
+    ∷ gives (broken (square (oneCode 0) (oneCode 0) (255 ∷ 255 ∷ []))) (10 ∷ 0 ∷ 138 ∷ [])
+    ∷ gives (broken (square (oneCode 0) (oneCode 0) (254 ∷ 254 ∷ []))) (11 ∷ 0 ∷ 138 ∷ [])
+    ∷ gives (broken (square (oneCode 0) (oneCode 0) (254 ∷ []))) (10 ∷ 0 ∷ 138 ∷ [])
+    ∷ gives (broken (take 138 F ++ 254 ∷ [])) (3 ∷ 0 ∷ 138 ∷ [])
+    ∷ gives (broken (runs (85 ∷ 63 ∷ []))) (4 ∷ 0 ∷ 139 ∷ [])
+    -- in the block behind a restart, which begins before it: each of them, and a prediction out of range
+    ∷ gives (broken (take 147 restarting)) (3 ∷ 1 ∷ 145 ∷ [])
+    ∷ gives (broken (twoParts (87 ∷ 255 ∷ 208 ∷ 255 ∷ 1 ∷ []))) (10 ∷ 1 ∷ 145 ∷ [])
+    ∷ gives (broken (twoParts (87 ∷ 255 ∷ 208 ∷ 254 ∷ 254 ∷ []))) (11 ∷ 1 ∷ 145 ∷ [])
+    ∷ gives (broken (falling (0 ∷ 6 ∷ 95 ∷ []))) (4 ∷ 1 ∷ 142 ∷ [])
+    -- in the restart itself, also where the bytes run out in it or in its fill
+    ∷ gives (broken (take 145 restarting)) (4 ∷ 1 ∷ 145 ∷ [])
+    ∷ gives (broken (take 146 restarting)) (4 ∷ 1 ∷ 145 ∷ [])
+    ∷ gives (broken (between (255 ∷ 255 ∷ 209 ∷ []) [])) (4 ∷ 1 ∷ 145 ∷ [])
+    -- a block that begins in a byte 255, whose 0 is taken with it
+    ∷ gives (broken (take 142 (twoLong (11 ∷ 255 ∷ 0 ∷ [])))) (3 ∷ 1 ∷ 142 ∷ [])
+    -- at the final marker: the block count, and the place then
+    ∷ gives (broken (take 139 F)) (4 ∷ 1 ∷ 139 ∷ [])
+    ∷ gives (broken (take 140 F)) (4 ∷ 1 ∷ 139 ∷ [])
+    ∷ gives (broken (F ++ 0 ∷ [])) (4 ∷ 1 ∷ 139 ∷ [])
+    ∷ gives (broken (square (oneCode 0) (oneCode 0) (62 ∷ []))) (4 ∷ 1 ∷ 139 ∷ [])
+    ∷ gives (broken (take 149 restarting)) (4 ∷ 2 ∷ 148 ∷ [])
+    -- settle names them too; a refusal of the header names none
+    ∷ gives (told (settle (take 147 restarting) wide plenty [] .answer .verdict)) (3 ∷ 1 ∷ 145 ∷ [])
+    ∷ gives (broken (take 100 F)) (3 ∷ 0 ∷ 0 ∷ [])
     -- the quantizer is taken by zigzag place: place 2 is natural place 8
     ∷ means (take 10 (coefficients (1 ∷ 1 ∷ 100 ∷ replicate 61 1) (zeros 2 ++ pos 1 ∷ zeros 61))) (zeros 8 ++ pos 100 ∷ pos 0 ∷ [])
     -- green's two products are rounded together
@@ -283,7 +330,7 @@ table =
     ∷ gives (there (noted (63 ∷ [])) 0 3500) (2 ∷ 3167 ∷ 0 ∷ [])
     -- a file that is refused in its scan has none
     ∷ gives (text (noted (255 ∷ 1 ∷ [])) 0) (0 ∷ 0 ∷ [])
-    ∷ gives (there (noted (255 ∷ 1 ∷ [])) 0 3600) (4 ∷ 65 ∷ 0 ∷ [])
+    ∷ gives (there (noted (255 ∷ 1 ∷ [])) 0 3600) (10 ∷ 65 ∷ 0 ∷ [])
     ∷ []
 
 -- every piece is as the rules say

@@ -57,15 +57,16 @@ mark s code =
     (got tt (firstBit (b .at + n + 1)))
     (fault Broken)
 
--- where bits come from: the next bit; a marker; whether no byte is left
+-- where bits come from: the next bit; a marker; whether no byte is left; the first byte not yet taken
 pub record Source (S : Type 0) : Type 0 where
   pub next : Reader S ℕ
   pub marker : ℕ → Reader S (Unit {0})
   pub ends : S → Bool
+  pub place : S → ℕ
 
 unfoldable pub file : List ℕ → Source Bits
 unfolding one mark
-file s = record { next = one s; marker = mark s; ends = λ b. eqb (b .at) (length s) }
+file s = record { next = one s; marker = mark s; ends = λ b. eqb (b .at) (length s); place = λ b. b .at }
 
 -- n more bits behind the number v
 abbrev pub fieldFrom : {S : Type 0} → Reader S ℕ → ℕ → ℕ → Reader S ℕ

@@ -5,6 +5,9 @@ use mathlib.Core.List.{List, [], _∷_}
 use lib.Dec.{leb, ltb, eqb}
 use lib.ListN.{length}
 use lib.IntN.{ℤ}
+use Rattle.reading.specs.declared.Fault.{Fault}
+use Rattle.reading.specs.declared.Fault.the-variants.{RanOut, Bare, NoCode, Broken}
+use Rattle.reading.specs.declared.Named.{Named}
 use Rattle.reading.specs.declared.Refusal.{Refusal}
 use Rattle.reading.specs.declared.Refusal.the-variants.{TooLong, OverBudget, CutShort, Malformed, Unsupported, TooLarge, WorkOverBudget, ShortRoom, NotItsRecord, NoEndCode, Scan}
 use Rattle.reading.specs.declared.Record.{Record}
@@ -26,6 +29,14 @@ use Rattle.reading.specs.Scan.{levels}
 use Rattle.reading.specs.Reading.{Reading, accepted, refused, reading, allSamples, picture}
 use Rattle.reading.specs.Settled.{settledFile, settledScan}
 
+-- why a scan broke: bytes ran out (3), a 255 followed by neither 0 nor the end (10), sixteen bits matching no code (11). Other scan
+-- faults stay 4
+abbrev pub faultNumber : Fault → ℕ
+faultNumber RanOut = 3
+faultNumber Bare = 10
+faultNumber NoCode = 11
+faultNumber Broken = 4
+
 -- the refusal numbers
 abbrev pub numberOf : Refusal → ℕ
 numberOf TooLong = 1
@@ -38,12 +49,33 @@ numberOf WorkOverBudget = 2
 numberOf ShortRoom = 7
 numberOf NotItsRecord = 8
 numberOf NoEndCode = 9
-numberOf (Scan f) = 4
+numberOf (Scan w) = faultNumber (w .fault)
 
 -- 0 where accepted
 abbrev pub number : Verdict → ℕ
 number Accepted = 0
 number (Refused x) = numberOf x
+
+abbrev pub nothingNamed : Named
+nothingNamed = record { block = 0; place = 0 }
+
+-- a refusal of the scan also names the block's number and the first byte not yet taken when its reading began; elsewhere both are 0
+abbrev pub namedBy : Refusal → Named
+namedBy (Scan w) = record { block = w .block; place = w .place }
+namedBy TooLong = nothingNamed
+namedBy OverBudget = nothingNamed
+namedBy CutShort = nothingNamed
+namedBy Malformed = nothingNamed
+namedBy Unsupported = nothingNamed
+namedBy TooLarge = nothingNamed
+namedBy WorkOverBudget = nothingNamed
+namedBy ShortRoom = nothingNamed
+namedBy NotItsRecord = nothingNamed
+namedBy NoEndCode = nothingNamed
+
+abbrev pub named : Verdict → Named
+named Accepted = nothingNamed
+named (Refused x) = namedBy x
 
 -- 2n+1: what reading a header costs
 abbrev pub headerPrice : List ℕ → ℕ
@@ -84,7 +116,7 @@ pub record ReadFile : Type 0 where
   pub found : Record
   pub blocks : List (List ℤ)
 
--- .. the scan, 4. Success takes 2n+1+work
+-- .. the scan, 3, 4, 10 or 11. Success takes 2n+1+work
 abbrev pub judgement : List ℕ → Bool → Limits → Judging ReadFile
 judgement s colour l = do
   r ← admission s colour l

@@ -8,7 +8,7 @@ use Rattle.reading.specs.declared.Bits.{Bits}
 use Rattle.reading.specs.declared.Budget.{Budget}
 use Rattle.reading.specs.declared.Refusal.{Refusal}
 use Rattle.reading.specs.declared.Refusal.the-variants.{Scan}
-use Rattle.reading.specs.Reader.{Read, got, fault}
+use Rattle.reading.specs.Scan.{Scanned, whole, broke}
 
 -- a value or a refusal, and the budget that is left
 pub data Judged (A : Type 0) : Type 0 where
@@ -56,7 +56,7 @@ abbrev pub give-or : {A : Type 0} → Refusal → Option A → Judging A
 give-or x none = refuse x
 give-or x (some a) = give a
 
--- what a scan gave; a fault in it refuses the file
-abbrev pub unbroken : {A : Type 0} → Read Bits A → Judging A
-unbroken (got a b) = give a
-unbroken (fault f) = refuse (Scan f)
+-- what a scan gave; where it broke the file is refused
+abbrev pub unbroken : {A : Type 0} → Scanned Bits A → Judging A
+unbroken (whole a b) = give a
+unbroken (broke w) = refuse (Scan w)

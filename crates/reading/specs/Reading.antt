@@ -9,14 +9,13 @@ use Rattle.reading.specs.declared.Refusal.{Refusal}
 use Rattle.reading.specs.declared.Refusal.the-variants.{Scan}
 use Rattle.reading.specs.declared.Record.{Record}
 use Rattle.reading.specs.declared.Bits.{Bits}
-use Rattle.reading.specs.Reader.{Read, got, fault}
 use Rattle.whole.specs.Lists.{listOf}
 use Rattle.reading.specs.Tests.{_and_}
 use Rattle.reading.specs.Header.{Stage, ending, header}
 use Rattle.reading.specs.Layout.{channelOf, sampleAt}
 use Rattle.reading.specs.Transform.{coefficients, samples}
 use Rattle.reading.specs.Colour.{colourOf}
-use Rattle.reading.specs.Scan.{Plan, planOf, levels}
+use Rattle.reading.specs.Scan.{Plan, planOf, Scanned, whole, broke, levels}
 use Rattle.reading.specs.Tables.{shapeIn}
 
 -- a file is accepted with its record and its levels, or refused
@@ -24,9 +23,9 @@ pub data Reading : Type 0 where
   accepted : Record → List (List ℤ) → Reading
   refused : Refusal → Reading
 
-abbrev pub scanned : Record → Read Bits (List (List ℤ)) → Reading
-scanned r (got ls b) = accepted r ls
-scanned r (fault f) = refused (Scan f)
+abbrev pub scanned : Record → Scanned Bits (List (List ℤ)) → Reading
+scanned r (whole ls b) = accepted r ls
+scanned r (broke w) = refused (Scan w)
 
 abbrev pub readFrom : List ℕ → Stage → Reading
 readFrom s st = ending (λ r. scanned r (levels s r)) refused st

@@ -1,12 +1,13 @@
--- The scan: blocks, restarts, the end.
+-- The scan: blocks, restarts, the end; and where it broke.
 use Prim.Native.Nat.{ℕ, zero, suc}
 use mathlib.Core.Bool.{cond}
 use mathlib.Core.List.{List, [], _∷_}
 use lib.ListN.{getD, take, drop, set}
 use lib.IntN.{ℤ, pos}
 use Rattle.reading.specs.declared.Bits.{Bits}
+use Rattle.reading.specs.declared.Break.{Break}
 use Rattle.reading.specs.declared.Record.{Record}
-use Rattle.reading.specs.Reader.{Read, Reader, _>>=_, _>>_, give, rule}
+use Rattle.reading.specs.Reader.{Read, got, fault, Reader, _>>=_, _>>_, give, rule}
 use Rattle.reading.specs.Bits.{Source, file, firstBit}
 use Rattle.reading.specs.Huffman.{Table, tableAt}
 use Rattle.reading.specs.Block.{block, zeros}
@@ -49,22 +50,65 @@ restart src p k ps =
     (src .marker (restartCode (p .shape) (p .interval) k) >> give noPredictors)
     (give ps)
 
--- n more blocks from block k on, in the order of the scan; each is 64 levels in zigzag order
-abbrev pub blocks : {S : Type 0} → Source S → Plan → ℕ → ℕ → List ℤ → Reader S (List (List ℤ))
-blocks src p zero k ps = give []
-blocks src p (suc n) k ps =
+-- what a block's turn gives: its 64 levels in zigzag order, and the predictors behind it
+pub record Turn : Type 0 where
+  pub levels : List ℤ
+  pub predictors : List ℤ
+
+-- the turn of block k: the restart before it, where one is due, then the block. Its first level predicts its channel's next one
+abbrev pub turn : {S : Type 0} → Source S → Plan → ℕ → List ℤ → Reader S Turn
+turn src p k ps =
     restart src p k ps >>= λ qs. let c = channelOf (p .shape) k in
     let ch = p .channels c in
-    block (src .next) (ch .dc) (ch .ac) (getD qs c (pos 0)) >>= λ l. blocks src p n (suc k) (set qs c (getD l 0 (pos 0))) >>= λ ls. give (l ∷ ls)
+    block (src .next) (ch .dc) (ch .ac) (getD qs c (pos 0)) >>= λ l. give (record { levels = l; predictors = set qs c (getD l 0 (pos 0)) })
+
+-- ---- reading on
+
+-- Each scan keeps the bit place, the predictors and the count of blocks done
+pub record Cursor (S : Type 0) : Type 0 where
+  pub bits : S
+  pub predictors : List ℤ
+  pub done : ℕ
+
+-- what reading in a scan answers: a value and the place after it, or why and where the scan broke
+pub data Scanned (S A : Type 0) : Type 0 where
+  whole : A → S → Scanned S A
+  broke : Break → Scanned S A
+
+-- what is read at a cursor. A fault names the block whose turn it is, or the block count behind the last one, and the first byte not yet
+-- taken when that turn began, before any restart
+abbrev pub here : {S A : Type 0} → Source S → Cursor S → Read S A → Scanned S A
+here src q (got a s) = whole a s
+here src q (fault f) = broke (record { fault = f; block = q .done; place = src .place (q .bits) })
+
+-- on with what was read; where the scan broke it stays broken
+abbrev pub onwards : {S T A B : Type 0} → Scanned S A → (A → S → Scanned T B) → Scanned T B
+onwards (whole a s) f = f a s
+onwards (broke w) f = broke w
+
+-- n more blocks from a cursor on, in the order of the scan: their levels, and the cursor behind them
+abbrev pub readOn : {S : Type 0} → Source S → Plan → ℕ → Cursor S → Scanned (Cursor S) (List (List ℤ))
+readOn src p zero q = whole [] q
+readOn src p (suc n) q =
+    onwards (here src q (turn src p (q .done) (q .predictors) (q .bits))) (λ t s.
+    onwards (readOn src p n (record { bits = s; predictors = t .predictors; done = suc (q .done) })) (λ ls e. whole (t .levels ∷ ls) e))
+
+-- ---- the whole scan
 
 -- after the last block: the marker 217, and no byte behind it
 abbrev pub closed : {S : Type 0} → Source S → Reader S (Unit {0})
 closed src = src .marker 217 >> λ s. rule (src .ends s) s
 
-abbrev pub scan : {S : Type 0} → Source S → Plan → ℕ → Reader S (List (List ℤ))
-scan src p n = blocks src p n 0 noPredictors >>= λ ls. closed src >> give ls
+-- before the first block
+abbrev pub started : {S : Type 0} → S → Cursor S
+started s = record { bits = s; predictors = noPredictors; done = 0 }
+
+-- a scan of n blocks: reading on from its start, then the end
+abbrev pub scan : {S : Type 0} → Source S → Plan → ℕ → S → Scanned S (List (List ℤ))
+scan src p n s =
+    onwards (readOn src p n (started s)) (λ ls q. here src q ((closed src >> give ls) (q .bits)))
 
 -- the levels of a file's scan
-unfoldable pub levels : List ℕ → Record → Read Bits (List (List ℤ))
+unfoldable pub levels : List ℕ → Record → Scanned Bits (List (List ℤ))
 unfolding block file channelOf restartDue
 levels s r = scan (file s) (planOf s r) (r .blocks) (firstBit (r .start))

@@ -2,13 +2,15 @@
 -- rule a call refuses, and what it means that an answer took its listed price. No call is defined by them.
 use Prim.Native.Nat.{ℕ, zero, suc, _+_, _*_, _^_, _<_, _≤_}
 use mathlib.Core.Path.{_≡_}
-use mathlib.Core.Bool.{Bool}
+use mathlib.Core.Bool.{Bool, cond}
 use mathlib.Core.List.{List, [], _∷_}
 use mathlib.Core.Logic.{_⊎_, _↔_}
 use mathlib.Core.Option.{Option, some}
-use lib.Dec.{T}
+use lib.Dec.{T, ltb}
 use lib.IntN.{ℤ, pos, _+ℤ_, _*ℤ_}
 use lib.ListN.{length}
+use Rattle.reading.specs.declared.Bits.{Bits}
+use Rattle.reading.specs.declared.Break.{Break}
 use Rattle.reading.specs.declared.Budget.{Budget}
 use Rattle.reading.specs.declared.Limits.{Limits}
 use Rattle.reading.specs.declared.Record.{Record}
@@ -18,11 +20,13 @@ use Rattle.reading.specs.declared.Verdict.{Verdict}
 use Rattle.reading.specs.declared.Verdict.the-variants.{Accepted}
 use Rattle.whole.specs.Expressions.{at}
 use Rattle.basis.specs.Basis.{basis, basisAt}
-use Rattle.reading.specs.declared.Fault.the-variants.{RanOut}
-use Rattle.reading.specs.Reader.{Reader, got, fault}
+use Rattle.reading.specs.declared.Fault.{Fault}
+use Rattle.reading.specs.declared.Fault.the-variants.{RanOut, Broken}
+use Rattle.reading.specs.Reader.{Read, Reader, got, fault}
+use Rattle.reading.specs.Bits.{file, firstBit}
 use Rattle.reading.specs.Huffman.{Table, symbol, codeOf}
 use Rattle.reading.specs.Header.{done, stop, header}
-use Rattle.reading.specs.Scan.{levels}
+use Rattle.reading.specs.Scan.{Plan, planOf, restart, Turn, turn, Cursor, broke, started, levels}
 use Rattle.reading.specs.Reading.{Reading, accepted, refused, reading}
 use Rattle.reading.specs.Calls.{headerPrice, inspect, Decoded}
 use Rattle.reading.specs.Files.{settledIn}
@@ -115,6 +119,33 @@ reread c (refused x) = refused x
 abbrev pub SettlesTo : List ℕ → List ℕ → Type 0
 SettlesTo s t = settledIn s ≡ some t
 
+-- ---- an accepted file, cut: its bytes end at a place c behind its header
+
+-- a fault in the turn that begins at a cursor
+abbrev pub brokenAt : Fault → Cursor Bits → Break
+brokenAt f q = record { fault = f; block = q .done; place = q .bits .at }
+
+-- the turn that begins at a cursor, by where its restart ended in the whole file and where its bits did. If its restart took a byte at or
+-- behind c, it breaks there; if its bits did, the bytes ran out in them; else the next turn. (No turn of an accepted file has a fault.)
+abbrev pub cutTurn : ℕ → Cursor Bits → Read Bits (List ℤ) → Read Bits Turn → (Turn → Bits → Break) → Break
+cutTurn c q (got ps b) (got t e) next =
+    cond (ltb c (b .at)) (brokenAt Broken q) (cond (ltb c (e .at)) (brokenAt RanOut q) (next t e))
+cutTurn c q (got ps b) (fault f) next = brokenAt f q
+cutTurn c q (fault f) o next = brokenAt f q
+
+-- the first of n more blocks whose restart or bits take a byte at or behind c; if there is none, the final marker
+unfoldable pub cutFrom : List ℕ → Plan → ℕ → ℕ → Cursor Bits → Break
+unfolding file
+cutFrom s p c zero q = brokenAt Broken q
+cutFrom s p c (suc n) q =
+    cutTurn c q (restart (file s) p (q .done) (q .predictors) (q .bits)) (turn (file s) p (q .done) (q .predictors) (q .bits))
+    (λ t e. cutFrom s p c n (record { bits = e; predictors = t .predictors; done = suc (q .done) }))
+
+-- why and where the prefix breaks
+unfoldable pub cutAt : List ℕ → Record → ℕ → Break
+unfolding cutFrom
+cutAt s r c = cutFrom s (planOf s r) c (r .blocks) (started (firstBit (r .start)))
+
 -- ---- limits, budget and room
 
 -- number 1: the file is too long for the input limit, or for its price to be counted
@@ -158,8 +189,8 @@ InspectRefuses s colour l budget TooLarge =
     Begun s l budget × ((r : Record) × (header s colour ≡ done r) × Not (Within l r))
 InspectRefuses s colour l budget WorkOverBudget =
     Begun s l budget × ((r : Record) × (header s colour ≡ done r) × Within l r × (budget .left < headerPrice s + r .work))
-InspectRefuses s colour l budget (Scan f) =
-    (r : Record) × (header s colour ≡ done r) × Enough s r l budget × (levels s r ≡ fault f)
+InspectRefuses s colour l budget (Scan w) =
+    (r : Record) × (header s colour ≡ done r) × Enough s r l budget × (levels s r ≡ broke w)
 InspectRefuses s colour l budget ShortRoom = ⊥
 InspectRefuses s colour l budget NotItsRecord = ⊥
 InspectRefuses s colour l budget NoEndCode = ⊥

@@ -10,8 +10,8 @@ ghost use Rattle.reading.specs.Code.Mcus.{mcusOf, blocksOf};
 ghost use Rattle.reading.specs.Header.{noFrame, opening, moved, withFrame, withInterval, noRecord, stop};
 ghost use Rattle.reading.specs.Code.Heads.{headed};
 ghost use Rattle.reading.specs.Bits.{firstBit};
-ghost use Rattle.reading.specs.Code.Scans.{atStart};
-ghost use Rattle.reading.specs.Calls.{numberOf, number};
+ghost use Rattle.reading.specs.Code.Scans.{atStart, brokeAt, nowhere};
+ghost use Rattle.reading.specs.Calls.{faultNumber, numberOf, number, nothingNamed, namedBy, named};
 
 // Whether a number lies between two others, both included.
 pub fn within(least: usize, most: usize, n: usize) -> bool
@@ -113,6 +113,18 @@ impl ScanCursor {
             done: 0,
         }
     }
+
+    // a fault in the turn that begins here: it names this block and this place
+    pub fn broke(self, f: Fault) -> Break
+        ensures { λ r. ⌜ r ≡ brokeAt self f ⌝ }
+    {
+        let at = self.bits.at;
+        Break {
+            fault: f,
+            block: self.done,
+            place: at,
+        }
+    }
 }
 
 // Why a scan broke.
@@ -127,8 +139,44 @@ pub enum Fault {
     Broken,
 }
 
+impl Fault {
+    // the number of the rules
+    pub fn number(self) -> u8
+        ensures { λ r. ⌜ r ≡ faultNumber self ⌝ }
+    {
+        match self {
+            Self::RanOut => 3,
+            Self::Bare => 10,
+            Self::NoCode => 11,
+            Self::Broken => 4,
+        }
+    }
+}
+
+// Why and where a scan broke: the number of the block, or the block count at the final marker, and the first byte that was not yet
+// taken when its reading began, before any restart.
+pub struct Break {
+    pub fault: Fault,
+    pub block: usize,
+    pub place: usize,
+}
+
+impl Break {
+    // of a record that no header gives, whose scan is not read
+    pub fn nowhere() -> Self
+        ensures { λ r. ⌜ r ≡ nowhere ⌝ }
+    {
+        Self {
+            fault: Fault::Broken,
+            block: 0,
+            place: 0,
+        }
+    }
+}
+
 // A refusal, by the rule that gave it. One number can have several rules, each with its price and its place in the order: 2 is
-// OverBudget, which takes nothing, and behind the header WorkOverBudget; 4 is Malformed in the header, and Scan.
+// OverBudget, which takes nothing, and behind the header WorkOverBudget; 3 is CutShort in the header and 4 Malformed, and both are a
+// scan's too, which says where it broke.
 pub enum Refusal {
     TooLong,
     OverBudget,
@@ -140,7 +188,7 @@ pub enum Refusal {
     ShortRoom,
     NotItsRecord,
     NoEndCode,
-    Scan(Fault),
+    Scan(Break),
 }
 
 // What a marker code asks for.
@@ -388,6 +436,20 @@ impl Level {
     pub const MOST: i64 = 2047;
 }
 
+// The block and the place that an answer names, both 0 where it names none.
+pub struct Named {
+    pub block: usize,
+    pub place: usize,
+}
+
+impl Named {
+    fn none() -> Self
+        ensures { λ r. ⌜ r ≡ nothingNamed ⌝ }
+    {
+        Self { block: 0, place: 0 }
+    }
+}
+
 impl Refusal {
     // the number of the rules
     pub fn number(self) -> u8
@@ -404,7 +466,23 @@ impl Refusal {
             Self::ShortRoom => 7,
             Self::NotItsRecord => 8,
             Self::NoEndCode => 9,
-            Self::Scan(_) => 4,
+            Self::Scan(w) => {
+                let f = w.fault;
+                f.number()
+            }
+        }
+    }
+
+    // the block and the place that it names: a scan's, else none
+    fn named(self) -> Named
+        ensures { λ r. ⌜ r ≡ namedBy self ⌝ }
+    {
+        let Self::Scan(w) = self else {
+            return Named::none();
+        };
+        Named {
+            block: w.block,
+            place: w.place,
         }
     }
 }
@@ -422,6 +500,16 @@ impl Verdict {
         match self {
             Self::Accepted => 0,
             Self::Refused(x) => x.number(),
+        }
+    }
+
+    // where a scan broke; 0 and 0 for every other answer
+    pub fn named(self) -> Named
+        ensures { λ r. ⌜ r ≡ named self ⌝ }
+    {
+        match self {
+            Self::Accepted => Named::none(),
+            Self::Refused(x) => x.named(),
         }
     }
 }
@@ -511,12 +599,12 @@ pub enum BlockRead {
 // What reading a whole scan answers.
 pub enum ScanRead {
     Done,
-    Stop(Fault),
+    Stop(Break),
 }
 
-// What settling a whole scan answers: its length, or that a code is wanting, or the fault.
+// What settling a whole scan answers: its length, or that a code is wanting, or why and where it broke.
 pub enum ScanSettled {
     Done(usize),
     Lacking,
-    Stop(Fault),
+    Stop(Break),
 }

@@ -9,6 +9,7 @@ use reading::Decoding;
 use reading::Limits;
 use reading::Record;
 use reading::Settling;
+use reading::Verdict;
 
 // ---- numbers of a case
 
@@ -157,6 +158,14 @@ fn open(line: &mut [u8], job: &[u8], number: u8, left: u64) -> usize {
     put_number(line, b, left)
 }
 
+// The same of a call that says where a scan broke, with the block and the place.
+fn open_named(line: &mut [u8], job: &[u8], verdict: Verdict, left: u64) -> usize {
+    let named = verdict.named();
+    let a = open(line, job, verdict.number(), left);
+    let b = put_number(line, a, named.block as u64);
+    put_number(line, b, named.place as u64)
+}
+
 // The line is written, with its end: whether it could be.
 fn close(line: &mut [u8], at: usize) -> bool {
     let n = tillsparrow_streams::put(line, at, b"\n");
@@ -184,7 +193,7 @@ fn inspected(head: &[u8], s: &[u8]) -> bool {
     let answer = jpeg::inspect(s, number(head, 1) == 1, limits(head), budget);
     let verdict = answer.verdict;
     let rest = answer.budget;
-    let at = open(&mut line, b"1", verdict.number(), rest.left);
+    let at = open_named(&mut line, b"1", verdict, rest.left);
     let end = put_record(&mut line, at, answer.found);
     close(&mut line, end)
 }
@@ -243,7 +252,7 @@ fn settled(head: &[u8], s: &[u8], output: &mut [u8]) -> bool {
     let answer = rewritten(head, s, output);
     let verdict = answer.verdict;
     let rest = answer.budget;
-    let a = open(&mut line, b"3", verdict.number(), rest.left);
+    let a = open_named(&mut line, b"3", verdict, rest.left);
     let b = put_number(&mut line, a, answer.length as u64);
     let c = put_number(&mut line, b, adler(output));
     close(&mut line, c)

@@ -1,8 +1,9 @@
 // Runs bench pieces of the rules through the public calls, and writes each with its answer: the
-// number, what is left of the budget, and where it says so more.
+// number, what is left of the budget, the block and the place that it names, and where it says so more.
 use libc::STDOUT_FILENO;
 use reading::Budget;
 use reading::Limits;
+use reading::Verdict;
 
 // frames: 8 x 8 and 16 x 8 in one channel, and 65,535 x 65,535 in three
 const ONE_BLOCK: [u8; 13] = *b"\xff\xc0\0\x0b\x08\0\x08\0\x08\x01\x01\x11\0";
@@ -57,14 +58,19 @@ fn write_number(n: u64) {
     io::print_decimal(STDOUT_FILENO, n);
 }
 
-// a piece's name, its number and what is left of the budget
-fn inspect(name: &[u8], s: &[u8], limits: Limits, budget: u64) {
-    let answer = jpeg::inspect(s, true, limits, Budget::fresh(budget));
-    let verdict = answer.verdict;
-    let left = answer.budget;
+// a piece's name, its number, what is left of the budget, the block and the place
+fn answered(name: &[u8], verdict: Verdict, left: Budget) {
+    let named = verdict.named();
     io::write_all(STDOUT_FILENO, name);
     write_number(verdict.number() as u64);
     write_number(left.left);
+    write_number(named.block as u64);
+    write_number(named.place as u64);
+}
+
+fn inspect(name: &[u8], s: &[u8], limits: Limits, budget: u64) {
+    let answer = jpeg::inspect(s, true, limits, Budget::fresh(budget));
+    answered(name, answer.verdict, answer.budget);
     end_line();
 }
 
@@ -116,7 +122,7 @@ fn largest(s: &[u8]) {
     );
 }
 
-// a piece's name, its number, what is left of the budget, the settled length, and the byte at a place of the buffer
+// the same, the settled length, and the byte at a place of the buffer
 fn settle(name: &[u8], s: &[u8], at: usize) {
     let mut out = [0u8; 150];
     let answer = jpeg::settle(
@@ -125,11 +131,7 @@ fn settle(name: &[u8], s: &[u8], at: usize) {
         Budget::fresh(10000),
         &mut out,
     );
-    let verdict = answer.verdict;
-    let left = answer.budget;
-    io::write_all(STDOUT_FILENO, name);
-    write_number(verdict.number() as u64);
-    write_number(left.left);
+    answered(name, answer.verdict, answer.budget);
     write_number(answer.length as u64);
     if at < out.len() {
         write_number(tillsparrow_streams::wide(out[at]));
@@ -257,6 +259,47 @@ fn stray() {
     );
 }
 
+// the same of files that are judged to their end
+fn judge(name: &[u8], s: &[u8]) {
+    inspect(name, s, tillsparrow_streams::limits(), 10000);
+}
+
+// scans that break in their first block, which begins at 138, or at their end, where the block count is 1 and the place 139
+fn broken_at_once() {
+    let mut f = [1u8; 141];
+    block(&mut f, &DC, &AC, b"\x3f");
+    judge(b"cut before its block", &f[..138]);
+    judge(b"cut before 255", &f[..139]);
+    judge(b"cut before 217", &f[..140]);
+    f[138] = 255;
+    judge(b"a 255 as the last byte", &f[..139]);
+    f[138] = 254;
+    judge(b"eight bits, then no byte", &f[..139]);
+    judge(b"eight bits, then a bare 255", &f);
+    let mut more = [1u8; 142];
+    block(&mut more, &DC, &AC, b"\xff\x01");
+    judge(b"a bare 255", &more);
+    block(&mut more, &DC, &AC, b"\xfe\xfe");
+    judge(b"sixteen bits and no code", &more);
+}
+
+// scans that break behind a restart: its block is number 1, and its turn begins at 145, before the restart
+fn broken_behind_a_restart() {
+    let mut two = [1u8; 150];
+    between(&mut two, b"\x3f\xff\xd0\x3f");
+    judge(b"cut before the restart", &two[..145]);
+    judge(b"cut in the restart", &two[..146]);
+    judge(b"cut behind the restart", &two[..147]);
+    judge(b"cut before the end of two", &two[..149]);
+    let mut more = [1u8; 151];
+    between(&mut more, b"\x3f\xff\xd0\xff\x01");
+    judge(b"a bare 255 behind a restart", &more);
+    between(&mut more, b"\x3f\xff\xd0\xfe\xfe");
+    judge(b"no code behind a restart", &more);
+    between(&mut more, b"\x3f\xff\xff\xd1\x3f");
+    judge(b"a wrong restart behind fill", &more);
+}
+
 fn main() {
     let mut f = [1u8; 141];
     block(&mut f, &DC, &AC, b"\x3f");
@@ -305,4 +348,6 @@ fn main() {
     fill();
     full_byte();
     stray();
+    broken_at_once();
+    broken_behind_a_restart();
 }

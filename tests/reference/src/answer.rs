@@ -33,10 +33,10 @@ pub fn line(case: &Case) -> String {
     }
 }
 
-/// `1 number budget-left` and the record.
+/// `1 number budget-left block place` and the record.
 pub fn inspect_line(file: &[u8], colour: u64, limits: &Limits, budget: u64) -> String {
     let (answer, record) = calls::inspect(file, colour, limits, budget);
-    let mut line = opening(1, answer);
+    let mut line = naming(1, answer);
     for number in record.numbers() {
         write!(line, " {number}").unwrap();
     }
@@ -50,11 +50,16 @@ fn decode_line(case: &Case, record: &Record) -> String {
     format!("{} {} {}", opening(case.job, answer), adler(&output), adler(&scratch))
 }
 
-/// `3 number budget-left length A`.
+/// `3 number budget-left block place length A`.
 fn settle_line(case: &Case) -> String {
     let mut buffer = output_before(case.room);
     let (answer, length) = calls::settle(&case.file, &case.limits, case.budget, &mut buffer);
-    format!("{} {length} {}", opening(3, answer), adler(&buffer))
+    format!("{} {length} {}", naming(3, answer), adler(&buffer))
+}
+
+/// The opening of a line that names the block and the place of a broken scan.
+fn naming(job: u64, answer: Answer) -> String {
+    format!("{} {} {}", opening(job, answer), answer.block, answer.place)
 }
 
 fn opening(job: u64, answer: Answer) -> String {

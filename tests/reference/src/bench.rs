@@ -1,5 +1,6 @@
 //! The bench pieces of the rules, run against this reader.
 
+mod broken;
 mod fill;
 
 use crate::calls::{decode, inspect, settle, Limits, UNLIMITED};
@@ -40,6 +41,38 @@ fn f() -> Vec<u8> {
 
 fn number(file: &[u8]) -> u8 {
     inspect(file, 1, &Limits::NONE, UNLIMITED).0.number
+}
+
+/// F's head, then these bytes.
+fn one(scan: &[u8]) -> Vec<u8> {
+    [&f()[..138], scan].concat()
+}
+
+/// F's head, two blocks wide with a restart between them, then these bytes.
+fn two(scan: &[u8]) -> Vec<u8> {
+    let mut file = f_behind(&[255, 221, 0, 4, 0, 1]);
+    file[79] = 16;
+    file.truncate(144);
+    file.extend(scan);
+    file
+}
+
+/// Refused by the scan with this number, block and place: inspect and settle take the work too,
+/// decode with the header's record says 8, and no buffer changes.
+fn refuses(file: &[u8], record: &Record, why: (u8, u64, u64)) {
+    let price = 2 * file.len() as u64 + 1 + record.work;
+    let (answer, own) = inspect(file, 1, &Limits::NONE, price + 9);
+    assert_eq!((answer.number, answer.block, answer.place), why, "{file:?}");
+    assert_eq!((answer.left, own), (9, Record::default()));
+    assert_eq!(inspect(file, 1, &Limits::NONE, price).0.left, 0);
+    let (mut output, mut scratch) = ([5; 900], [6; 900]);
+    let (answer, length) = settle(file, &Limits::NONE, price + 9, &mut output);
+    assert_eq!((answer.number, answer.block, answer.place), why);
+    assert_eq!((answer.left, length), (9, 0));
+    let answer = decode(file, record, &mut output, &mut scratch, price + 9);
+    assert_eq!((answer.number, answer.left), (8, 9));
+    assert_eq!((answer.block, answer.place), (0, 0));
+    assert!(output == [5; 900] && scratch == [6; 900]);
 }
 
 fn settled(file: &[u8]) -> Vec<u8> {
@@ -124,8 +157,9 @@ fn program_on_a_wide_picture() {
     (wide[76], wide[77]) = (0, 1);
     (wide[78], wide[79]) = (32, 1);
     assert_eq!(picture::written(&wide, &picture::PROGRAM), b"refused 6\n");
+    // Its one block is there, then 217 where a bit of the next is wanted.
     (wide[78], wide[79]) = (32, 0);
-    assert_eq!(picture::written(&wide, &picture::PROGRAM), b"refused 4\n");
+    assert_eq!(picture::written(&wide, &picture::PROGRAM), b"refused 10\n");
 }
 
 #[test]
@@ -419,11 +453,12 @@ fn header_refusals_of_f() {
 
 #[test]
 fn cuts_of_f() {
-    // Cut inside a segment 3; at a segment's end, inside a marker or in the scan 4.
+    // Cut inside a segment 3; at a segment's end or inside a marker 4. In the scan 3 where the
+    // block's byte is missing, 4 where the final marker is.
     let whole = f();
-    let ends = [2, 71, 84, 106, 128, 138];
+    let ends = [2, 71, 84, 106, 128];
     let four = |length: usize| {
-        !(2..138).contains(&length) || ends.iter().any(|&end| length == end || length == end + 1)
+        !(2..=138).contains(&length) || ends.iter().any(|&end| length == end || length == end + 1)
     };
     for length in 0..141 {
         let wanted = if four(length) { 4 } else { 3 };

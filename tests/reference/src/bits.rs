@@ -1,5 +1,10 @@
 //! The scan's bits and the fields made of them.
 
+/// The bytes ran out where a bit is wanted.
+pub const RAN_OUT: u8 = 3;
+/// A 255 is followed by neither 0 nor the end where a bit is wanted.
+pub const BARE: u8 = 10;
+
 /// A place in the coded bytes.
 pub struct Bits<'a> {
     file: &'a [u8],
@@ -16,44 +21,51 @@ impl<'a> Bits<'a> {
         Bits { file, at, current: 0, unread: 0 }
     }
 
-    /// "A data byte 255 must be followed by 0, which is skipped."
-    fn take_byte(&mut self) -> Option<()> {
-        let byte = *self.file.get(self.at)?;
+    /// The first byte not yet taken: behind the current one and its stuffed 0, whether or not
+    /// bits of it are unread.
+    pub fn place(&self) -> u64 {
+        self.at as u64
+    }
+
+    /// "A data byte 255 must be followed by 0, which is skipped." As the very last byte it
+    /// counts as ran out.
+    fn take_byte(&mut self) -> Result<(), u8> {
+        let byte = *self.file.get(self.at).ok_or(RAN_OUT)?;
         self.at += 1;
         if byte == 255 {
-            if *self.file.get(self.at)? != 0 {
-                return None;
+            if *self.file.get(self.at).ok_or(RAN_OUT)? != 0 {
+                return Err(BARE);
             }
             self.at += 1;
         }
         self.current = byte;
         self.unread = 8;
-        Some(())
+        Ok(())
     }
 
-    /// "Bits come highest first."
-    pub fn bit(&mut self) -> Option<u32> {
+    /// "Bits come highest first." The fault is its number.
+    pub fn bit(&mut self) -> Result<u32, u8> {
         if self.unread == 0 {
             self.take_byte()?;
         }
         self.unread -= 1;
-        Some(u32::from(self.current >> self.unread) & 1)
+        Ok(u32::from(self.current >> self.unread) & 1)
     }
 
     /// A field of `n` bits.
-    pub fn field(&mut self, n: u32) -> Option<u32> {
+    pub fn field(&mut self, n: u32) -> Result<u32, u8> {
         let mut value = 0;
         for _ in 0..n {
             value = 2 * value + self.bit()?;
         }
-        Some(value)
+        Ok(value)
     }
 
     /// "The unread bits of the current byte are all ones", then any number of 255 as fill, then
-    /// 255 and `code`.
+    /// 255 and `code`. What is wrong here has no reason of its own, also where bytes ran out.
     pub fn marker(&mut self, code: u8) -> Option<()> {
         while self.unread > 0 {
-            if self.bit()? == 0 {
+            if self.bit() != Ok(1) {
                 return None;
             }
         }
@@ -102,25 +114,43 @@ mod tests {
     #[test]
     fn stuffing_is_skipped() {
         let mut bits = Bits::new(&[255, 0, 128], 0);
-        assert_eq!(bits.field(9), Some(511));
-        assert_eq!(bits.field(7), Some(0));
-        assert_eq!(bits.bit(), None);
+        assert_eq!(bits.field(9), Ok(511));
+        assert_eq!(bits.field(7), Ok(0));
+        assert_eq!(bits.bit(), Err(RAN_OUT));
     }
 
     #[test]
     fn bare_255_and_cuts_are_faults() {
-        assert_eq!(Bits::new(&[255, 217], 0).bit(), None);
-        assert_eq!(Bits::new(&[255], 0).bit(), None);
-        assert_eq!(Bits::new(&[], 0).bit(), None);
+        for next in 1..=255 {
+            assert_eq!(Bits::new(&[255, next], 0).bit(), Err(BARE));
+        }
+        assert_eq!(Bits::new(&[255, 0], 0).bit(), Ok(1));
+        assert_eq!(Bits::new(&[255], 0).bit(), Err(RAN_OUT));
+        assert_eq!(Bits::new(&[], 0).bit(), Err(RAN_OUT));
+        // A field of no bits wants none.
+        assert_eq!(Bits::new(&[], 0).field(0), Ok(0));
+        assert_eq!(Bits::new(&[255, 217], 0).field(0), Ok(0));
+    }
+
+    #[test]
+    fn the_place_is_behind_the_current_byte() {
+        let mut bits = Bits::new(&[7, 7, 255, 0, 7], 1);
+        assert_eq!(bits.place(), 1);
+        for bit in 0..24 {
+            bits.bit().unwrap();
+            assert_eq!(bits.place(), [2, 4, 5][bit / 8], "bit {bit}");
+        }
+        assert_eq!(bits.bit(), Err(RAN_OUT));
     }
 
     #[test]
     fn fill_is_never_bits() {
-        assert_eq!(Bits::new(&[255, 255, 0], 0).bit(), None);
-        assert_eq!(Bits::new(&[255, 255, 217], 0).bit(), None);
+        assert_eq!(Bits::new(&[255, 255, 0], 0).bit(), Err(BARE));
+        assert_eq!(Bits::new(&[255, 255, 217], 0).bit(), Err(BARE));
+        assert_eq!(Bits::new(&[255, 255], 0).bit(), Err(BARE));
         let mut bits = Bits::new(&[0x3f, 255, 255, 0], 0);
-        assert_eq!(bits.field(8), Some(0x3f));
-        assert_eq!(bits.bit(), None);
+        assert_eq!(bits.field(8), Ok(0x3f));
+        assert_eq!(bits.bit(), Err(BARE));
     }
 
     /// Whether 217 is met as the last byte once so many bits are read.
@@ -154,13 +184,13 @@ mod tests {
     #[test]
     fn padding_is_ones_and_less_than_a_byte() {
         let mut bits = Bits::new(&[0x3f, 255, 217], 0);
-        bits.field(2);
+        bits.field(2).unwrap();
         assert!(bits.marker(217).is_some() && bits.at_end());
         let mut bits = Bits::new(&[0x3e, 255, 217], 0);
-        bits.field(2);
+        bits.field(2).unwrap();
         assert!(bits.marker(217).is_none());
         let mut bits = Bits::new(&[0x3f, 255, 0, 255, 217], 0);
-        bits.field(8);
+        bits.field(8).unwrap();
         assert!(bits.marker(217).is_none());
     }
 }

@@ -3,7 +3,7 @@
 use crate::header;
 use crate::layout;
 use crate::record::Record;
-use crate::scan;
+use crate::scan::{self, Broken};
 use crate::settle as settling;
 use crate::transform;
 
@@ -20,19 +20,29 @@ impl Limits {
     pub const NONE: Limits = Limits { input: UNLIMITED, side: UNLIMITED, output: UNLIMITED };
 }
 
-/// A refusal number (0 is success) and what is left of the budget.
+/// A refusal number (0 is success) and what is left of the budget. Where inspect or settle met
+/// a fault in the scan, also the block and the place that it names; else both are 0.
 #[derive(Clone, Copy, Debug, PartialEq, Eq)]
 pub struct Answer {
     pub number: u8,
     pub left: u64,
+    pub block: u64,
+    pub place: u64,
+}
+
+impl Answer {
+    /// An answer that names no block.
+    fn unnamed(number: u8, left: u64) -> Answer {
+        Answer { number, left, block: 0, place: 0 }
+    }
 }
 
 fn refuse<T: Default>(number: u8, left: u64) -> (Answer, T) {
-    (Answer { number, left }, T::default())
+    (Answer::unnamed(number, left), T::default())
 }
 
 fn accept<T>(left: u64, value: T) -> (Answer, T) {
-    (Answer { number: 0, left }, value)
+    (Answer::unnamed(0, left), value)
 }
 
 /// 2n + 1 as a whole number.
@@ -40,7 +50,7 @@ pub fn header_price(file: &[u8]) -> u128 {
     2 * file.len() as u128 + 1
 }
 
-/// Inspect, in order: 1; 2 for 2n+1; the header 3/4/5; 6; 2 for work; the scan, 4.
+/// Inspect, in order: 1; 2 for 2n+1; the header 3/4/5; 6; 2 for work; the scan, 3/4/10/11.
 pub fn inspect(file: &[u8], colour: u64, limits: &Limits, budget: u64) -> (Answer, Record) {
     let price = header_price(file);
     if file.len() as u128 > u128::from(limits.input) || price > u128::from(u64::MAX) {
@@ -62,8 +72,10 @@ pub fn inspect(file: &[u8], colour: u64, limits: &Limits, budget: u64) -> (Answe
     }
     let left = left - record.work;
     match scan::read(file, &record, &mut |_, _, _| {}) {
-        Some(()) => accept(left, record),
-        None => refuse(4, left),
+        Ok(()) => accept(left, record),
+        Err(Broken { number, block, place }) => {
+            (Answer { number, left, block, place }, Record::default())
+        }
     }
 }
 
@@ -85,11 +97,11 @@ pub fn decode(
     budget: u64,
 ) -> Answer {
     if (output.len() as u64) < record.output || (scratch.len() as u64) < record.scratch {
-        return Answer { number: 7, left: budget };
+        return Answer::unnamed(7, budget);
     }
     let price = header_price(file) + u128::from(record.work);
     if u128::from(budget) < price {
-        return Answer { number: 2, left: budget };
+        return Answer::unnamed(2, budget);
     }
     let left = budget - price as u64;
     // "Limits set aside and with the record's colour choice."
@@ -98,12 +110,12 @@ pub fn decode(
         _ => None,
     };
     let Some(samples) = samples else {
-        return Answer { number: 8, left };
+        return Answer::unnamed(8, left);
     };
     let picture = layout::picture(record, &samples);
     scratch[..samples.len()].copy_from_slice(&samples);
     output[..picture.len()].copy_from_slice(&picture);
-    Answer { number: 0, left }
+    Answer::unnamed(0, left)
 }
 
 /// "Each block's 64 samples are written at their own part of the scratch." `None` for a
@@ -116,7 +128,8 @@ fn block_samples(file: &[u8], record: &Record) -> Option<Vec<u8>> {
         let coefficients = transform::coefficients(levels, &file[at..at + 64]);
         assert_eq!(samples.len() as u64, 64 * block);
         samples.extend(transform::samples(&table, &coefficients));
-    })?;
+    })
+    .ok()?;
     Some(samples)
 }
 
@@ -124,14 +137,14 @@ fn block_samples(file: &[u8], record: &Record) -> Option<Vec<u8>> {
 pub fn settle(file: &[u8], limits: &Limits, budget: u64, buffer: &mut [u8]) -> (Answer, u64) {
     let (answer, record) = inspect(file, 0, limits, budget);
     if answer.number != 0 {
-        return refuse(answer.number, answer.left);
+        return (answer, 0);
     }
     let Some(settled) = settling::settled(file, &record) else {
         return refuse(9, answer.left);
     };
     let length = settled.len() as u64;
     if buffer.len() < settled.len() {
-        return (Answer { number: 7, left: answer.left }, length);
+        return (Answer::unnamed(7, answer.left), length);
     }
     buffer[..settled.len()].copy_from_slice(&settled);
     accept(answer.left, length)

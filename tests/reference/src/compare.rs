@@ -1,5 +1,6 @@
 //! Compares two runs of answers to the same cases.
 
+use crate::broken::{self, Place};
 use crate::cases::Case;
 use crate::fill;
 use std::fs::{self, File};
@@ -34,15 +35,58 @@ impl Filled {
     }
 }
 
+/// Cases of inspect and settle whose scan broke, by number and by block.
+#[derive(Default)]
+struct Broken {
+    cases: u64,
+    numbers: [u64; 4],
+    first: u64,
+    behind_restart: u64,
+    end: u64,
+}
+
+impl Broken {
+    const NUMBERS: [u64; 4] = [3, 4, 10, 11];
+
+    fn count(&mut self, case: &Case, line: &str) {
+        let Some((number, place)) = broken::told(case, line) else {
+            return;
+        };
+        self.cases += 1;
+        for (known, count) in Broken::NUMBERS.iter().zip(&mut self.numbers) {
+            *count += u64::from(*known == number);
+        }
+        match place {
+            Place::First => self.first += 1,
+            Place::BehindRestart => self.behind_restart += 1,
+            Place::End => self.end += 1,
+            Place::Elsewhere => {}
+        }
+    }
+
+    fn show(&self) {
+        print!("broken scans: {} cases", self.cases);
+        for (number, count) in Broken::NUMBERS.iter().zip(self.numbers) {
+            print!(", {count} refused {number}");
+        }
+        println!(
+            ", {} at block 0, {} behind a restart, {} at the end",
+            self.first, self.behind_restart, self.end
+        );
+    }
+}
+
 /// True if every line agrees. Prints how many did, or the first differences.
 pub fn run(a: &str, b: &str, cases: &str) -> io::Result<bool> {
     let mut a = BufReader::new(File::open(a)?).lines();
     let mut b = BufReader::new(File::open(b)?).lines();
     let mut input = BufReader::new(File::open(cases)?);
-    let (mut index, mut different, mut filled) = (0, 0, Filled::default());
+    let (mut index, mut different) = (0, 0);
+    let (mut filled, mut broken) = (Filled::default(), Broken::default());
     while let Ok(case) = Case::read(&mut input)? {
         let (left, right) = (next(&mut a)?, next(&mut b)?);
         filled.count(&case, left.as_deref().unwrap_or(""));
+        broken.count(&case, left.as_deref().unwrap_or(""));
         if left != right || left.is_none() {
             different += 1;
             show(index, left, right, &case, cases)?;
@@ -60,6 +104,7 @@ pub fn run(a: &str, b: &str, cases: &str) -> io::Result<bool> {
     if different == 0 {
         println!("{index} lines agreed");
         filled.show();
+        broken.show();
     }
     Ok(different == 0)
 }

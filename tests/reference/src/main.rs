@@ -3,6 +3,7 @@
 
 mod answer;
 mod bits;
+mod broken;
 mod calls;
 mod cases;
 mod compare;

@@ -1,4 +1,5 @@
-//! The scan: MCUs, restarts, blocks and the end. Every fault here is number 4.
+//! The scan: MCUs, restarts, blocks and the end. A fault where symbols and fields are read says
+//! why; every other one is number 4.
 
 use crate::bits::{meaning, Bits};
 use crate::huffman::Codes;
@@ -8,34 +9,56 @@ use crate::record::Record;
 /// The values of one block in zigzag order, not yet multiplied by the quantizer.
 pub type Levels = [i32; 64];
 
+const MALFORMED: u8 = 4;
+/// Sixteen bits match no code.
+const NO_CODE: u8 = 11;
+
+/// Why and where a scan broke.
+#[derive(Clone, Copy, Debug, PartialEq, Eq)]
+pub struct Broken {
+    pub number: u8,
+    /// Counted from 0; at the final marker the block count.
+    pub block: u64,
+    /// The first byte not yet taken when the block's reading began, before any restart, or
+    /// before the padding at the end. It counts from the file's start.
+    pub place: u64,
+}
+
 /// The tables of each channel.
 struct Tables {
     dc: Vec<Codes>,
     ac: Vec<Codes>,
 }
 
-/// Reads the whole scan, giving each block's number, channel and levels to `each`.
-/// `None` is a fault; blocks before it have been given.
-pub fn read(file: &[u8], record: &Record, each: &mut dyn FnMut(u64, usize, &Levels)) -> Option<()> {
+/// Reads the whole scan, giving each block's number, channel and levels to `each`, also where
+/// a later one is at fault.
+pub fn read(
+    file: &[u8],
+    record: &Record,
+    each: &mut dyn FnMut(u64, usize, &Levels),
+) -> Result<(), Broken> {
     let tables = Tables::of(file, record);
     let mut bits = Bits::new(file, record.first_coded as usize);
     let mut predictors = [0; 3];
     let per_mcu = layout::blocks_per_mcu(record);
     for block in 0..record.blocks {
+        let place = bits.place();
+        let broken = |number| Broken { number, block, place };
         if block % per_mcu == 0 {
             if let Some(code) = layout::restart_before(record, block / per_mcu) {
-                bits.marker(code)?;
+                bits.marker(code).ok_or(MALFORMED).map_err(broken)?;
                 predictors = [0; 3];
             }
         }
         let channel = layout::channel_of(record, block % per_mcu);
-        let levels = read_block(&mut bits, &tables, channel, predictors[channel])?;
+        let levels =
+            read_block(&mut bits, &tables, channel, predictors[channel]).map_err(broken)?;
         predictors[channel] = levels[0];
         each(block, channel, &levels);
     }
+    let broken = Broken { number: MALFORMED, block: record.blocks, place: bits.place() };
     // "217, where it stands, still ends the file."
-    bits.marker(217)?;
-    bits.at_end().then_some(())
+    bits.marker(217).filter(|()| bits.at_end()).ok_or(broken)
 }
 
 impl Tables {
@@ -50,24 +73,31 @@ impl Tables {
     }
 }
 
-/// "Codes are tried after each bit, shortest first."
-fn read_symbol(bits: &mut Bits, codes: &Codes) -> Option<u8> {
+/// "Codes are tried after each bit, shortest first." That there is none is known when sixteen
+/// bits have been read, however short the longest code.
+fn read_symbol(bits: &mut Bits, codes: &Codes) -> Result<u8, u8> {
     let mut code = 0;
     for length in 1..=16 {
         code = 2 * code + bits.bit()?;
         if let Some(symbol) = codes.symbol(length, code) {
-            return Some(symbol);
+            return Ok(symbol);
         }
     }
-    None
+    Err(NO_CODE)
 }
 
-fn read_value(bits: &mut Bits, size: u32) -> Option<i32> {
-    Some(meaning(size, bits.field(size)?))
+fn read_value(bits: &mut Bits, size: u32) -> Result<i32, u8> {
+    Ok(meaning(size, bits.field(size)?))
 }
 
-/// One block: "the walk stops at the first of: end code, place 64, refusal".
-fn read_block(bits: &mut Bits, tables: &Tables, channel: usize, predictor: i32) -> Option<Levels> {
+/// One block: "the walk stops at the first of: end code, place 64, refusal". What a symbol alone
+/// tells comes before its field.
+fn read_block(
+    bits: &mut Bits,
+    tables: &Tables,
+    channel: usize,
+    predictor: i32,
+) -> Result<Levels, u8> {
     let mut levels = [0; 64];
     levels[0] = read_first(bits, &tables.dc[channel], predictor)?;
     let mut place = 1;
@@ -82,18 +112,18 @@ fn read_block(bits: &mut Bits, tables: &Tables, channel: usize, predictor: i32) 
                 levels[place + run] = read_value(bits, size)?;
                 place += run + 1;
             }
-            _ => return None,
+            _ => return Err(MALFORMED),
         }
     }
-    Some(levels)
+    Ok(levels)
 }
 
 /// "Category 0..11; prediction plus difference lies in -2048..2047."
-fn read_first(bits: &mut Bits, codes: &Codes, predictor: i32) -> Option<i32> {
+fn read_first(bits: &mut Bits, codes: &Codes, predictor: i32) -> Result<i32, u8> {
     let category = read_symbol(bits, codes)?;
     if category > 11 {
-        return None;
+        return Err(MALFORMED);
     }
     let value = predictor + read_value(bits, u32::from(category))?;
-    (-2048..=2047).contains(&value).then_some(value)
+    (-2048..=2047).contains(&value).then_some(value).ok_or(MALFORMED)
 }

@@ -16,11 +16,20 @@ has-comment-requires c κs = search needs
 digit-requires : tie.Need-digit-requires
 digit-requires c κs = search needs
 
+named-requires : tie.Need-named-requires
+named-requires c κs = search needs
+
 number-requires : tie.Need-number-requires
 number-requires c κs = search needs
 
 returns : tie.Need-returns
-returns c = rw (c .number .ensures) (rw (c .before .digit .ensures) (ap flatPresence (rw (c .before .before .before .before .fresh .ensures, c .before .before .before .before .before .limits .ensures) at (c .before .before .before .has-comment .ensures))))
+returns c =
+    rw (c .number .ensures)
+    (rw (c .before .named .ensures)
+    (rw (c .before .before .digit .ensures)
+    (ap flatPresence
+    (rw (c .before .before .before .before .before .fresh .ensures, c .before .before .before .before .before .before .limits .ensures) at
+    (c .before .before .before .before .has-comment .ensures)))))
 
 pub tillsparrow-has-comment-spec : {M : Type 1} → statement M
 tillsparrow-has-comment-spec =
@@ -30,5 +39,6 @@ tillsparrow-has-comment-spec =
     fresh-requires
     has-comment-requires
     digit-requires
+    named-requires
     number-requires
     returns)

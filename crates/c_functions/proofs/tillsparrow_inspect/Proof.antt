@@ -15,11 +15,19 @@ inspect-requires c κs = search needs
 flat-requires : tie.Need-flat-requires
 flat-requires c κs = search needs
 
+named-requires : tie.Need-named-requires
+named-requires c κs = search needs
+
 number-requires : tie.Need-number-requires
 number-requires c κs = search needs
 
 returns : tie.Need-returns
-returns c = rw (c .number .ensures) (rw (c .before .before .flat .ensures) (rw (c .before .before .before .inspect .ensures) (rw (c .before .before .before .before .fresh .ensures) (rw (c .before .before .before .before .before .limits .ensures) refl))))
+returns c =
+    rw (c .number .ensures)
+    (rw (c .before .named .ensures)
+    (rw (c .before .before .before .flat .ensures)
+    (rw (c .before .before .before .before .inspect .ensures)
+    (rw (c .before .before .before .before .before .fresh .ensures) (rw (c .before .before .before .before .before .before .limits .ensures) refl)))))
 
 pub tillsparrow-inspect-spec : {M : Type 1} → statement M
 tillsparrow-inspect-spec =
@@ -29,5 +37,6 @@ tillsparrow-inspect-spec =
     fresh-requires
     inspect-requires
     flat-requires
+    named-requires
     number-requires
     returns)

@@ -13,6 +13,9 @@ fresh-requires c κs = search needs
 settle-requires : tie.Need-settle-requires
 settle-requires c κs = search needs
 
+named-requires : tie.Need-named-requires
+named-requires c κs = search needs
+
 number-requires : tie.Need-number-requires
 number-requires c κs = search needs
 
@@ -20,9 +23,14 @@ same-length : tie.Need-same-length
 same-length c = search needs
 
 returns : tie.Need-returns
-returns c = rw (c .number .ensures) (ap settled (rw (c .before .before .before .before .before .before .before .limits .ensures, c .before .before .before .before .before .before .fresh .ensures) at (c .before .before .before .before .settle .ensures)))
+returns c =
+    rw (c .number .ensures)
+    (rw (c .before .named .ensures)
+    (ap settled
+    (rw (c .before .before .before .before .before .before .before .before .limits .ensures, c .before .before .before .before .before .before .before .fresh .ensures) at
+    (c .before .before .before .before .before .settle .ensures))))
 
 pub tillsparrow-settle-spec : {M : Type 1} → statement M
 tillsparrow-settle-spec =
     tie.close
-    (tie.spec limits-requires fresh-requires settle-requires number-requires same-length returns)
+    (tie.spec limits-requires fresh-requires settle-requires named-requires number-requires same-length returns)

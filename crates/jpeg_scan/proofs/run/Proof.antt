@@ -10,8 +10,8 @@ use lib.ListN.{length}
 use lib.IntN.{ℤ}
 use Rattle.reading.specs.declared.Bits.{Bits}
 use Rattle.reading.specs.declared.ScanCursor.{ScanCursor}
-use Rattle.reading.specs.Reader.{Read}
-use Rattle.reading.specs.Scan.{planOf}
+use Rattle.reading.specs.declared.ScanRead.the-variants.{Stop}
+use Rattle.reading.specs.Scan.{planOf, Cursor, Scanned}
 use Rattle.reading.specs.Code.Scans.{atStart}
 use Rattle.jpeg_scan_plan.specs.declared.Plan.{Plan}
 use Rattle.jpeg_scan.specs.Steps.{ahead}
@@ -32,14 +32,17 @@ abbrev μ-mcus : tie.MeasureT-mcus
 of-requires : tie.Need-of-requires Inv-mcus μ-mcus
 of-requires c κs = search needs
 
+nowhere-requires : tie.Need-nowhere-requires Inv-mcus μ-mcus
+nowhere-requires c κs = search needs
+
 set-up : (c : tie.Else1 Inv-mcus μ-mcus) → Ready (c .before .before .before .before .before .args .s .now) (c .before .before .before .before .before .args .found) (c .before .before .of .result)
 set-up c = ready (c .before .before .before .before .before .args .s .now) (c .before .before .before .before .before .args .found) (c .before .before .of .ensures) (c .if1 .left)
 
 returns : tie.Need-returns Inv-mcus μ-mcus
 returns c =
-    let a = (c .before .before .before .before .before) .args in
-    let e = unready (a .s .now) (a .found) (c .before .before .of .ensures) (c .if1 .taken) in
-    (answer-stop e, left-stop (a .s .now) (a .found) (a .write) _ _ e (λ t. refl))
+    let a = (c .before .before .before .before .before .before) .args in
+    let e = unready (a .s .now) (a .found) (c .before .before .before .of .ensures) (c .before .if1 .taken) in
+    (ap Stop (c .nowhere .ensures) ∙ answer-stop e, left-stop (a .s .now) (a .found) (a .write) _ _ e (λ t. refl))
 
 blocks-are : (c : tie.Else1 Inv-mcus μ-mcus) → c .before .before .of .result .blocks ≡ c .before .before .before .before .before .args .found .blocks
 blocks-are c = ap (λ (n : Plan). n .blocks) (set-up c .plan-is)
@@ -56,11 +59,17 @@ mcus-holds c = begin _ _ _ _ _ (ap (λ (q : ScanCursor). q .done) (c .fresh .ens
 at-end-requires : tie.Need-at-end-requires Inv-mcus μ-mcus
 at-end-requires c κs = search needs
 
+broke-requires : tie.Need-broke-requires Inv-mcus μ-mcus
+broke-requires c κs = search needs
+
 restart-requires : tie.Need-restart-requires Inv-mcus μ-mcus
 restart-requires c κs = search needs
 
 enum-known-h : tie.Need-enum-known-h Inv-mcus μ-mcus
 enum-known-h c = search needs
+
+broke-requires-2 : tie.Need-broke-requires-2 Inv-mcus μ-mcus
+broke-requires-2 c κs = search needs
 
 enum-told : tie.Need-enum-told Inv-mcus μ-mcus
 enum-told c = search needs
@@ -70,6 +79,9 @@ mcu-requires c κs = (set-up (c .before .before .before .before .before .before 
 
 enum-known-g : tie.Need-enum-known-g Inv-mcus μ-mcus
 enum-known-g c = search needs
+
+broke-in-requires : tie.Need-broke-in-requires Inv-mcus μ-mcus
+broke-in-requires c κs = search needs
 
 enum-told-2 : tie.Need-enum-told-2 Inv-mcus μ-mcus
 enum-told-2 c = search needs
@@ -96,7 +108,7 @@ same-length : tie.Need-same-length Inv-mcus μ-mcus
 same-length c = c .before .before .before .before .mcus .inv .size
 
 -- the blocks of the scan, from the cursor that the code starts with
-from-start : (c : tie.After-fresh Inv-mcus μ-mcus) {o : Read Bits (List (List ℤ))}
+from-start : (c : tie.After-fresh Inv-mcus μ-mcus) {o : Scanned (Cursor Bits) (List (List ℤ))}
     → ahead (c .before .before .before .before .before .before .args .s .now) (planOf (c .before .before .before .before .before .before .args .s .now) (c .before .before .before .before .before .before .args .found)) (c .before .before .before .of .result .blocks) (c .fresh .result) ≡ o
     → ahead (c .before .before .before .before .before .before .args .s .now) (planOf (c .before .before .before .before .before .before .args .s .now) (c .before .before .before .before .before .before .args .found)) (c .before .before .before .before .before .before .args .found .blocks) (atStart (c .before .before .before .before .before .before .args .found .start)) ≡ o
 from-start c e =
@@ -113,37 +125,37 @@ returns-2 c =
     (answer-done e, left-done (a .s .now) (a .found) (a .write) _ e (w .on _ (u .numbers) .here))
 
 same-length-2 : tie.Need-same-length-2 Inv-mcus μ-mcus
-same-length-2 c = c .before .before .before .before .mcus .inv .size
+same-length-2 c = c .before .before .before .before .before .mcus .inv .size
 
 returns-3 : tie.Need-returns-3 Inv-mcus μ-mcus
 returns-3 c =
-    let a = (c .before .before .before .before .before .before .before .before .before .before .before) .args in
-    let w = (c .before .before .before .before) .mcus .inv in
-    let u = set-up (c .before .before .before .before .before .before) in
-    let e = scan-open (a .s .now) (a .found) (u .readable-is) (from-start (c .before .before .before .before .before) (all-read w _ (u .numbers) (c .before .before .if2 .taken))) (sym (c .before .at-end .ensures) ∙ c .if3 .left) in
-    (answer-stop e, left-stop (a .s .now) (a .found) (a .write) _ _ e (unchanged w _ (u .numbers)))
+    let a = (c .before .before .before .before .before .before .before .before .before .before .before .before) .args in
+    let w = (c .before .before .before .before .before) .mcus .inv in
+    let u = set-up (c .before .before .before .before .before .before .before) in
+    let e = scan-open (a .s .now) (a .found) (u .readable-is) (from-start (c .before .before .before .before .before .before) (all-read w _ (u .numbers) (c .before .before .before .if2 .taken))) (sym (c .before .before .at-end .ensures) ∙ c .before .if3 .left) in
+    (ap Stop (c .broke .ensures) ∙ answer-stop e, left-stop (a .s .now) (a .found) (a .write) _ _ e (unchanged w _ (u .numbers)))
 
 same-length-3 : tie.Need-same-length-3 Inv-mcus μ-mcus
-same-length-3 c = c .before .before .before .before .before .before .mcus .inv .size
+same-length-3 c = c .before .before .before .before .before .before .before .mcus .inv .size
 
 returns-4 : tie.Need-returns-4 Inv-mcus μ-mcus
 returns-4 c =
-    let a = (c .before .before .before .before .before .before .before .before .before .before .before .before .before) .args in
-    let w = (c .before .before .before .before .before .before) .mcus .inv in
-    let u = set-up (c .before .before .before .before .before .before .before .before) in
-    let e = scan-stop (a .s .now) (a .found) (u .readable-is) (from-start (c .before .before .before .before .before .before .before) (stopped w (c .before .before .before .before .if2 .left) (c .before .before .before .restart .ensures) _ (u .numbers) (c .before .h .given .1))) in
-    (answer-stop e, left-stop (a .s .now) (a .found) (a .write) _ _ e (unchanged w _ (u .numbers)))
+    let a = (c .before .before .before .before .before .before .before .before .before .before .before .before .before .before) .args in
+    let w = (c .before .before .before .before .before .before .before) .mcus .inv in
+    let u = set-up (c .before .before .before .before .before .before .before .before .before) in
+    let e = scan-stop (a .s .now) (a .found) (u .readable-is) (from-start (c .before .before .before .before .before .before .before .before) (stopped w (c .before .before .before .before .before .if2 .left) (c .before .before .before .before .restart .ensures) _ (u .numbers) (c .before .before .h .given .1))) in
+    (ap Stop (c .broke2 .ensures) ∙ answer-stop e, left-stop (a .s .now) (a .found) (a .write) _ _ e (unchanged w _ (u .numbers)))
 
 same-length-4 : tie.Need-same-length-4 Inv-mcus μ-mcus
-same-length-4 c = c .before .before .before .before .before .mcu .ensures .size ∙ c .before .before .before .before .before .before .before .before .before .before .before .before .mcus .inv .size
+same-length-4 c = c .before .before .before .before .before .before .mcu .ensures .size ∙ c .before .before .before .before .before .before .before .before .before .before .before .before .before .mcus .inv .size
 
 returns-5 : tie.Need-returns-5 Inv-mcus μ-mcus
 returns-5 c =
-    let a = (c .before .before .before .before .before .before .before .before .before .before .before .before .before .before .before .before .before .before .before) .args in
-    let u = set-up (c .before .before .before .before .before .before .before .before .before .before .before .before .before .before) in
-    let b = broken (c .before .before .before .before .before .before .before .before .before .before .before .before .mcus .inv) (c .before .before .before .before .before .before .before .before .before .before .if2 .left) (c .before .before .before .before .before .before .before .before .before .restart .ensures) (c .before .before .before .before .before .before .before .enum-told .given .1) (c .before .before .before .before .before .mcu .ensures) _ (u .numbers) (c .before .g .given .1) in
-    let e = scan-stop (a .s .now) (a .found) (u .readable-is) (from-start (c .before .before .before .before .before .before .before .before .before .before .before .before .before) (b .0)) in
-    (answer-stop e, left-stop (a .s .now) (a .found) (a .write) _ _ e (b .1))
+    let a = (c .before .before .before .before .before .before .before .before .before .before .before .before .before .before .before .before .before .before .before .before) .args in
+    let u = set-up (c .before .before .before .before .before .before .before .before .before .before .before .before .before .before .before) in
+    let b = broken (c .before .before .before .before .before .before .before .before .before .before .before .before .before .mcus .inv) (c .before .before .before .before .before .before .before .before .before .before .before .if2 .left) (c .before .before .before .before .before .before .before .before .before .before .restart .ensures) (c .before .before .before .before .before .before .before .before .enum-told .given .1) (c .before .before .before .before .before .before .mcu .ensures) _ (u .numbers) (c .before .before .g .given .1) in
+    let e = scan-stop (a .s .now) (a .found) (u .readable-is) (from-start (c .before .before .before .before .before .before .before .before .before .before .before .before .before .before) (b .0)) in
+    (ap Stop (c .broke-in .ensures) ∙ answer-stop e, left-stop (a .s .now) (a .found) (a .write) _ _ e (b .1))
 
 pub run-spec : {M : Type 1} → statement M
 run-spec =
@@ -152,15 +164,19 @@ run-spec =
     Inv-mcus
     μ-mcus
     of-requires
+    nowhere-requires
     returns
     fresh-requires
     mcus-holds
     at-end-requires
+    broke-requires
     restart-requires
     enum-known-h
+    broke-requires-2
     enum-told
     mcu-requires
     enum-known-g
+    broke-in-requires
     enum-told-2
     add-m
     mcus-less

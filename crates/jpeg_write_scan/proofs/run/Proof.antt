@@ -5,7 +5,7 @@ use native.Mathlib.Nat.{le-mul-of-pos-right}
 use native.Mathlib.Omega.{arith}
 use borrow.Author.Needs.{needs}
 use Rattle.jpeg_write_bits.specs.declared.Outcome.the-variants.{Done}
-use Rattle.jpeg_write_scan.proofs.ScanPassed.{Walk, begin, ended-done, ended-not, at-mcu, stopped, gained, broken, further}
+use Rattle.jpeg_write_scan.proofs.ScanPassed.{told-by, Walk, begin, ended-done, ended-not, at-mcu, stopped, gained, broken, further}
 use Rattle.jpeg_write_scan.proofs.run.Statement.{statement}
 use Rattle.jpeg_write_scan.proofs.run.Tie as tie
 
@@ -29,6 +29,15 @@ at-end-requires c κs = search needs
 
 last-requires : tie.Need-last-requires Inv-mcus μ-mcus
 last-requires c κs = c .before .before .before .before .before .mcus .inv .fit
+
+broke-requires : tie.Need-broke-requires Inv-mcus μ-mcus
+broke-requires c κs = search needs
+
+broke-requires-2 : tie.Need-broke-requires-2 Inv-mcus μ-mcus
+broke-requires-2 c κs = search needs
+
+broke-in-requires : tie.Need-broke-in-requires Inv-mcus μ-mcus
+broke-in-requires c κs = search needs
 
 restart-requires : tie.Need-restart-requires Inv-mcus μ-mcus
 restart-requires c κs = search needs
@@ -67,22 +76,22 @@ returns : tie.Need-returns Inv-mcus μ-mcus
 returns c = ended-done (c .before .before .before .before .before .before .before .before .mcus .inv) (c .before .before .before .before .before .before .if1 .taken) (sym (c .before .before .before .before .before .at-end .ensures) ∙ c .before .before .before .before .if2 .taken) (search needs) (c .before .before .last .ensures)
 
 same-length-2 : tie.Need-same-length-2 Inv-mcus μ-mcus
-same-length-2 c = c .before .before .before .before .mcus .inv .size
+same-length-2 c = c .before .before .before .before .before .mcus .inv .size
 
 returns-2 : tie.Need-returns-2 Inv-mcus μ-mcus
-returns-2 c = ended-not (c .before .before .before .before .mcus .inv) (c .before .before .if1 .taken) (sym (c .before .at-end .ensures) ∙ c .if2 .left)
+returns-2 c = told-by (c .broke .ensures) (ended-not (c .before .before .before .before .before .mcus .inv) (c .before .before .before .if1 .taken) (sym (c .before .before .at-end .ensures) ∙ c .before .if2 .left))
 
 same-length-3 : tie.Need-same-length-3 Inv-mcus μ-mcus
-same-length-3 c = c .before .before .before .before .before .before .mcus .inv .size
+same-length-3 c = c .before .before .before .before .before .before .before .mcus .inv .size
 
 returns-3 : tie.Need-returns-3 Inv-mcus μ-mcus
-returns-3 c = stopped (c .before .before .before .before .before .before .mcus .inv) (c .before .before .before .before .if1 .left) (c .before .before .before .restart .ensures) (c .before .h .given .1)
+returns-3 c = told-by (c .broke2 .ensures) (stopped (c .before .before .before .before .before .before .before .mcus .inv) (c .before .before .before .before .before .if1 .left) (c .before .before .before .before .restart .ensures) (c .before .before .h .given .1))
 
 same-length-4 : tie.Need-same-length-4 Inv-mcus μ-mcus
-same-length-4 c = search needs
+same-length-4 c = c .before .before .before .before .before .before .mcu .ensures .size ∙ (search needs ∙ c .before .before .before .before .before .before .before .before .before .before .before .before .before .before .before .before .before .mcus .inv .size)
 
 returns-4 : tie.Need-returns-4 Inv-mcus μ-mcus
-returns-4 c = broken (c .before .before .before .before .before .before .before .before .before .before .before .before .before .before .before .before .mcus .inv) (c .before .before .before .before .before .before .before .before .before .before .before .before .before .before .if1 .left) (c .before .before .before .before .before .before .before .before .before .before .before .before .before .restart .ensures) (c .before .before .before .before .before .before .before .before .before .before .before .enum-told .given .1) (c .before .before .before .before .before .before .before .before .before .mark .ensures) (c .before .before .before .before .before .mcu .ensures) (search needs) (c .before .g .given .1)
+returns-4 c = told-by (c .broke-in .ensures) (broken (c .before .before .before .before .before .before .before .before .before .before .before .before .before .before .before .before .before .mcus .inv) (c .before .before .before .before .before .before .before .before .before .before .before .before .before .before .before .if1 .left) (c .before .before .before .before .before .before .before .before .before .before .before .before .before .before .restart .ensures) (c .before .before .before .before .before .before .before .before .before .before .before .before .enum-told .given .1) (c .before .before .before .before .before .before .before .before .before .before .mark .ensures) (c .before .before .before .before .before .before .mcu .ensures) (search needs) (c .before .before .g .given .1))
 
 pub run-spec : {M : Type 1} → statement M
 run-spec =
@@ -95,12 +104,15 @@ run-spec =
     mcus-holds
     at-end-requires
     last-requires
+    broke-requires
     restart-requires
     enum-known-h
+    broke-requires-2
     enum-told
     mark-requires
     mcu-requires
     enum-known-g
+    broke-in-requires
     enum-told-2
     add-m
     mcus-less

@@ -4,6 +4,7 @@ use mathlib.Core.Path.{sym, ap, _∙_}
 use native.Mathlib.Omega.{arith}
 use lib.Seq.{length-take-le}
 use borrow.Author.Needs.{needs}
+use Rattle.reading.specs.declared.ScanSettled.the-variants.{Stop}
 use Rattle.reading.proofs.FileBytes.{all-bytes}
 use Rattle.jpeg_scan_plan.specs.declared.Plan.{Plan}
 use Rattle.jpeg_scan_plan.proofs.Standing.{Ready, ready, unready}
@@ -23,13 +24,19 @@ blocks-few : (c : tie.Else2) → c .before .before .of .result .blocks < 2 ^ 32
 blocks-few c = omega (arith, few (c .before .before .before), ap (λ (n : Plan). n .blocks) (set-up c .plan-is))
 
 returns : tie.Need-returns
-returns c = says-stop (c .before .before .before .before .args .out .now) (settled-many (c .before .before .before .before .args .s .now) (c .before .before .before .before .args .found) (omega (arith, c .if1 .taken)))
+returns c = let r = says-stop (c .before .before .before .before .before .args .out .now) (settled-many (c .before .before .before .before .before .args .s .now) (c .before .before .before .before .before .args .found) (omega (arith, c .before .if1 .taken))) in (ap Stop (c .nowhere .ensures) ∙ r .0, r .1)
+
+nowhere-requires : tie.Need-nowhere-requires
+nowhere-requires c κs = search needs
+
+nowhere-requires-2 : tie.Need-nowhere-requires-2
+nowhere-requires-2 c κs = search needs
 
 of-requires : tie.Need-of-requires
 of-requires c κs = search needs
 
 returns-2 : tie.Need-returns-2
-returns-2 c = says-stop (c .before .before .before .before .before .before .before .args .out .now) (settled-unread (c .before .before .before .before .before .before .before .args .s .now) (c .before .before .before .before .before .before .before .args .found) (few (c .before .before .before)) (unready (c .before .before .before .before .before .before .before .args .s .now) (c .before .before .before .before .before .before .before .args .found) (c .before .before .of .ensures) (c .if2 .taken)))
+returns-2 c = let r = says-stop (c .before .before .before .before .before .before .before .before .args .out .now) (settled-unread (c .before .before .before .before .before .before .before .before .args .s .now) (c .before .before .before .before .before .before .before .before .args .found) (few (c .before .before .before .before)) (unready (c .before .before .before .before .before .before .before .before .args .s .now) (c .before .before .before .before .before .before .before .before .args .found) (c .before .before .before .of .ensures) (c .before .if2 .taken))) in (ap Stop (c .nowhere2 .ensures) ∙ r .0, r .1)
 
 slice-aggregate-sheet : tie.Need-slice-aggregate-sheet
 slice-aggregate-sheet c = sym (length-take-le _ _ (set-up (c .before) .inside))
@@ -84,8 +91,10 @@ pub settled-spec : {M : Type 1} → statement M
 settled-spec =
     tie.close
     (tie.spec
+    nowhere-requires
     returns
     of-requires
+    nowhere-requires-2
     returns-2
     slice-aggregate-sheet
     bases-requires

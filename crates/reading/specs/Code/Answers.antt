@@ -18,6 +18,7 @@ use Rattle.reading.specs.declared.BlockRead.the-variants as block
 use Rattle.reading.specs.declared.ScanRead.{ScanRead}
 use Rattle.reading.specs.declared.ScanRead.the-variants as scan
 use Rattle.reading.specs.Reader.{Read, got, fault}
+use Rattle.reading.specs.Scan.{Scanned, whole, broke}
 use Rattle.reading.specs.Block.{zeros}
 use Rattle.reading.specs.Code.Places.{places}
 
@@ -50,6 +51,6 @@ unfolding levelsOr
 levelsOf r = levelsOr r (zeros 64)
 
 -- what is answered of a whole scan
-unfoldable pub scanRead : Read Bits (List (List ℤ)) → ScanRead
-scanRead (got ls b) = scan.Done
-scanRead (fault f) = scan.Stop f
+unfoldable pub scanRead : Scanned Bits (List (List ℤ)) → ScanRead
+scanRead (whole ls b) = scan.Done
+scanRead (broke w) = scan.Stop w

@@ -10,7 +10,7 @@ use lib.IntN.{ℤ}
 use Rattle.reading.specs.declared.Record.{Record}
 use Rattle.reading.specs.declared.Bits.{Bits}
 use Rattle.reading.specs.Tests.{over}
-use Rattle.reading.specs.Reader.{Read, got, fault}
+use Rattle.reading.specs.Scan.{Scanned, whole, broke}
 use Rattle.reading.specs.Transform.{coefficients, samples}
 use Rattle.reading.specs.Layout.{channelOf}
 use Rattle.reading.specs.Reading.{allSamples}
@@ -27,7 +27,7 @@ painted q l n out = cond (ltb (length out) 64) out (over (samplesTo q l n) out)
 
 -- what a scan leaves in the scratch: the samples of its blocks, then the old tail; the scratch as it was on a fault, or where
 -- it has no room for all blocks
-unfoldable pub drawn : List ℕ → Record → Read Bits (List (List ℤ)) → List ℕ → List ℕ
+unfoldable pub drawn : List ℕ → Record → Scanned Bits (List (List ℤ)) → List ℕ → List ℕ
 unfolding channelOf coefficients samples
-drawn s r (got ls b) old = cond (ltb (length old) (64 * r .blocks)) old (over (allSamples s r ls) old)
-drawn s r (fault f) old = old
+drawn s r (whole ls b) old = cond (ltb (length old) (64 * r .blocks)) old (over (allSamples s r ls) old)
+drawn s r (broke w) old = old

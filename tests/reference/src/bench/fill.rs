@@ -2,20 +2,6 @@
 
 use super::*;
 
-/// F's head, two blocks wide with a restart between them, then these bytes.
-fn two(scan: &[u8]) -> Vec<u8> {
-    let mut file = f_behind(&[255, 221, 0, 4, 0, 1]);
-    file[79] = 16;
-    file.truncate(144);
-    file.extend(scan);
-    file
-}
-
-/// F's head, then these bytes.
-fn one(scan: &[u8]) -> Vec<u8> {
-    [&f()[..138], scan].concat()
-}
-
 /// So many bytes of fill before the restart and before the end.
 fn filled(restart: usize, end: usize) -> Vec<u8> {
     let (before_restart, before_end) = (vec![255; restart], vec![255; end]);
@@ -43,18 +29,12 @@ fn same_but_longer(file: &[u8], plain: &[u8]) {
     assert_ne!(once, file);
 }
 
-/// Refused 4 by the scan: inspect and settle take the work too, decode says 8.
-fn scan_refuses(file: &[u8], plain: &[u8]) {
+/// Refused by the scan with this number, block and place. The place counts from the first
+/// coded byte.
+fn scan_refuses(file: &[u8], plain: &[u8], why: (u8, u64, u64)) {
+    let (number, block, place) = why;
     let record = inspect(plain, 1, &Limits::NONE, UNLIMITED).1;
-    let price = 2 * file.len() as u64 + 1 + record.work;
-    let (answer, own) = inspect(file, 1, &Limits::NONE, price + 9);
-    assert_eq!((answer.number, answer.left, own), (4, 9, Record::default()), "{file:?}");
-    let (mut output, mut scratch) = ([5; 300], [6; 300]);
-    let (answer, length) = settle(file, &Limits::NONE, price + 9, &mut output);
-    assert_eq!((answer.number, answer.left, length), (4, 9, 0));
-    let answer = decode(file, &record, &mut output, &mut scratch, price + 9);
-    assert_eq!((answer.number, answer.left), (8, 9));
-    assert!(output == [5; 300] && scratch == [6; 300]);
+    refuses(file, &record, (number, block, record.first_coded + place));
 }
 
 #[test]
@@ -93,12 +73,12 @@ fn fill_where_a_bit_is_wanted() {
         let fill = vec![255; count];
         let at_front = [&fill[..], &[63, 255, 208, 63, 255, 217]].concat();
         let behind_restart = [&[63, 255, 208][..], &fill, &[63, 255, 217]].concat();
-        scan_refuses(&two(&at_front), &plain);
-        scan_refuses(&two(&behind_restart), &plain);
-        scan_refuses(&long(&[&[0][..], &fill, &[7]].concat()), &long(&[0, 7]));
+        scan_refuses(&two(&at_front), &plain, (10, 0, 0));
+        scan_refuses(&two(&behind_restart), &plain, (10, 1, 1));
+        scan_refuses(&long(&[&[0][..], &fill, &[7]].concat()), &long(&[0, 7]), (10, 0, 0));
         // The block is not done where fill and marker come.
-        scan_refuses(&long(&[&[0][..], &fill].concat()), &long(&[0, 7]));
-        scan_refuses(&one(&[&fill[..], &[255, 217]].concat()), &f());
+        scan_refuses(&long(&[&[0][..], &fill].concat()), &long(&[0, 7]), (10, 0, 0));
+        scan_refuses(&one(&[&fill[..], &[255, 217]].concat()), &f(), (10, 0, 0));
     }
 }
 
@@ -106,27 +86,28 @@ fn fill_where_a_bit_is_wanted() {
 fn fill_without_its_marker() {
     let plain = filled(0, 0);
     let rest = [63, 255, 217];
+    let (at_restart, at_end) = ((4, 1, 1), (4, 2, 4));
     for count in 1..=4 {
         let fill = vec![255; count];
         let restart = |tail: &[u8]| two(&[&[63][..], &fill, tail].concat());
         let end = |tail: &[u8]| two(&[&[63, 255, 208, 63][..], &fill, tail].concat());
         // The file ends in fill, or goes on as if fill were the restart.
-        scan_refuses(&restart(&[]), &plain);
-        scan_refuses(&restart(&rest), &plain);
-        scan_refuses(&end(&[]), &plain);
+        scan_refuses(&restart(&[]), &plain, at_restart);
+        scan_refuses(&restart(&rest), &plain, at_restart);
+        scan_refuses(&end(&[]), &plain, at_end);
         // A byte of data, a 0 or another marker follows, then nothing or what should.
         for tail in [&[63][..], &[0], &[1], &[209], &[215], &[216], &[254]] {
-            scan_refuses(&restart(tail), &plain);
-            scan_refuses(&restart(&[tail, &rest].concat()), &plain);
-            scan_refuses(&restart(&[tail, &[255, 208], &rest].concat()), &plain);
-            scan_refuses(&end(tail), &plain);
-            scan_refuses(&end(&[tail, &[255, 217]].concat()), &plain);
+            scan_refuses(&restart(tail), &plain, at_restart);
+            scan_refuses(&restart(&[tail, &rest].concat()), &plain, at_restart);
+            scan_refuses(&restart(&[tail, &[255, 208], &rest].concat()), &plain, at_restart);
+            scan_refuses(&end(tail), &plain, at_end);
+            scan_refuses(&end(&[tail, &[255, 217]].concat()), &plain, at_end);
         }
         // The end where a restart is due, a restart where the end is.
-        scan_refuses(&restart(&[217]), &plain);
-        scan_refuses(&restart(&[&[217][..], &rest].concat()), &plain);
-        scan_refuses(&end(&[208]), &plain);
-        scan_refuses(&end(&[209, 255, 217]), &plain);
+        scan_refuses(&restart(&[217]), &plain, at_restart);
+        scan_refuses(&restart(&[&[217][..], &rest].concat()), &plain, at_restart);
+        scan_refuses(&end(&[208]), &plain, at_end);
+        scan_refuses(&end(&[209, 255, 217]), &plain, at_end);
     }
 }
 
@@ -135,7 +116,7 @@ fn nothing_stands_behind_the_end() {
     for before in [&[][..], &[255], &[255, 255, 255]] {
         for after in [&[0][..], &[7], &[217], &[255], &[255, 255], &[255, 217], &[255, 255, 217]] {
             let scan = [&[63][..], before, &[255, 217], after].concat();
-            scan_refuses(&one(&scan), &f());
+            scan_refuses(&one(&scan), &f(), (4, 1, 1));
         }
     }
 }
@@ -152,12 +133,12 @@ fn fill_behind_padding() {
         same_but_longer(&full(&[&[64, 255, 0][..], &fill].concat()), &plain);
         same_but_longer(&none(&[&[64][..], &fill].concat()), &none(&[64]));
         // Without its 0 the padded byte is a bare 255, however many follow.
-        scan_refuses(&full(&[&[64][..], &fill].concat()), &plain);
-        scan_refuses(&full(&[&[64, 255][..], &fill].concat()), &plain);
+        scan_refuses(&full(&[&[64][..], &fill].concat()), &plain, (10, 0, 0));
+        scan_refuses(&full(&[&[64, 255][..], &fill].concat()), &plain, (10, 0, 0));
         // A whole byte of padding, before the fill or behind it.
-        scan_refuses(&none(&[&[64, 255, 0][..], &fill].concat()), &none(&[64]));
-        scan_refuses(&none(&[&[64][..], &fill, &[255, 0]].concat()), &none(&[64]));
-        scan_refuses(&full(&[&[64, 255, 0, 255, 0][..], &fill].concat()), &plain);
+        scan_refuses(&none(&[&[64, 255, 0][..], &fill].concat()), &none(&[64]), (4, 1, 1));
+        scan_refuses(&none(&[&[64][..], &fill, &[255, 0]].concat()), &none(&[64]), (4, 1, 1));
+        scan_refuses(&full(&[&[64, 255, 0, 255, 0][..], &fill].concat()), &plain, (4, 1, 3));
     }
 }
 
@@ -165,8 +146,9 @@ fn fill_behind_padding() {
 fn padding_is_complete_before_fill() {
     // F's block has two bits; six of padding follow.
     for padded in 0..63 {
-        scan_refuses(&one(&[padded, 255, 255, 217]), &f());
-        scan_refuses(&two(&[padded, 255, 255, 208, 63, 255, 217]), &filled(0, 0));
+        scan_refuses(&one(&[padded, 255, 255, 217]), &f(), (4, 1, 1));
+        let restarted = two(&[padded, 255, 255, 208, 63, 255, 217]);
+        scan_refuses(&restarted, &filled(0, 0), (4, 1, 1));
     }
     same_but_longer(&one(&[63, 255, 255, 217]), &f());
 }

@@ -164,5 +164,5 @@ fn ac_edge(random: &mut Random) -> u8 {
     let large = (16 * random.between(0, 15) + random.between(11, 15)) as u8;
     let known = random.pick(&[11, 16, 224, 251]);
     let taken = random.pick(&[10, 240, 250]);
-    random.pick(&[no_size, no_size, no_size, large, large, large, known, taken])
+    random.pick(&[no_size, no_size, no_size, no_size, no_size, large, large, large, known, taken])
 }

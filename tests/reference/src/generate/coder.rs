@@ -1,84 +1,10 @@
 //! A writer of scans: valid ones, and ones with a single chosen fault. Many have fill before
 //! their markers.
 
+use super::faults::{self, Fault};
 use super::plan::Shape;
 use super::tables;
 use crate::random::Random;
-
-/// A fault in the scan. Each is written so that a careless reader would go on.
-#[derive(Clone, Copy, Debug, PartialEq, Eq)]
-pub enum Fault {
-    /// Prediction plus difference is 2048 or -2049.
-    Beyond,
-    /// Place plus run is 64 or more.
-    RunPast,
-    /// 240 at place 49 or later.
-    SkipPast,
-    /// Sixteen ones.
-    NoCode,
-    RestartNumber,
-    RestartMissing,
-    RestartNotDue,
-    RestartAfterLast,
-    /// A 0 among the padding.
-    Padding,
-    /// A whole byte of padding.
-    PaddingByte,
-    /// A 255 in the data without its 0.
-    Bare,
-    /// A 255 in the data with another byte than 0.
-    Stuffing,
-    /// Two 255s or more where a bit of a block is wanted.
-    FillInBlock,
-    /// The file ends in fill.
-    FillCut,
-    /// A byte of data or a 0 between fill and the marker.
-    FillThenByte,
-    /// The code of another marker behind fill.
-    FillThenCode,
-    /// Fill in place of a restart.
-    FillThenBlock,
-    /// Fill behind 217.
-    FillAfterEnd,
-    /// A 0 among the padding, then fill.
-    FillPadding,
-    /// Fill behind a padded 255 without its 0.
-    FillUnstuffed,
-    AfterEnd,
-    NoEnd,
-    EarlyEnd,
-    ExtraBlock,
-    /// A predictor carried over a restart; often valid, with other values.
-    Carried,
-}
-
-pub const FAULTS: [Fault; 25] = [
-    Fault::Beyond,
-    Fault::RunPast,
-    Fault::SkipPast,
-    Fault::NoCode,
-    Fault::RestartNumber,
-    Fault::RestartMissing,
-    Fault::RestartNotDue,
-    Fault::RestartAfterLast,
-    Fault::Padding,
-    Fault::PaddingByte,
-    Fault::Bare,
-    Fault::Stuffing,
-    Fault::FillInBlock,
-    Fault::FillCut,
-    Fault::FillThenByte,
-    Fault::FillThenCode,
-    Fault::FillThenBlock,
-    Fault::FillAfterEnd,
-    Fault::FillPadding,
-    Fault::FillUnstuffed,
-    Fault::AfterEnd,
-    Fault::NoEnd,
-    Fault::EarlyEnd,
-    Fault::ExtraBlock,
-    Fault::Carried,
-];
 
 /// A table ready for writing.
 struct Ready {
@@ -86,6 +12,8 @@ struct Ready {
     codes: Vec<Option<(u32, u32)>>,
     listed: Vec<u8>,
     finishes: [bool; 65],
+    /// Sixteen bits that start with no code: these, and all above.
+    unused: u32,
 }
 
 struct Coder<'a> {
@@ -97,19 +25,47 @@ struct Coder<'a> {
     started: u32,
     filled: u32,
     predictors: [i32; 3],
-    /// The fault still to come, and the MCU from which on it may.
+    /// The fault still to come, and the block from which on it may.
     fault: Option<Fault>,
     fault_from: u64,
-    mcu: u64,
+    block: u64,
+    /// As in `Coded`.
+    begins: Vec<(usize, u32)>,
     /// One marker in so many has fill before it; none if it is 0.
     fill_one_in: u64,
     /// Where a fault ends the file before its time.
     cut: Option<usize>,
+    /// A byte that undoes the fault if it stands here by chance.
+    undone_by: Option<(usize, u8)>,
 }
 
-/// The coded bytes of a scan with its end, and whether the fault came about.
-pub fn scan(shape: &Shape, random: &mut Random, fault: Option<Fault>) -> (Vec<u8>, bool) {
-    let fault_from = random.between(0, shape.mcus() - 1);
+/// A scan as it was written.
+pub struct Coded {
+    /// The coded bytes with their end.
+    pub bytes: Vec<u8>,
+    /// Whether the fault came about.
+    pub came: bool,
+    /// Where each block begins, and then the end: before its restart, behind so many whole bytes
+    /// and so many bits of the next one.
+    pub begins: Vec<(usize, u32)>,
+}
+
+impl Coded {
+    /// The first byte that holds no bit of what stands before this block.
+    pub fn start(&self, block: usize) -> usize {
+        let (whole, bits) = self.begins[block];
+        match self.bytes.get(whole) {
+            _ if bits == 0 => whole,
+            // Behind its stuffed 0.
+            Some(255) => whole + 2,
+            _ => whole + 1,
+        }
+    }
+}
+
+/// A scan of this shape, with this fault if it can come about.
+pub fn scan(shape: &Shape, random: &mut Random, fault: Option<Fault>) -> Coded {
+    let fault_from = faults::target(shape, random);
     let fill_one_in = random.pick(&[0, 0, 1, 3]);
     let mut coder = Coder {
         dc: shape.dc.iter().map(Ready::new).collect(),
@@ -122,14 +78,17 @@ pub fn scan(shape: &Shape, random: &mut Random, fault: Option<Fault>) -> (Vec<u8
         predictors: [0; 3],
         fault,
         fault_from,
-        mcu: 0,
+        block: 0,
+        begins: Vec::new(),
         fill_one_in,
         cut: None,
+        undone_by: None,
     };
-    coder.mcus();
+    coder.blocks();
     coder.end();
+    let came = coder.fault != fault && !coder.undone();
     coder.bytes.truncate(coder.cut.unwrap_or(usize::MAX));
-    (coder.bytes, coder.fault != fault)
+    Coded { bytes: coder.bytes, came, begins: coder.begins }
 }
 
 impl Ready {
@@ -139,7 +98,7 @@ impl Ready {
             codes[symbol as usize] = Some((length, bits));
         }
         let listed = table.symbols.clone();
-        Ready { codes, listed, finishes: tables::finishes(&table.symbols) }
+        Ready { codes, listed, finishes: tables::finishes(&table.symbols), unused: table.unused() }
     }
 
     fn lists(&self, symbol: u8) -> bool {
@@ -155,7 +114,7 @@ fn category(value: i32) -> u8 {
 impl Coder<'_> {
     /// Whether this fault is due now; it comes once.
     fn due(&mut self, fault: Fault) -> bool {
-        let due = self.fault == Some(fault) && self.mcu >= self.fault_from;
+        let due = self.wanted(fault);
         if due {
             self.fault = None;
         }
@@ -163,7 +122,12 @@ impl Coder<'_> {
     }
 
     fn wanted(&self, fault: Fault) -> bool {
-        self.fault == Some(fault) && self.mcu >= self.fault_from
+        self.fault == Some(fault) && self.block >= self.fault_from
+    }
+
+    /// Whether by chance the fault is none.
+    fn undone(&self) -> bool {
+        self.undone_by.is_some_and(|(at, byte)| self.bytes.get(at) == Some(&byte))
     }
 
     fn bit(&mut self, bit: u32) {
@@ -190,7 +154,9 @@ impl Coder<'_> {
         if self.due(Fault::Stuffing) {
             let other = self.random.pick(&[1, 255, 208, 217, 128]);
             self.bytes.push(other);
-        } else if !self.due(Fault::Bare) {
+        } else if self.due(Fault::Bare) {
+            self.undone_by = Some((self.bytes.len(), 0));
+        } else {
             // Fill before this byte: the last 255 and the 0 look like it.
             if self.due(Fault::FillInBlock) {
                 self.fill();
@@ -206,7 +172,49 @@ impl Coder<'_> {
     fn symbol(&mut self, dc: bool, channel: usize, symbol: u8) {
         let ready = if dc { &self.dc[channel] } else { &self.ac[channel] };
         let (length, bits) = ready.codes[symbol as usize].expect("only listed symbols are written");
+        let unused = ready.unused;
+        let wanted = self.wanted(Fault::NoCode) || self.wanted(Fault::NoCodeThenEnd);
+        if wanted && self.random.chance(1, 2) {
+            self.no_code(unused);
+        }
         self.bits(length, bits);
+    }
+
+    /// Bits that are no code, where such a fault is due; then the end of the file or a bare 255
+    /// where that belongs to it.
+    fn no_code(&mut self, unused: u32) {
+        let any = self.random.between(unused.into(), 65535) as u32;
+        let code = self.random.pick(&[unused, 65535, any]);
+        if self.due(Fault::NoCode) {
+            self.bits(16, code);
+        } else if self.due(Fault::NoCodeThenEnd) {
+            // Whole bytes behind the started one: the sixteenth bit is among them or not.
+            let more = self.random.pick(&[0, 1, 1, 2, 2]);
+            let count = (8 - self.filled) % 8 + 8 * more;
+            let behind = self.random.between(0, 255) as u32;
+            (0..count).for_each(|place| self.bit((code << 8 | behind) >> (23 - place) & 1));
+            self.break_off();
+        }
+    }
+
+    /// Ends the file at the end of a started byte, or puts a bare 255 there.
+    fn break_off(&mut self) {
+        while self.filled != 0 {
+            let any = self.random.between(0, 1) as u32;
+            self.bit(any);
+        }
+        let bare = self.random.pick(&[&[1][..], &[255], &[208], &[217], &[255, 217]]);
+        match self.random.below(3) {
+            0 => self.cut = Some(self.bytes.len()),
+            1 => {
+                self.bytes.push(255);
+                self.cut = Some(self.bytes.len());
+            }
+            _ => {
+                self.bytes.push(255);
+                self.bytes.extend(bare);
+            }
+        }
     }
 
     /// A field, often at an edge.
@@ -288,6 +296,7 @@ impl Coder<'_> {
             Some(Fault::FillThenBlock) if code != 217 => {
                 self.fill();
                 self.bytes.push(255);
+                self.undone_by = Some((self.bytes.len(), code));
             }
             Some(Fault::FillCut) => {
                 self.fill();
@@ -299,16 +308,18 @@ impl Coder<'_> {
         true
     }
 
-    fn mcus(&mut self) {
+    fn blocks(&mut self) {
         for mcu in 0..self.shape.mcus() {
-            self.mcu = mcu;
-            if mcu > 0 && self.wanted(Fault::EarlyEnd) {
-                self.fault = None;
-                return;
-            }
-            self.restart(mcu);
-            for channel in self.shape.mcu() {
+            for (place, channel) in self.shape.mcu().into_iter().enumerate() {
+                if self.block > 0 && self.due(Fault::EarlyEnd) {
+                    return;
+                }
+                self.begins.push((self.bytes.len(), self.filled));
+                if place == 0 {
+                    self.restart(mcu);
+                }
                 self.block(channel);
+                self.block += 1;
             }
         }
     }
@@ -335,6 +346,7 @@ impl Coder<'_> {
     }
 
     fn end(&mut self) {
+        self.begins.push((self.bytes.len(), self.filled));
         if self.due(Fault::ExtraBlock) {
             self.block(0);
         }
@@ -359,9 +371,6 @@ impl Coder<'_> {
     }
 
     fn block(&mut self, channel: usize) {
-        if self.due(Fault::NoCode) {
-            self.bits(16, 65535);
-        }
         self.first(channel);
         let mut place = 1;
         while place < 64 {
@@ -370,9 +379,16 @@ impl Coder<'_> {
             if symbol == 0 {
                 break;
             }
+            // The symbol alone is at fault: its field may be missing.
+            if tables::step(symbol, place).is_none() && self.random.chance(1, 2) {
+                self.break_off();
+            }
             if symbol != 240 {
                 let size = u32::from(symbol % 16);
-                let field = self.field(size);
+                // Often ones as the block's last bits: the next one may begin behind a 255.
+                let last = place + usize::from(symbol / 16) == 63;
+                let ones = last && self.random.chance(1, 2);
+                let field = if ones { (1 << size) - 1 } else { self.field(size) };
                 self.bits(size, field);
             }
             place += usize::from(symbol / 16) + 1;
@@ -412,7 +428,7 @@ impl Coder<'_> {
                 _ => false,
             }
         };
-        if self.mcu < self.fault_from {
+        if self.block < self.fault_from {
             return None;
         }
         let found: Vec<u8> = self.ac[channel].listed.iter().copied().filter(wrong).collect();
@@ -430,8 +446,21 @@ impl Coder<'_> {
         self.predictors[channel] = (predictor + difference).clamp(-2048, 2047);
         let size = category(difference);
         self.symbol(true, channel, size);
-        let field = if difference < 0 { difference + (1 << size) - 1 } else { difference };
-        self.bits(size.into(), field as u32);
+        let field = if difference < 0 { difference + (1 << size) - 1 } else { difference } as u32;
+        let beyond = self.predictors[channel] != predictor + difference;
+        if beyond && self.random.chance(1, 2) {
+            self.broken_field(size.into(), field);
+        } else {
+            self.bits(size.into(), field);
+        }
+    }
+
+    /// The whole field or its first bits up to the end of a byte, then no more data.
+    fn broken_field(&mut self, size: u32, field: u32) {
+        let part = (8 - self.filled) % 8;
+        let kept = if part < size && self.random.chance(2, 3) { part } else { size };
+        self.bits(kept, field >> (size - kept));
+        self.break_off();
     }
 
     /// A difference whose category the table lists.

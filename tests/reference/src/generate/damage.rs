@@ -10,7 +10,7 @@ use crate::random::Random;
 type Damage = fn(&mut Draft, &mut Random);
 
 /// Each changes one thing around a boundary of the rules.
-const HEAD_DAMAGE: [Damage; 33] = [
+const HEAD_DAMAGE: [Damage; 34] = [
     frame_field,
     frame_field,
     frame_sampling,
@@ -36,6 +36,7 @@ const HEAD_DAMAGE: [Damage; 33] = [
     huffman_field,
     huffman_counts,
     huffman_body,
+    huffman_symbol,
     huffman_symbol,
     interval_body,
     marker_code,

@@ -1,10 +1,13 @@
-//! Random files: valid, with one fault in the scan, with a damaged head, with damaged bytes;
-//! and now and then any of these with a careless table besides.
+//! Random files: valid, with one fault in the scan, with a scan that breaks at a chosen block,
+//! with a damaged head, with damaged bytes; and now and then any of these with a careless table
+//! besides.
 
+use super::breaks::Break;
 use super::careless;
-use super::coder::{self, Fault, FAULTS};
+use super::coder::{self, Coded};
 use super::damage;
 use super::draft::Draft;
+use super::faults::{Fault, FAULTS};
 use super::plan::{self, Plan, Segment};
 use crate::cases::MOST;
 use crate::fill;
@@ -17,11 +20,12 @@ pub type Group = Vec<Vec<u8>>;
 pub fn group(random: &mut Random) -> Group {
     loop {
         let group = match random.between(1, 100) {
-            1..=25 => valid_group(random),
-            26..=27 => twins(random),
-            28..=46 => vec![faulty(random)],
-            47..=87 => vec![damaged_head(random)],
-            88..=98 => vec![damaged_bytes(random)],
+            1..=29 => valid_group(random),
+            30..=32 => twins(random),
+            33..=49 => vec![faulty(random)],
+            50..=57 => broken(random),
+            58..=91 => vec![damaged_head(random)],
+            92..=98 => vec![damaged_bytes(random)],
             _ => vec![scrap(random)],
         };
         if group.iter().all(|file| file.len() as u64 <= MOST) {
@@ -33,7 +37,7 @@ pub fn group(random: &mut Random) -> Group {
 /// A valid file with its plan.
 pub fn valid(random: &mut Random) -> (Plan, Vec<u8>) {
     let plan = plan::plan(random);
-    let (scan, _) = coder::scan(&plan.shape, random, None);
+    let scan = coder::scan(&plan.shape, random, None).bytes;
     let file = Draft::new(&plan, scan).bytes();
     (plan, file)
 }
@@ -55,7 +59,7 @@ fn valid_group(random: &mut Random) -> Group {
 /// one: the record of the first would be theirs too.
 pub fn twins(random: &mut Random) -> Group {
     let plan = plan::plan(random);
-    let (scan, _) = coder::scan(&plan.shape, random, None);
+    let scan = coder::scan(&plan.shape, random, None).bytes;
     let mut draft = Draft::new(&plan, scan);
     let place = careless::prepare(&mut draft.segments, random).expect("a plan has tables");
     let mut group = vec![draft.bytes()];
@@ -85,7 +89,7 @@ fn sibling(random: &mut Random, plan: &Plan) -> Vec<u8> {
     if change == 4 {
         plan.segments.insert(0, Segment::new(254, vec![]));
     }
-    let (scan, _) = coder::scan(&plan.shape, random, fault);
+    let scan = coder::scan(&plan.shape, random, fault).bytes;
     Draft::new(&plan, scan).bytes()
 }
 
@@ -105,29 +109,58 @@ fn change_unrecorded(random: &mut Random, segment: &mut Segment, change: usize) 
 
 /// A file with one fault in its scan; a few heads are tried until it comes about.
 fn faulty(random: &mut Random) -> Vec<u8> {
-    let fault = random.pick(&FAULTS);
-    let (mut draft, _) = faulty_with(random, fault);
+    // Those of a symbol more often: few others give their numbers inside a block.
+    let symbols = [Fault::NoCode, Fault::NoCodeThenEnd, Fault::RunPast, Fault::SkipPast];
+    let list = if random.chance(1, 3) { &symbols[..] } else { &FAULTS };
+    let fault = random.pick(list);
+    let (plan, coded) = faulty_with(random, fault);
+    let mut draft = Draft::new(&plan, coded.bytes);
     sometimes_careless(random, &mut draft);
     draft.bytes()
 }
 
-/// The file, and whether the fault came about.
-pub fn faulty_with(random: &mut Random, fault: Fault) -> (Draft, bool) {
+/// The head and the scan, with the fault unless it did not come about.
+pub fn faulty_with(random: &mut Random, fault: Fault) -> (Plan, Coded) {
     let mut tries = 8;
     loop {
-        let plan = plan::plan(random);
-        let (scan, came) = coder::scan(&plan.shape, random, Some(fault));
+        let plan = often_restarted(random);
+        let coded = coder::scan(&plan.shape, random, Some(fault));
         tries -= 1;
-        if came || tries == 0 {
-            return (Draft::new(&plan, scan), came);
+        if coded.came || tries == 0 {
+            return (plan, coded);
         }
     }
+}
+
+/// A head whose scan has restarts more often than others: a fault right behind one is told as
+/// before it.
+fn often_restarted(random: &mut Random) -> Plan {
+    let plan = plan::plan(random);
+    if plan.shape.restarts() > 0 || random.chance(1, 2) {
+        return plan;
+    }
+    plan::plan(random)
+}
+
+/// Files with one head and one scan, which breaks at another block in each.
+fn broken(random: &mut Random) -> Group {
+    let plan = often_restarted(random);
+    let coded = coder::scan(&plan.shape, random, None);
+    let mut group = Vec::new();
+    for _ in 0..random.between(1, 3) {
+        let (_, chosen) = Break::of(&coded, &plan.shape, random);
+        let scan = chosen.bytes(&coded);
+        let mut draft = Draft::new(&plan, scan);
+        sometimes_careless(random, &mut draft);
+        group.push(draft.bytes());
+    }
+    group
 }
 
 /// A file on which nothing is wrong but, now and then, a careless table.
 fn to_damage(random: &mut Random) -> Draft {
     let plan = plan::plan(random);
-    let (scan, _) = coder::scan(&plan.shape, random, None);
+    let scan = coder::scan(&plan.shape, random, None).bytes;
     let mut draft = Draft::new(&plan, scan);
     sometimes_careless(random, &mut draft);
     draft

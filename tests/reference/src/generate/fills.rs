@@ -138,7 +138,7 @@ fn wrong_fill_comes_up() {
     let (mut random, mut seen) = (Random::new(33), Seen::new());
     for _ in 0..20_000 {
         for file in files::group(&mut random) {
-            let refused = inspect(&file).0 == 4;
+            let refused = inspect(&file).0 != 0;
             if let Some(scan) = scan(&file).filter(|_| refused) {
                 look_at_refused(scan, &mut seen);
             }
@@ -181,7 +181,7 @@ fn fill_comes_up_in_every_job() {
         }
     }
     let mut wanted = Vec::new();
-    for (job, refused) in [(1, 4), (2, 8), (3, 4), (4, 8)] {
+    for (job, refused) in [(1, 4), (1, 10), (2, 8), (3, 4), (3, 10), (4, 8)] {
         for number in [0, refused] {
             wanted.push(format!("job {job} number {number}"));
             wanted.push(format!("job {job} number {number}, restart"));

@@ -1,10 +1,12 @@
 //! The generator of cases: the same ones for the same seed and part.
 
 mod bounds;
+mod breaks;
 mod careless;
 mod coder;
 mod damage;
 mod draft;
+mod faults;
 pub mod files;
 mod plan;
 mod tables;
@@ -15,6 +17,8 @@ mod coverage;
 mod fills;
 #[cfg(test)]
 mod flaws;
+#[cfg(test)]
+mod reasons;
 #[cfg(test)]
 mod tests;
 

@@ -47,6 +47,11 @@ impl Shape {
         self.width.div_ceil(8 * self.hs) * self.height.div_ceil(8 * self.vs)
     }
 
+    /// How many restarts the scan has.
+    pub fn restarts(&self) -> u64 {
+        (self.mcus() - 1).checked_div(self.interval).unwrap_or(0)
+    }
+
     /// The channels of an MCU's blocks in order.
     pub fn mcu(&self) -> Vec<usize> {
         if self.channels == 1 {

@@ -48,6 +48,14 @@ impl Table {
     pub fn lists(&self, symbol: u8) -> bool {
         self.symbols.contains(&symbol)
     }
+
+    /// The lowest sixteen bits that start with no code. Codes ascend, so that all above start
+    /// with none either.
+    pub fn unused(&self) -> u32 {
+        let codes = self.codes();
+        let (_, length, bits) = codes.last().expect("a table has a symbol");
+        (bits + 1) << (16 - length)
+    }
 }
 
 /// Counts for so many symbols (1 to 256) that fit, in one of several shapes.

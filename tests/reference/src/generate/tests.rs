@@ -1,7 +1,10 @@
 //! Checks on generated files: valid ones are accepted, settling is steady, every
 //! refusal number comes up.
 
-use super::coder::FAULTS;
+use super::coder::Coded;
+use super::draft::Draft;
+use super::faults::{Fault, FAULTS};
+use super::plan::Plan;
 use super::*;
 use crate::answer;
 use crate::calls::{self, Limits, UNLIMITED};
@@ -57,21 +60,52 @@ fn settling_keeps_the_levels_and_is_steady() {
     assert!(settled_count > 1500);
 }
 
+/// The numbers that a fault gives.
+fn numbers(fault: Fault) -> &'static [u8] {
+    match fault {
+        Fault::NoCode => &[11],
+        Fault::NoCodeThenEnd => &[3, 10, 11],
+        // Its field may be cut off.
+        Fault::Beyond => &[3, 4, 10],
+        Fault::Bare | Fault::Stuffing | Fault::FillInBlock | Fault::FillUnstuffed => &[10],
+        Fault::RestartNotDue => &[10],
+        // The end in place of a block, or of the restart before it.
+        Fault::EarlyEnd => &[4, 10],
+        _ => &[4],
+    }
+}
+
+/// The number of a file with this head and scan; where it breaks, its place is the one that the
+/// writer of the scan noted for that block.
+fn number_of(plan: &Plan, coded: &Coded) -> u8 {
+    let file = Draft::new(plan, coded.bytes.clone()).bytes();
+    let (answer, _) = calls::inspect(&file, 0, &Limits::NONE, UNLIMITED);
+    if answer.number != 0 {
+        let head = file.len() - coded.bytes.len();
+        let start = coded.start(answer.block as usize);
+        assert_eq!(answer.place as usize, head + start, "block {}", answer.block);
+    }
+    answer.number
+}
+
 #[test]
 fn faults_are_refused() {
     let mut random = Random::new(13);
     for fault in FAULTS {
-        let (mut came, mut refused) = (0, 0);
+        let (mut came, mut refused, mut seen) = (0, 0, Vec::new());
         for _ in 0..200 {
-            let (draft, happened) = files::faulty_with(&mut random, fault);
-            let number = inspect(&draft.bytes()).0;
-            assert!(number == 0 || number == 4, "{fault:?} gives {number}");
-            came += u32::from(happened);
-            refused += u32::from(happened && number == 4);
+            let (plan, coded) = files::faulty_with(&mut random, fault);
+            let number = number_of(&plan, &coded);
+            let expected = number == 0 || coded.came && numbers(fault).contains(&number);
+            assert!(expected, "{fault:?} gives {number}");
+            came += u32::from(coded.came);
+            refused += u32::from(number != 0);
+            seen.push(number);
         }
         assert!(came >= 100, "{fault:?} came about {came} times");
-        let steady = fault == super::coder::Fault::Carried || refused == came;
+        let steady = fault == Fault::Carried || refused == came;
         assert!(steady || refused * 10 > came * 8, "{fault:?}: {refused} of {came}");
+        assert!(numbers(fault).iter().all(|number| seen.contains(number)), "{fault:?}: {seen:?}");
     }
 }
 
@@ -99,15 +133,20 @@ fn twins_have_the_record_of_the_first_or_are_refused() {
 #[test]
 fn every_number_comes_up_in_its_jobs() {
     let mut generator = Generator::new(Random::new(14));
-    let mut seen = [[0u32; 10]; 5];
+    let mut seen = [[0u32; 12]; 5];
     for _ in 0..60_000 {
         let line = answer::line(&generator.next());
         let mut words = line.split(' ').map(|word| word.parse::<u64>().unwrap());
         let (job, number) = (words.next().unwrap(), words.next().unwrap());
         seen[job as usize][number as usize] += 1;
     }
-    let expected: [&[usize]; 5] =
-        [&[], &[0, 1, 2, 3, 4, 5, 6], &[0, 2, 7, 8], &[0, 1, 2, 3, 4, 5, 6, 7, 9], &[0, 2, 7, 8]];
+    let expected: [&[usize]; 5] = [
+        &[],
+        &[0, 1, 2, 3, 4, 5, 6, 10, 11],
+        &[0, 2, 7, 8],
+        &[0, 1, 2, 3, 4, 5, 6, 7, 9, 10, 11],
+        &[0, 2, 7, 8],
+    ];
     for job in 1..5 {
         for (number, &times) in seen[job].iter().enumerate() {
             let wanted = expected[job].contains(&number);
