@@ -29,7 +29,7 @@ fn fresh(s: &[u8], at: usize) -> BitRead
         );
     }
     if s.len() - at < 2 {
-        return BitRead::Stop(Fault::RanOut);
+        return BitRead::Stop(Fault::RanOut); // a 255 as the very last byte counts as ran out
     }
     if s[at + 1] != 0 {
         return BitRead::Stop(Fault::Bare);

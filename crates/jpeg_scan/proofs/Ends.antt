@@ -12,7 +12,7 @@ use Rattle.reading.specs.declared.Fault.the-variants.{Broken}
 use Rattle.reading.specs.declared.Record.{Record}
 use Rattle.reading.specs.declared.ScanCursor.{ScanCursor}
 use Rattle.reading.specs.Tests.{over}
-use Rattle.reading.specs.Reader.{Reader, _>>_, give}
+use Rattle.reading.specs.Reader.{_>>_, give}
 use Rattle.reading.specs.Bits.{file, firstBit}
 use Rattle.reading.specs.Reading.{allSamples}
 use Rattle.reading.specs.Scan.{planOf, closed, Cursor, Scanned, whole, broke, here, onwards, levels}

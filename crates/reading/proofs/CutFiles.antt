@@ -5,7 +5,6 @@ use Prim.Native.Nat.{ℕ, zero, suc, _+_, _-_, _/_, _%_, _<_, _≤_, min}
 use mathlib.Core.Path.{_≡_, refl, sym, ap, _∙_, subst, subst⁻¹}
 use mathlib.Core.Bool.{Bool, true, false, cond}
 use mathlib.Core.List.{List, [], _∷_}
-use mathlib.Core.Logic.{_⊎_, inl, inr}
 use mathlib.Core.Option.{Option, none, some}
 use native.Mathlib.Nat.{not-suc-le-zero, le-of-suc-le-suc}
 use native.Mathlib.Omega.{arith}
@@ -19,7 +18,7 @@ use Rattle.reading.specs.declared.Fault.{Fault}
 use Rattle.reading.specs.declared.Fault.the-variants.{RanOut, Bare, Broken}
 use Rattle.reading.specs.declared.Record.{Record}
 use Rattle.reading.specs.declared.Refusal.the-variants.{Scan}
-use Rattle.reading.specs.Tests.{_and_, isAt, holds}
+use Rattle.reading.specs.Tests.{_and_, isAt}
 use Rattle.reading.specs.Reader.{Read, got, fault, Reader, onward, _>>=_, _>>_, give, fail, rule}
 use Rattle.reading.specs.Bits.{firstOf, afterFull, freshFrom, oneAt, one, fulls, padded, firstBit, mark, file}
 use Rattle.reading.specs.Block.{block}
@@ -27,13 +26,11 @@ use Rattle.reading.specs.Huffman.{Table}
 use Rattle.reading.specs.Header.{done, header}
 use Rattle.reading.specs.Layout.{channelOf, restartDue, restartCode}
 use Rattle.reading.specs.Tables.{shapeIn}
-use Rattle.reading.specs.Scan.{Plan, planOf, channelAt, noPredictors, restart, closed, turn, Turn, Cursor, Scanned, whole, broke, here, onwards, readOn, started, levels}
+use Rattle.reading.specs.Scan.{Plan, planOf, channelAt, noPredictors, restart, closed, Turn, Cursor, Scanned, whole, broke, here, onwards, readOn, started, ended, levels}
 use Rattle.reading.specs.Reading.{accepted, refused, reading}
 use Rattle.reading.specs.Words.{brokenAt, cutTurn, cutFrom, cutAt}
-use Rattle.reading.proofs.FileBytes.{element-there}
-use Rattle.reading.proofs.Readings.{got-at, no-fault}
+use Rattle.reading.proofs.Readings.{no-fault}
 use Rattle.reading.proofs.Reasons.{no-break, whole-at}
-use Rattle.reading.proofs.Marks.{Looked, found, missed, mark-looked}
 use Rattle.reading.proofs.Related.{block-related}
 use Rattle.reading.proofs.HeaderEnds.{header-within}
 use Rattle.reading.proofs.HeaderPrefix.{header-prefix}
@@ -285,20 +282,17 @@ module _ (s : List ℕ) (c : ℕ) where
       behind : Bits
       end : closed (file s) (last .bits) ≡ got nothing behind
 
-    abbrev ending : List (List ℤ) → Cursor Bits → Scanned Bits (List (List ℤ))
-    ending ls q = here (file (take c s)) q ((closed (file (take c s)) >> give ls) (q .bits))
-
     -- a level list more or less changes nothing of where it breaks
-    one-more : (l : List ℤ) (o : Scanned (Cursor Bits) (List (List ℤ))) (w : Break) → onwards o ending ≡ broke w → onwards (onwards o (λ ls e. whole (l ∷ ls) e)) ending ≡ broke w
+    one-more : (l : List ℤ) (o : Scanned (Cursor Bits) (List (List ℤ))) (w : Break) → onwards o (ended (file (take c s))) ≡ broke w → onwards (onwards o (λ ls e. whole (l ∷ ls) e)) (ended (file (take c s))) ≡ broke w
     one-more l (broke x) w e = e
-    one-more l (whole ls q) w e = go (closed (file (take c s)) (q .bits)) e
+    one-more l (whole ls q) w e = go _ (closed (file (take c s)) (q .bits)) e
       where
-        go : (o : Read Bits (Unit {0})) → here (file (take c s)) q (onward o (λ _. give ls)) ≡ broke w → here (file (take c s)) q (onward o (λ _. give (l ∷ ls))) ≡ broke w
-        go (got a b) k = absurd (no-break w ls b (sym k))
-        go (fault f) k = k
+        go : (x : Cursor Bits) (o : Read Bits (Unit {0})) → here (file (take c s)) x (onward o (λ _. give ls)) ≡ broke w → here (file (take c s)) x (onward o (λ _. give (l ∷ ls))) ≡ broke w
+        go x (got a b) k = absurd (no-break w ls b (sym k))
+        go x (fault f) k = k
 
     abbrev Breaks : ℕ → Cursor Bits → Type 0
-    Breaks n q = onwards (readOn (file (take c s)) p n q) ending ≡ broke (cutFrom s p c n q)
+    Breaks n q = onwards (readOn (file (take c s)) p n q) (ended (file (take c s))) ≡ broke (cutFrom s p c n q)
 
     -- one turn, then n more
     module _ (n : ℕ) (q : Cursor Bits) (ih : (x : Cursor Bits) → x .bits .at ≤ c → Read-out n x → Breaks n x) where
@@ -333,7 +327,7 @@ module _ (s : List ℕ) (c : ℕ) where
 
         by-block : (qs : List ℤ) (b : Bits) → b .at ≤ c → (o o′ : Read Bits (List ℤ)) → Cut c RanOut o o′
             → onwards (here (file s) q (byBlock qs o)) (later s) ≡ whole ls last
-            → onwards (onwards (here (file (take c s)) q (byBlock qs o′)) (later (take c s))) ending ≡ broke (cutTurn c q (got qs b) (byBlock qs o) next)
+            → onwards (onwards (here (file (take c s)) q (byBlock qs o′)) (later (take c s))) (ended (file (take c s))) ≡ broke (cutTurn c q (got qs b) (byBlock qs o) next)
         unfolding file
         by-block qs b h _ _ (broken f o) k = absurd (no-break _ ls last k)
         by-block qs b h _ _ (missing l e i) k = rw (le-ltb c (b .at) h, lt-ltb c (e .at) i) refl
@@ -344,7 +338,7 @@ module _ (s : List ℕ) (c : ℕ) where
 
         by-restart : (o o′ : Read Bits (List ℤ)) → Cut c Broken o o′
             → onwards (here (file s) q (byRestart s o)) (later s) ≡ whole ls last
-            → onwards (onwards (here (file (take c s)) q (byRestart (take c s) o′)) (later (take c s))) ending ≡ broke (cutTurn c q o (byRestart s o) next)
+            → onwards (onwards (here (file (take c s)) q (byRestart (take c s) o′)) (later (take c s))) (ended (file (take c s))) ≡ broke (cutTurn c q o (byRestart s o) next)
         unfolding file
         by-restart _ _ (broken f o) k = absurd (no-break _ ls last k)
         by-restart _ _ (missing qs b i) k = go (blockAt s qs b) k
@@ -378,13 +372,13 @@ module _ (s : List ℕ) (c : ℕ) where
   read-out less r ls b e = go (readOn (file s) (planOf s r) (r .blocks) (started (firstBit (r .start)))) refl e
     where
       go : (o : Scanned (Cursor Bits) (List (List ℤ))) → readOn (file s) (planOf s r) (r .blocks) (started (firstBit (r .start))) ≡ o
-          → onwards o (λ ms q. here (file s) q ((closed (file s) >> give ms) (q .bits))) ≡ whole ls b → Read-out (planOf s r) less (r .blocks) (started (firstBit (r .start)))
+          → onwards o (ended (file s)) ≡ whole ls b → Read-out (planOf s r) less (r .blocks) (started (firstBit (r .start)))
       go (broke w) k j = absurd (no-break w ls b j)
-      go (whole ms x) k j = ends (closed (file s) (x .bits)) refl j
+      go (whole ms x) k j = ends _ (closed (file s) (x .bits)) refl j
         where
-          ends : (o : Read Bits (Unit {0})) → closed (file s) (x .bits) ≡ o → here (file s) x (onward o (λ _. give ms)) ≡ whole ls b → Read-out (planOf s r) less (r .blocks) (started (firstBit (r .start)))
-          ends (got u t) y z = record { levels-read = ms; last = x; read = k; behind = t; end = y }
-          ends (fault f) y z = absurd (no-break _ ls b z)
+          ends : (q : Cursor Bits) (o : Read Bits (Unit {0})) → closed (file s) (x .bits) ≡ o → here (file s) q (onward o (λ _. give ms)) ≡ whole ls b → Read-out (planOf s r) less (r .blocks) (started (firstBit (r .start)))
+          ends q (got u t) y z = record { levels-read = ms; last = x; read = k; behind = t; end = y }
+          ends q (fault f) y z = absurd (no-break _ ls b z)
 
   module _ (colour : Bool) (r : Record) (ls : List (List ℤ)) (e : reading s colour ≡ accepted r ls) (from : r .start ≤ c) (less : c < length s) where
     apart : Taken s colour r ls
@@ -402,7 +396,7 @@ module _ (s : List ℕ) (c : ℕ) where
     pub cut-levels : levels (take c s) r ≡ broke (cutAt s r c)
     unfolding levels cutAt
     cut-levels =
-        ap (λ (p : Plan). onwards (readOn (file (take c s)) p (r .blocks) (started (firstBit (r .start)))) (λ ms q. here (file (take c s)) q ((closed (file (take c s)) >> give ms) (q .bits)))) same-plan
+        ap (λ (p : Plan). onwards (readOn (file (take c s)) p (r .blocks) (started (firstBit (r .start)))) (ended (file (take c s)))) same-plan
         ∙ blocks-cut (planOf s r) less (r .blocks) (started (firstBit (r .start))) from (read-out less r ls (apart .place) (apart .body))
 
     pub cut-file : reading (take c s) colour ≡ refused (Scan (cutAt s r c))

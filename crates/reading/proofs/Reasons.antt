@@ -1,7 +1,7 @@
 -- A scan without its places: the levels of its blocks, or the reason of a fault alone. The laws on levels and bits go by this reading;
 -- `blocks-forget` and `scan-forget` tie it to the rules' own, which says where a scan broke.
 use Prim.Native.Nat.{ℕ, zero, suc}
-use mathlib.Core.Path.{_≡_, refl, sym, _∙_, ap, ap₂, subst}
+use mathlib.Core.Path.{_≡_, refl, sym, _∙_, ap, ap₂}
 use mathlib.Core.List.{List, [], _∷_}
 use lib.IntN.{ℤ, pos}
 use lib.ListN.{getD, set}
@@ -13,7 +13,7 @@ use Rattle.reading.specs.Bits.{Source, file, firstBit}
 use Rattle.reading.specs.Block.{block}
 use Rattle.reading.specs.Layout.{channelOf}
 use Rattle.reading.specs.Scan as rules
-use Rattle.reading.specs.Scan.{Plan, planOf, restart, closed, noPredictors, turn, Turn, Cursor, Scanned, whole, broke, here, onwards, readOn, started, levels}
+use Rattle.reading.specs.Scan.{Plan, planOf, restart, closed, noPredictors, Turn, Cursor, Scanned, whole, broke, here, onwards, readOn, started, ended, levels}
 use Rattle.reading.proofs.Readings.{got-val, got-at, no-fault}
 
 -- n more blocks from block k on, in the order of the scan
@@ -76,19 +76,14 @@ module _ {S : Type 0} (src : Source S) (p : Plan) where
   scan-forget n s = go (readOn src p n (started s)) (blocks-forget n (started s))
     where
       go : (o : Scanned (Cursor S) (List (List ℤ))) → forgetOn o ≡ blocks src p n 0 noPredictors s
-          → forget (onwards o (λ ls q. here src q ((closed src >> give ls) (q .bits)))) ≡ onward (blocks src p n 0 noPredictors s) (λ ls. closed src >> give ls)
-      go (whole ls q) h = forget-here src q ((closed src >> give ls) (q .bits)) ∙ ap (λ (x : Read S (List (List ℤ))). onward x (λ ls. closed src >> give ls)) h
+          → forget (onwards o (ended src)) ≡ onward (blocks src p n 0 noPredictors s) (λ ls. closed src >> give ls)
+      go (whole ls q) h = forget-here src _ ((closed src >> give ls) (q .bits)) ∙ ap (λ (x : Read S (List (List ℤ))). onward x (λ ls. closed src >> give ls)) h
       go (broke w) h = ap (λ (x : Read S (List (List ℤ))). onward x (λ ls. closed src >> give ls)) h
 
 -- ---- a scan that was read
 
-is-broken : {S A : Type 0} → Scanned S A → Type 0
-is-broken (whole a s) = ⊥
-is-broken (broke w) = Unit {0}
-
 pub no-break : {S A : Type 0} (w : Break) (a : A) (s : S) → broke w ≡ whole a s → ⊥
-unfolding is-broken
-no-break w a s q = subst is-broken q tt
+no-break w a s e = no-fault (w .fault) a s (ap forget e)
 
 pub whole-val : {S A : Type 0} {a b : A} {s t : S} → whole a s ≡ whole b t → a ≡ b
 whole-val e = got-val (ap forget e)

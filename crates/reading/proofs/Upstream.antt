@@ -1,7 +1,7 @@
 -- Clauses of the source's contracts that ours imply through a short argument, one lemma each, under the source's function.
 -- Our contracts are equations with definitions, so each lemma speaks of a definition.
 use Prim.Native.Nat.{ℕ, _+_, _*_, _^_, _<_, _≤_}
-use mathlib.Core.Path.{_≡_, sym, subst}
+use mathlib.Core.Path.{_≡_, sym, ap, _∙_, subst}
 use mathlib.Core.Logic.{⊎-elim}
 use mathlib.Core.Bool.{Bool}
 use mathlib.Core.List.{List}
@@ -22,7 +22,7 @@ use Rattle.reading.specs.Reader.{got, Reader}
 use Rattle.reading.specs.Bits.{one, file, field, amplitude}
 use Rattle.reading.specs.Huffman.{Table}
 use Rattle.reading.specs.Block.{block}
-use Rattle.reading.specs.Scan.{Plan, whole, levels}
+use Rattle.reading.specs.Scan.{Plan, Cursor, whole, readOn, levels}
 use Rattle.reading.specs.Transform.{coefficients, line, sampleOf, samples}
 use Rattle.reading.specs.Calls.{headerPrice, inspect, decode}
 use Rattle.reading.proofs.FileBytes.{AllBytes, byte-below}
@@ -34,7 +34,7 @@ use Rattle.reading.proofs.DoubleSum.{sumOf, basisAt, doubleSum, line-su
 use Rattle.reading.proofs.States.{Fit, header-fits}
 use Rattle.reading.proofs.Judgement.{inspect-accepted, inspect-most}
 use Rattle.reading.proofs.Decodings.{decode-accepted, decode-refused, decode-taken, decode-lengths}
-use Rattle.reading.proofs.Reasons.{blocks}
+use Rattle.reading.proofs.Reasons.{blocks, forgetOn, blocks-forget}
 
 -- what a reader keeps holds behind what it gave
 stays : {A : Type 0} (P : Bits → Type 0) (m : Reader Bits A) → Keeps P m → (b c : Bits) (a : A) → P b → m b ≡ got a c → P c
@@ -99,8 +99,10 @@ module _ (s : List ℕ) (b c : Bits) where
   -- ---- next
 
   -- behind blocks, and the restarts before them, the cursor is valid
-  pub next-valid : (p : Plan) (n k : ℕ) (ps : List ℤ) (ls : List (List ℤ)) → Inside s b → blocks (file s) p n k ps b ≡ got ls c → Inside s c
-  next-valid p n k ps ls h e = stays (Inside s) (blocks (file s) p n k ps) (blocks-inside s p n k ps) b c ls h e
+  pub next-valid : (p : Plan) (n : ℕ) (q e : Cursor Bits) (ls : List (List ℤ)) → Inside s (q .bits) → readOn (file s) p n q ≡ whole ls e → Inside s (e .bits)
+  next-valid p n q e ls h k =
+      stays (Inside s) (blocks (file s) p n (q .done) (q .predictors)) (blocks-inside s p n (q .done) (q .predictors)) (q .bits) (e .bits) ls h
+      (sym (blocks-forget (file s) p n q) ∙ ap forgetOn k)
 
 -- ---- transform
 

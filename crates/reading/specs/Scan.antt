@@ -103,10 +103,13 @@ closed src = src .marker 217 >> λ s. rule (src .ends s) s
 abbrev pub started : {S : Type 0} → S → Cursor S
 started s = record { bits = s; predictors = noPredictors; done = 0 }
 
+-- the end, behind the blocks whose levels were read: a fault in it names the block count
+abbrev pub ended : {S : Type 0} → Source S → List (List ℤ) → Cursor S → Scanned S (List (List ℤ))
+ended src ls q = here src q ((closed src >> give ls) (q .bits))
+
 -- a scan of n blocks: reading on from its start, then the end
 abbrev pub scan : {S : Type 0} → Source S → Plan → ℕ → S → Scanned S (List (List ℤ))
-scan src p n s =
-    onwards (readOn src p n (started s)) (λ ls q. here src q ((closed src >> give ls) (q .bits)))
+scan src p n s = onwards (readOn src p n (started s)) (ended src)
 
 -- the levels of a file's scan
 unfoldable pub levels : List ℕ → Record → Scanned Bits (List (List ℤ))
