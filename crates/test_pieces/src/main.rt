@@ -70,7 +70,9 @@ fn answered(name: &[u8], verdict: Verdict, left: Budget) {
 
 fn inspect(name: &[u8], s: &[u8], limits: Limits, budget: u64) {
     let answer = jpeg::inspect(s, true, limits, Budget::fresh(budget));
-    answered(name, answer.verdict, answer.budget);
+    let verdict = answer.verdict;
+    let left = answer.budget;
+    answered(name, verdict, left);
     end_line();
 }
 
@@ -131,7 +133,9 @@ fn settle(name: &[u8], s: &[u8], at: usize) {
         Budget::fresh(10000),
         &mut out,
     );
-    answered(name, answer.verdict, answer.budget);
+    let verdict = answer.verdict;
+    let left = answer.budget;
+    answered(name, verdict, left);
     write_number(answer.length as u64);
     if at < out.len() {
         write_number(tillsparrow_streams::wide(out[at]));
@@ -259,45 +263,47 @@ fn stray() {
     );
 }
 
-// the same of files that are judged to their end
-fn judge(name: &[u8], s: &[u8]) {
-    inspect(name, s, tillsparrow_streams::limits(), 10000);
+// the same of the first n bytes of a file
+fn judge(name: &[u8], s: &[u8], n: usize) {
+    if n <= s.len() {
+        inspect(name, &s[..n], tillsparrow_streams::limits(), 10000);
+    }
 }
 
 // scans that break in their first block, which begins at 138, or at their end, where the block count is 1 and the place 139
 fn broken_at_once() {
     let mut f = [1u8; 141];
     block(&mut f, &DC, &AC, b"\x3f");
-    judge(b"cut before its block", &f[..138]);
-    judge(b"cut before 255", &f[..139]);
-    judge(b"cut before 217", &f[..140]);
+    judge(b"cut before its block", &f, 138);
+    judge(b"cut before 255", &f, 139);
+    judge(b"cut before 217", &f, 140);
     f[138] = 255;
-    judge(b"a 255 as the last byte", &f[..139]);
+    judge(b"a 255 as the last byte", &f, 139);
     f[138] = 254;
-    judge(b"eight bits, then no byte", &f[..139]);
-    judge(b"eight bits, then a bare 255", &f);
+    judge(b"eight bits, then no byte", &f, 139);
+    judge(b"eight bits, then a bare 255", &f, 141);
     let mut more = [1u8; 142];
     block(&mut more, &DC, &AC, b"\xff\x01");
-    judge(b"a bare 255", &more);
+    judge(b"a bare 255", &more, 142);
     block(&mut more, &DC, &AC, b"\xfe\xfe");
-    judge(b"sixteen bits and no code", &more);
+    judge(b"sixteen bits and no code", &more, 142);
 }
 
 // scans that break behind a restart: its block is number 1, and its turn begins at 145, before the restart
 fn broken_behind_a_restart() {
     let mut two = [1u8; 150];
     between(&mut two, b"\x3f\xff\xd0\x3f");
-    judge(b"cut before the restart", &two[..145]);
-    judge(b"cut in the restart", &two[..146]);
-    judge(b"cut behind the restart", &two[..147]);
-    judge(b"cut before the end of two", &two[..149]);
+    judge(b"cut before the restart", &two, 145);
+    judge(b"cut in the restart", &two, 146);
+    judge(b"cut behind the restart", &two, 147);
+    judge(b"cut before the end of two", &two, 149);
     let mut more = [1u8; 151];
     between(&mut more, b"\x3f\xff\xd0\xff\x01");
-    judge(b"a bare 255 behind a restart", &more);
+    judge(b"a bare 255 behind a restart", &more, 151);
     between(&mut more, b"\x3f\xff\xd0\xfe\xfe");
-    judge(b"no code behind a restart", &more);
+    judge(b"no code behind a restart", &more, 151);
     between(&mut more, b"\x3f\xff\xff\xd1\x3f");
-    judge(b"a wrong restart behind fill", &more);
+    judge(b"a wrong restart behind fill", &more, 151);
 }
 
 fn main() {
