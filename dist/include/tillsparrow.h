@@ -23,13 +23,15 @@ enum tillsparrow_number {
     TILLSPARROW_ACCEPTED = 0,
     TILLSPARROW_TOO_LONG = 1,       /* more bytes than the limit on input */
     TILLSPARROW_OVER_BUDGET = 2,    /* the price is above the budget */
-    TILLSPARROW_CUT_SHORT = 3,      /* the header is cut short */
+    TILLSPARROW_CUT_SHORT = 3,      /* the header is cut short, or the bytes ran out in a block of the scan */
     TILLSPARROW_MALFORMED = 4,      /* a rule of the format is broken, in header, tables or scan */
     TILLSPARROW_UNSUPPORTED = 5,    /* a form of JPEG that is not read */
     TILLSPARROW_TOO_LARGE = 6,      /* a side, or the samples, above a limit */
     TILLSPARROW_SHORT_ROOM = 7,     /* a lent buffer is too short */
     TILLSPARROW_NOT_ITS_RECORD = 8, /* the record is not the file's */
-    TILLSPARROW_NO_END_CODE = 9     /* settle: a block wants an end-of-block code, and its table has none */
+    TILLSPARROW_NO_END_CODE = 9,    /* settle: a block wants an end-of-block code, and its table has none */
+    TILLSPARROW_BARE_255 = 10,      /* in a block of the scan, a 255 that is followed by neither 0 nor the end */
+    TILLSPARROW_NO_CODE = 11        /* in a block of the scan, sixteen bits that are no code of its table */
 };
 
 /* What inspect finds: 36 numbers of 64 bits, in this order. */
@@ -55,10 +57,15 @@ typedef struct tillsparrow_record {
     uint64_t colour;     /* 1: the picture of three channels is red, green, blue; 0: the channels as they are coded; no other */
 } tillsparrow_record;
 
-/* number is 0 where accepted, else that of the refusal; left is what is left of the budget. */
+/* number is 0 where accepted, else that of the refusal; left is what is left of the budget. Where a scan broke, which is 3, 4, 10 or 11,
+ * block is the number of the block it broke in, counted from 0, or the block count where the final marker is wrong; and place is that of
+ * the first byte not yet taken when the reading of that block began, before any restart. Both are 0 for every other answer. A place in
+ * the scan is never 0, so a place of 0 says that no scan broke. */
 typedef struct tillsparrow_inspected {
     uint64_t number;
     uint64_t left;
+    uint64_t block;
+    uint64_t place;
     tillsparrow_record found; /* zero in every field where refused */
 } tillsparrow_inspected;
 
@@ -70,6 +77,8 @@ typedef struct tillsparrow_decoded {
 typedef struct tillsparrow_settled {
     uint64_t number;
     uint64_t left;
+    uint64_t block;
+    uint64_t place;
     uint64_t length; /* the bytes of the settled file; the bytes it needs where refused with 7; else 0 */
 } tillsparrow_settled;
 
@@ -81,6 +90,8 @@ typedef struct tillsparrow_part {
 typedef struct tillsparrow_presence {
     uint64_t number;
     uint64_t left;
+    uint64_t block;
+    uint64_t place;
     uint64_t there; /* 1 where the comment is there, else 0 */
 } tillsparrow_presence;
 
