@@ -126,12 +126,13 @@ abbrev pub brokenAt : Fault → Cursor Bits → Break
 brokenAt f q = record { fault = f; block = q .done; place = q .bits .at }
 
 -- the turn that begins at a cursor, by where its restart ended in the whole file and where its bits did. If its restart took a byte at or
--- behind c, it breaks there; if its bits did, the bytes ran out in them; else the next turn. (No turn of an accepted file has a fault.)
+-- behind c, it breaks there; if its bits did, the bytes ran out in them; else the next turn. (A turn with a fault, which no accepted file has,
+-- counts as one that took such a byte.)
 abbrev pub cutTurn : ℕ → Cursor Bits → Read Bits (List ℤ) → Read Bits Turn → (Turn → Bits → Break) → Break
 cutTurn c q (got ps b) (got t e) next =
     cond (ltb c (b .at)) (brokenAt Broken q) (cond (ltb c (e .at)) (brokenAt RanOut q) (next t e))
-cutTurn c q (got ps b) (fault f) next = brokenAt f q
-cutTurn c q (fault f) o next = brokenAt f q
+cutTurn c q (got ps b) (fault f) next = brokenAt RanOut q
+cutTurn c q (fault f) o next = brokenAt Broken q
 
 -- the first of n more blocks whose restart or bits take a byte at or behind c; if there is none, the final marker
 unfoldable pub cutFrom : List ℕ → Plan → ℕ → ℕ → Cursor Bits → Break
