@@ -107,7 +107,8 @@ onwards-same turn src (fault e) f g h = refl
 
 pub resumed-block : (s : List ℕ) (p : scan.Plan) (N : ℕ) (turn q : ScanCursor) → q .done < N → (c : ℕ) → channelOf (p .shape) (q .done) ≡ c
     → resumed s p N turn q
-    ≡ onwards (here (file s) (cursorOf turn) (block (one s) (p .channels c .dc) (p .channels c .ac) (getD (q .predictors) c (pos 0)) (q .bits))) (λ l b. before (l ∷ []) (ahead s p N (past q c (getD l 0 (pos 0)) b)))
+    ≡ onwards (here (file s) (cursorOf turn) (block (one s) (p .channels c .dc) (p .channels c .ac) (getD (q .predictors) c (pos 0)) (q .bits)))
+    (λ l b. before (l ∷ []) (ahead s p N (past q c (getD l 0 (pos 0)) b)))
 unfolding resumed ahead file
 resumed-block s p N turn q i c u =
     let more : N - q .done ≡ suc (N - (q .done + 1)) = omega arith in

@@ -147,7 +147,9 @@ module _ (s : List ℕ) (c : ℕ) where
               place false q = rw (gone c s (at + 1) (ltb-false (at + 1) c q)) (first-gone 255 (at + 2) (omega (arith, ltb-false (at + 1) c q)))
 
       -- the byte x, where the prefix has it
-      inside : (x : ℕ) → at < c → (t : Bool) → Cut c RanOut (cond t (afterFull at (getElem? s (at + 1))) (firstOf x (at + 1))) (cond t (afterFull at (getElem? (take c s) (at + 1))) (firstOf x (at + 1)))
+      inside : (x : ℕ) → at < c → (t : Bool) → Cut c RanOut
+          (cond t (afterFull at (getElem? s (at + 1))) (firstOf x (at + 1)))
+          (cond t (afterFull at (getElem? (take c s) (at + 1))) (firstOf x (at + 1)))
       inside x i true = zero-byte (getElem? s (at + 1)) refl i
       inside x i false = first-kept x (at + 1) (omega arith)
 
@@ -227,8 +229,12 @@ module _ (s : List ℕ) (c : ℕ) where
       never false y = refl
 
       place : (t : Bool) → ltb (b .at + fulls (drop (b .at) s)) c ≡ t → Cut c Broken
-          (cond (padded b and ltb 0 (fulls (drop (b .at) s)) and isAt s (b .at + fulls (drop (b .at) s)) code) (got nothing (firstBit (b .at + fulls (drop (b .at) s) + 1))) (fault Broken))
-          (cond (padded b and ltb 0 (fulls (drop (b .at) (take c s))) and isAt (take c s) (b .at + fulls (drop (b .at) (take c s))) code) (got nothing (firstBit (b .at + fulls (drop (b .at) (take c s)) + 1))) (fault Broken))
+          (cond (padded b and ltb 0 (fulls (drop (b .at) s)) and isAt s (b .at + fulls (drop (b .at) s)) code)
+          (got nothing (firstBit (b .at + fulls (drop (b .at) s) + 1)))
+          (fault Broken))
+          (cond (padded b and ltb 0 (fulls (drop (b .at) (take c s))) and isAt (take c s) (b .at + fulls (drop (b .at) (take c s))) code)
+          (got nothing (firstBit (b .at + fulls (drop (b .at) (take c s)) + 1)))
+          (fault Broken))
       place true q =
           let less : b .at + fulls (drop (b .at) s) < c = ltb-true (b .at + fulls (drop (b .at) s)) c q in
           let same : fulls (drop (b .at) (take c s)) ≡ fulls (drop (b .at) s) = omega (arith, n-least, less) in
@@ -283,11 +289,17 @@ module _ (s : List ℕ) (c : ℕ) where
       end : closed (file s) (last .bits) ≡ got nothing behind
 
     -- a level list more or less changes nothing of where it breaks
-    one-more : (l : List ℤ) (o : Scanned (Cursor Bits) (List (List ℤ))) (w : Break) → onwards o (ended (file (take c s))) ≡ broke w → onwards (onwards o (λ ls e. whole (l ∷ ls) e)) (ended (file (take c s))) ≡ broke w
+    one-more :
+        (l : List ℤ) (o : Scanned (Cursor Bits) (List (List ℤ))) (w : Break)
+        → onwards o (ended (file (take c s))) ≡ broke w
+        → onwards (onwards o (λ ls e. whole (l ∷ ls) e)) (ended (file (take c s))) ≡ broke w
     one-more l (broke x) w e = e
     one-more l (whole ls q) w e = go _ (closed (file (take c s)) (q .bits)) e
       where
-        go : (x : Cursor Bits) (o : Read Bits (Unit {0})) → here (file (take c s)) x (onward o (λ _. give ls)) ≡ broke w → here (file (take c s)) x (onward o (λ _. give (l ∷ ls))) ≡ broke w
+        go :
+            (x : Cursor Bits) (o : Read Bits (Unit {0}))
+            → here (file (take c s)) x (onward o (λ _. give ls)) ≡ broke w
+            → here (file (take c s)) x (onward o (λ _. give (l ∷ ls))) ≡ broke w
         go x (got a b) k = absurd (no-break w ls b (sym k))
         go x (fault f) k = k
 
@@ -376,7 +388,11 @@ module _ (s : List ℕ) (c : ℕ) where
       go (broke w) k j = absurd (no-break w ls b j)
       go (whole ms x) k j = ends _ (closed (file s) (x .bits)) refl j
         where
-          ends : (q : Cursor Bits) (o : Read Bits (Unit {0})) → closed (file s) (x .bits) ≡ o → here (file s) q (onward o (λ _. give ms)) ≡ whole ls b → Read-out (planOf s r) less (r .blocks) (started (firstBit (r .start)))
+          ends :
+              (q : Cursor Bits) (o : Read Bits (Unit {0}))
+              → closed (file s) (x .bits) ≡ o
+              → here (file s) q (onward o (λ _. give ms)) ≡ whole ls b
+              → Read-out (planOf s r) less (r .blocks) (started (firstBit (r .start)))
           ends q (got u t) y z = record { levels-read = ms; last = x; read = k; behind = t; end = y }
           ends q (fault f) y z = absurd (no-break _ ls b z)
 

@@ -67,7 +67,8 @@ module _ {S : Type 0} (src : Source S) (p : Plan) where
           (ih (record { bits = s; predictors = set qs c (getD l 0 (pos 0)); done = suc (q .done) }))
 
       by-restart : (r : Read S (List ℤ)) → ((x : Cursor S) → forgetOn (readOn src p n x) ≡ blocks src p n (x .done) (x .predictors) (x .bits))
-          → forgetOn (onwards (here src q (onward r (λ qs. block (src .next) (p .channels c .dc) (p .channels c .ac) (getD qs c (pos 0)) >>= λ l. give (record { levels = l; predictors = set qs c (getD l 0 (pos 0)) })))) later)
+          → forgetOn (onwards (here src q (onward r (λ qs.
+          block (src .next) (p .channels c .dc) (p .channels c .ac) (getD qs c (pos 0)) >>= λ l. give (record { levels = l; predictors = set qs c (getD l 0 (pos 0)) })))) later)
           ≡ onward r (λ qs. block (src .next) (p .channels c .dc) (p .channels c .ac) (getD qs c (pos 0)) >>= λ l. blocks src p n (suc (q .done)) (set qs c (getD l 0 (pos 0))) >>= λ ls. give (l ∷ ls))
       by-restart (fault f) ih = refl
       by-restart (got qs s) ih = by-block qs (block (src .next) (p .channels c .dc) (p .channels c .ac) (getD qs c (pos 0)) s) ih

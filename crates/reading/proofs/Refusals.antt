@@ -158,7 +158,8 @@ module _ (s : List ℕ) (colour : Bool) (l : Limits) (budget : Budget) where
 -- ---- a prefix
 
 -- what inspect accepts, cut behind its header
-module _ (s : List ℕ) (colour : Bool) (l : Limits) (budget : Budget) (c : ℕ) (e : inspect s colour l budget .verdict ≡ Accepted) (from : inspect s colour l budget .found .start ≤ c) (less : c < length s) where
+module _ (s : List ℕ) (colour : Bool) (l : Limits) (budget : Budget) (c : ℕ)
+    (e : inspect s colour l budget .verdict ≡ Accepted) (from : inspect s colour l budget .found .start ≤ c) (less : c < length s) where
   whole-file : Inspected s colour l budget (inspect s colour l budget)
   whole-file = inspect-accepted s colour l budget e
 

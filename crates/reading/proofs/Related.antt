@@ -44,7 +44,11 @@ module _ {S S′ : Type 0} (Rel : (A : Type 0) → Reader S A → Reader S′ A 
     unfolding symbol
     symbol-related t = thens ℕ ℕ (codeFrom next (t .counts) 0 0 0) (codeFrom next′ (t .counts) 0 0 0) _ _ (codeFrom-related (t .counts) 0 0 0) (λ i. gives ℕ (getD (t .symbols) i 0))
 
-    answered-related : (place : ℕ) (m : ℕ → Reader S (List ℤ)) (m′ : ℕ → Reader S′ (List ℤ)) → ((p : ℕ) → Rel (List ℤ) (m p) (m′ p)) → (a : Ask) → Rel (List ℤ) (answered next place m a) (answered next′ place m′ a)
+    answered-related :
+        (place : ℕ) (m : ℕ → Reader S (List ℤ)) (m′ : ℕ → Reader S′ (List ℤ))
+        → ((p : ℕ) → Rel (List ℤ) (m p) (m′ p))
+        → (a : Ask)
+        → Rel (List ℤ) (answered next place m a) (answered next′ place m′ a)
     answered-related place m m′ f end = gives (List ℤ) (zeros (64 - place))
     answered-related place m m′ f skip = thens (List ℤ) (List ℤ) (m (place + 16)) (m′ (place + 16)) _ _ (f (place + 16)) (λ l. gives (List ℤ) (zeros 16 ++ l))
     answered-related place m m′ f (value run size) =

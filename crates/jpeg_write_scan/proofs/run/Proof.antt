@@ -79,19 +79,31 @@ same-length-2 : tie.Need-same-length-2 Inv-mcus μ-mcus
 same-length-2 c = c .before .before .before .before .before .mcus .inv .size
 
 returns-2 : tie.Need-returns-2 Inv-mcus μ-mcus
-returns-2 c = told-by (c .broke .ensures) (ended-not (c .before .before .before .before .before .mcus .inv) (c .before .before .before .if1 .taken) (sym (c .before .before .at-end .ensures) ∙ c .before .if2 .left))
+returns-2 c =
+    let not-closed = sym (c .before .before .at-end .ensures) ∙ c .before .if2 .left in
+    told-by (c .broke .ensures) (ended-not (c .before .before .before .before .before .mcus .inv) (c .before .before .before .if1 .taken) not-closed)
 
 same-length-3 : tie.Need-same-length-3 Inv-mcus μ-mcus
 same-length-3 c = c .before .before .before .before .before .before .before .mcus .inv .size
 
 returns-3 : tie.Need-returns-3 Inv-mcus μ-mcus
-returns-3 c = told-by (c .broke2 .ensures) (stopped (c .before .before .before .before .before .before .before .mcus .inv) (c .before .before .before .before .before .if1 .left) (c .before .before .before .before .restart .ensures) (c .before .before .h .given .1))
+returns-3 c =
+    let restarting = (c .before .before .before .before) in
+    told-by (c .broke2 .ensures) (stopped (restarting .before .before .before .mcus .inv) (restarting .before .if1 .left) (restarting .restart .ensures) (c .before .before .h .given .1))
 
 same-length-4 : tie.Need-same-length-4 Inv-mcus μ-mcus
-same-length-4 c = c .before .before .before .before .before .before .mcu .ensures .size ∙ (search needs ∙ c .before .before .before .before .before .before .before .before .before .before .before .before .before .before .before .before .before .mcus .inv .size)
+same-length-4 c =
+    let blocks-read = (c .before .before .before .before .before .before) in
+    blocks-read .mcu .ensures .size ∙ (search needs ∙ blocks-read .before .before .before .before .before .before .before .before .before .before .before .mcus .inv .size)
 
 returns-4 : tie.Need-returns-4 Inv-mcus μ-mcus
-returns-4 c = told-by (c .broke-in .ensures) (broken (c .before .before .before .before .before .before .before .before .before .before .before .before .before .before .before .before .before .mcus .inv) (c .before .before .before .before .before .before .before .before .before .before .before .before .before .before .before .if1 .left) (c .before .before .before .before .before .before .before .before .before .before .before .before .before .before .restart .ensures) (c .before .before .before .before .before .before .before .before .before .before .before .before .enum-told .given .1) (c .before .before .before .before .before .before .before .before .before .before .mark .ensures) (c .before .before .before .before .before .before .mcu .ensures) (search needs) (c .before .before .g .given .1))
+returns-4 c =
+    let blocks-read = (c .before .before .before .before .before .before) in
+    let marked = (c .before .before .before .before .before .before .before .before .before .before) in
+    let restarting = (c .before .before .before .before .before .before .before .before .before .before .before .before .before .before) in
+    told-by (c .broke-in .ensures)
+    (broken (restarting .before .before .before .mcus .inv) (restarting .before .if1 .left) (restarting .restart .ensures) (c .before .before .before .before .before .before .before .before .before .before .before .before .enum-told .given .1)
+    (marked .mark .ensures) (blocks-read .mcu .ensures) (search needs) (c .before .before .g .given .1))
 
 pub run-spec : {M : Type 1} → statement M
 run-spec =

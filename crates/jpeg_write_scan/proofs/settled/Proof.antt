@@ -24,7 +24,10 @@ blocks-few : (c : tie.Else2) → c .before .before .of .result .blocks < 2 ^ 32
 blocks-few c = omega (arith, few (c .before .before .before), ap (λ (n : Plan). n .blocks) (set-up c .plan-is))
 
 returns : tie.Need-returns
-returns c = let r = says-stop (c .before .before .before .before .before .args .out .now) (settled-many (c .before .before .before .before .before .args .s .now) (c .before .before .before .before .before .args .found) (omega (arith, c .before .if1 .taken))) in (ap Stop (c .nowhere .ensures) ∙ r .0, r .1)
+returns c =
+    let a = (c .before .before .before .before .before) .args in
+    let r = says-stop (a .out .now) (settled-many (a .s .now) (a .found) (omega (arith, c .before .if1 .taken))) in
+    (ap Stop (c .nowhere .ensures) ∙ r .0, r .1)
 
 nowhere-requires : tie.Need-nowhere-requires
 nowhere-requires c κs = search needs
@@ -36,7 +39,11 @@ of-requires : tie.Need-of-requires
 of-requires c κs = search needs
 
 returns-2 : tie.Need-returns-2
-returns-2 c = let r = says-stop (c .before .before .before .before .before .before .before .before .args .out .now) (settled-unread (c .before .before .before .before .before .before .before .before .args .s .now) (c .before .before .before .before .before .before .before .before .args .found) (few (c .before .before .before .before)) (unready (c .before .before .before .before .before .before .before .before .args .s .now) (c .before .before .before .before .before .before .before .before .args .found) (c .before .before .before .of .ensures) (c .before .if2 .taken))) in (ap Stop (c .nowhere2 .ensures) ∙ r .0, r .1)
+returns-2 c =
+    let a = (c .before .before .before .before .before .before .before .before) .args in
+    let unread = unready (a .s .now) (a .found) (c .before .before .before .of .ensures) (c .before .if2 .taken) in
+    let r = says-stop (a .out .now) (settled-unread (a .s .now) (a .found) (few (c .before .before .before .before)) unread) in
+    (ap Stop (c .nowhere2 .ensures) ∙ r .0, r .1)
 
 slice-aggregate-sheet : tie.Need-slice-aggregate-sheet
 slice-aggregate-sheet c = sym (length-take-le _ _ (set-up (c .before) .inside))
