@@ -72,7 +72,12 @@ module _ (s : List ℕ) (y : AllBytes s) (q r : Record) (out scratch : List ℕ)
     room = omega (arith, m .scratch-room, accepted .scratch)
 
     module _ (v : ScanRead) (e3 : v ≡ scanRead (scanOf s r)) (scratch′ : List ℕ) (e4 : scratch′ ≡ drawn s r (scanOf s r) scratch) where
-      pub draws-stop : {answer : Decoding} → answer ≡ record { verdict = Refused NotItsRecord; budget = rest } → (g : Break) → v ≡ Stop g → leaving answer out scratch′ ≡ drawnAs s q r out scratch rest
+      pub draws-stop :
+          {answer : Decoding}
+          → answer ≡ record { verdict = Refused NotItsRecord; budget = rest }
+          → (g : Break)
+          → v ≡ Stop g
+          → leaving answer out scratch′ ≡ drawnAs s q r out scratch rest
       draws-stop a g p =
           let o = E.refused (scanOf s r) e3 p in
           ap₂ (λ x z. leaving x out z) a (e4 ∙ sym (E.drawn-stop s r scratch o))

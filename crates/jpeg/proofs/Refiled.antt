@@ -57,6 +57,8 @@ module _ (s : List ℕ) (l : Limits) (budget : Budget) (out : List ℕ) {rest : 
         refiled-is s r rest out (omega (arith, z .counted)) ∙ ap (refiledBy s r rest out) (settled-is s y r (z .head)) ∙ go (levels s r)
         ∙ sym (ap (answer s out) (z .is))
       where
-        go : (x : Scanned Bits (List (List ℤ))) → refiledBy s r rest out (settledRead (planOf s r) x) ≡ rewritten out (onward (onward (unbroken x rest) (λ ls. give (record { found = r; blocks = ls }))) (fileOf s))
+        go :
+            (x : Scanned Bits (List (List ℤ)))
+            → refiledBy s r rest out (settledRead (planOf s r) x) ≡ rewritten out (onward (onward (unbroken x rest) (λ ls. give (record { found = r; blocks = ls }))) (fileOf s))
         go (whole ls b) = refl
         go (broke f) = refl

@@ -65,7 +65,10 @@ module _ {s : List ℕ} {n : Plan} {write : Bool} {old : List ℕ} {q₀ : ScanC
     -- ---- the restart
 
     module _ {a : CursorRead} (e : a ≡ restarted s (n .interval) m q) where
-      on-from : (p : scan.Plan) (st : Stands (take (n .start) s) n p) {h : Halt} → a .halt ≡ h → ahead s p (n .blocks) q₀ ≡ before (o p st .levels) (wentBy q h (a .cursor) (resumed s p (n .blocks) q))
+      on-from :
+          (p : scan.Plan) (st : Stands (take (n .start) s) n p) {h : Halt}
+          → a .halt ≡ h
+          → ahead s p (n .blocks) q₀ ≡ before (o p st .levels) (wentBy q h (a .cursor) (resumed s p (n .blocks) q))
       on-from p st g = o p st .same ∙ ap (before (o p st .levels)) (restart-next st s m (n .blocks) q at-mcu i ∙ went-by q (sym e) g (resumed s p (n .blocks) q))
 
       pub stopped : (p : scan.Plan) (st : Stands (take (n .start) s) n p) {f : Fault} → a .halt ≡ Yes f → ahead s p (n .blocks) q₀ ≡ broke (brokeAt q f)
@@ -84,7 +87,8 @@ module _ {s : List ℕ} {n : Plan} {write : Bool} {old : List ℕ} {q₀ : ScanC
           pub broken : {f : Fault} → b .halt ≡ Yes f → (ahead s p (n .blocks) q₀ ≡ broke (brokeIn q (b .cursor) f)) × (write ≡ false → new′ ≡ old)
           broken {f} k =
               let x : Behind s p n (a .cursor) write new (Yes f) (b .cursor) new′ = behind k in
-              (on-from p st g ∙ ap (before (o p st .levels)) (x .0 q (sym done-same)) ∙ before-broke (o p st .levels) (brokeIn q (b .cursor) f), λ (t : write ≡ false). x .1 t ∙ unchanged p st t)
+              let ls : List (List ℤ) = o p st .levels in
+              (on-from p st g ∙ ap (before ls) (x .0 q (sym done-same)) ∙ before-broke ls (brokeIn q (b .cursor) f), λ (t : write ≡ false). x .1 t ∙ unchanged p st t)
 
           module _ (k : b .halt ≡ No) where
             passed : Passed s p n (a .cursor) (b .cursor) write new new′

@@ -52,7 +52,11 @@ unfolding inked placed
 inked-all s r ls old = let z : 64 * 0 + length (allSamples s r ls) ≡ length (allSamples s r ls) = omega arith in ap (λ (k : ℕ). allSamples s r ls ++ drop k old) z
 
 module _ (s : List ℕ) (r : Record) where
-  pub left-done : (write : Bool) (old : List ℕ) {new : List ℕ} {ls : List (List ℤ)} {b : Bits} → scanOf s r ≡ whole ls b → new ≡ inked write (planOf s r) 0 ls old → Left write s r old new
+  pub left-done :
+      (write : Bool) (old : List ℕ) {new : List ℕ} {ls : List (List ℤ)} {b : Bits}
+      → scanOf s r ≡ whole ls b
+      → new ≡ inked write (planOf s r) 0 ls old
+      → Left write s r old new
   left-done false old {new} {ls} e h = h ∙ inked-not (planOf s r) 0 ls old
   left-done true old {new} {ls} {b} e h =
       λ ms c g. let same : ls ≡ ms = whole-val (sym e ∙ g) in

@@ -95,7 +95,13 @@ module _ {A : Type 0} (j : ℕ) (x : A) (y : ScanCursor → A) (turn q : ScanCur
       go false l = refl
 
 -- what a fault in block j names
-pub turn-names : {n : Plan} {from q : ScanCursor} {j : ℕ} → Along n from q j → (turn : ScanCursor) → turn .done ≡ from .done → (f : Fault) → brokeAt (turnOf j turn q) f ≡ brokeIn turn q f
+pub turn-names :
+    {n : Plan} {from q : ScanCursor} {j : ℕ}
+    → Along n from q j
+    → (turn : ScanCursor)
+    → turn .done ≡ from .done
+    → (f : Fault)
+    → brokeAt (turnOf j turn q) f ≡ brokeIn turn q f
 turn-names {n} {from} {q} {j} a turn d f = go (ltb 0 j) refl
   where
     go : (t : Bool) → ltb 0 j ≡ t → brokeAt (cond t q turn) f ≡ brokeIn turn q f
@@ -139,7 +145,10 @@ module _ {s : List ℕ} {n : Plan} {write : Bool} {old : List ℕ} {from : ScanC
 
     -- ---- the last block is read
 
-    finish : ((turn : ScanCursor) → entered j (ahead s p (n .blocks) q) (resumed s p (n .blocks) turn q) ≡ ahead s p (n .blocks) q) → j ≡ min (n .per) (n .blocks - from .done) → Passed s p n from q write old new
+    finish :
+        ((turn : ScanCursor) → entered j (ahead s p (n .blocks) q) (resumed s p (n .blocks) turn q) ≡ ahead s p (n .blocks) q)
+        → j ≡ min (n .per) (n .blocks - from .done)
+        → Passed s p n from q write old new
     finish a c =
         record {
           levels = o .levels;

@@ -82,7 +82,13 @@ wentBy turn (Yes e) q f = broke (brokeAt turn e)
 abbrev pub went : ScanCursor → CursorRead → (ScanCursor → Scanned (Cursor Bits) (List (List ℤ))) → Scanned (Cursor Bits) (List (List ℤ))
 went turn x f = wentBy turn (x .halt) (x .cursor) f
 
-pub went-by : (turn : ScanCursor) {x y : CursorRead} → y ≡ x → {h : Halt} → x .halt ≡ h → (f : ScanCursor → Scanned (Cursor Bits) (List (List ℤ))) → went turn y f ≡ wentBy turn h (x .cursor) f
+pub went-by :
+    (turn : ScanCursor) {x y : CursorRead}
+    → y ≡ x
+    → {h : Halt}
+    → x .halt ≡ h
+    → (f : ScanCursor → Scanned (Cursor Bits) (List (List ℤ)))
+    → went turn y f ≡ wentBy turn h (x .cursor) f
 went-by turn {x} {y} e {h} g f = ap (λ (z : CursorRead). went turn z f) e ∙ ap (λ (k : Halt). wentBy turn k (x .cursor) f) g
 
 -- ---- one block
@@ -115,7 +121,8 @@ resumed-block s p N turn q i c u =
     rw (more, u)
     (onwards-same (cursorOf turn) (file s) (block (one s) (p .channels c .dc) (p .channels c .ac) (getD (q .predictors) c (pos 0)) (q .bits)) _ _
     (λ l b. before-one l _
-    ∙ ap (λ (k : ℕ). before (l ∷ []) (scan.readOn (file s) p (N - (q .done + 1)) (record { bits = b; predictors = set (q .predictors) c (getD l 0 (pos 0)); done = k }))) (sym (add-one (q .done)))))
+    ∙ ap (λ (k : ℕ). before (l ∷ []) (scan.readOn (file s) p (N - (q .done + 1)) (record { bits = b; predictors = set (q .predictors) c (getD l 0 (pos 0)); done = k })))
+    (sym (add-one (q .done)))))
 
 -- a turn is its restart and its block
 module _ (src : Source Bits) (p : scan.Plan) (k : ℕ) (q : Cursor Bits) where

@@ -67,7 +67,11 @@ laid-short start t out part h e = ap (λ l. l ++ out) (e ∙ none-laid t) ∙ sy
     short = rw (lt-ltb (length out) start h) refl
 
 -- (the part that is lent is all that lies behind the start)
-pub laid-long : (start : ℕ) (t : Scanned Bits (Option (List ℕ))) (out part : List ℕ) → start ≤ length out → part ≡ laidOver t (take (length out - start) (drop start out)) → take start out ++ (part ++ drop (length out - start) (drop start out)) ≡ scanLaid start t out
+pub laid-long :
+    (start : ℕ) (t : Scanned Bits (Option (List ℕ))) (out part : List ℕ)
+    → start ≤ length out
+    → part ≡ laidOver t (take (length out - start) (drop start out))
+    → take start out ++ (part ++ drop (length out - start) (drop start out)) ≡ scanLaid start t out
 unfolding scanLaid
 laid-long start t out part h e =
     ap (λ l. take start out ++ (part ++ l)) (drop-of-length-le (drop start out) {i = length out - start} few)
@@ -102,7 +106,10 @@ laid-not start t b out h = go (ltb (length out) start) refl
     go false e = rw (lt-ltb (length (drop start out)) (length t) (omega (arith, length-drop start out, ltb-false (length out) start e))) (take-append-drop start out)
 
 -- else the scan lies at its place
-laid-all : (start : ℕ) (t : List ℕ) (b : Bits) (out : List ℕ) → start + length t ≤ length out → scanLaid start (whole (some t) b) out ≡ take start out ++ (t ++ drop (length t) (drop start out))
+laid-all :
+    (start : ℕ) (t : List ℕ) (b : Bits) (out : List ℕ)
+    → start + length t ≤ length out
+    → scanLaid start (whole (some t) b) out ≡ take start out ++ (t ++ drop (length t) (drop start out))
 unfolding scanLaid laidOver
 laid-all start t b out h = rw (le-ltb (length out) start (omega (arith, h)), le-ltb (length (drop start out)) (length t) (omega (arith, length-drop start out, h))) refl
 
@@ -118,7 +125,10 @@ module _ (s : List ℕ) (start n : ℕ) (rest : Budget) (out : List ℕ) where
   joined-all h e = ap (remade (record { verdict = Accepted; budget = rest; length = start + n })) e ∙ sym (rw (le-ltb (length out) (start + n) h) refl)
 
 -- both are what the settled file makes of the buffer
-join-is : (s : List ℕ) (start : ℕ) (t : List ℕ) (b : Bits) (rest : Budget) (out : List ℕ) → start ≤ length s → joined s start (length t) rest (scanLaid start (whole (some t) b) out) ≡ settledInto out rest (some (take start s ++ t))
+join-is :
+    (s : List ℕ) (start : ℕ) (t : List ℕ) (b : Bits) (rest : Budget) (out : List ℕ)
+    → start ≤ length s
+    → joined s start (length t) rest (scanLaid start (whole (some t) b) out) ≡ settledInto out rest (some (take start s ++ t))
 unfolding joined
 join-is s start t b rest out h = go (ltb (length out) (start + length t)) refl
   where
@@ -245,7 +255,12 @@ module _ (s : List ℕ) (r : Record) (few : length s < 2 ^ 63) where
     by-scan : {x : Scanned Bits (Option (List ℕ))} → settledOf s r ≡ x → refiled s r rest out ≡ refiledBy s r rest out x
     by-scan q = refiled-is s r rest out few ∙ ap (refiledBy s r rest out) q
 
-    pub file-stop : {g : Break} → v ≡ Stop g → {answer : Settling} → answer ≡ record { verdict = Refused (Scan g); budget = rest; length = 0 } → remade answer out′ ≡ refiled s r rest out
+    pub file-stop :
+        {g : Break}
+        → v ≡ Stop g
+        → {answer : Settling}
+        → answer ≡ record { verdict = Refused (Scan g); budget = rest; length = 0 }
+        → remade answer out′ ≡ refiled s r rest out
     file-stop {g} p {answer} a =
         let o = stop-laid (settledOf s r) g (sym p ∙ e) in
         ap₂ remade a (w ∙ ap (λ x. scanLaid (r .start) x out) o ∙ laid-stop (r .start) g out) ∙ sym (by-scan o)

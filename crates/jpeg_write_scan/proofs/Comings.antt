@@ -57,7 +57,9 @@ unfolding settling before
 settling-before f l (whole ls q) = refl
 settling-before f l (broke w) = refl
 
-settling-some : (f g : Blocks → Option Spot) (o : Scanned Bits (List ℤ)) (more : List ℤ → Bits → Scanned (Cursor Bits) Blocks) → ((l : List ℤ) (ls : Blocks) → f (l ∷ ls) ≡ g (l ∷ ls))
+settling-some :
+    (f g : Blocks → Option Spot) (o : Scanned Bits (List ℤ)) (more : List ℤ → Bits → Scanned (Cursor Bits) Blocks)
+    → ((l : List ℤ) (ls : Blocks) → f (l ∷ ls) ≡ g (l ∷ ls))
     → settling f (onwards o (λ l b. before (l ∷ []) (more l b))) ≡ settling g (onwards o (λ l b. before (l ∷ []) (more l b)))
 unfolding settling
 settling-some f g (whole l b) more h =
@@ -104,7 +106,8 @@ module _ {t : List ℕ} {n : Plan} {p : scan.Plan} (st : Stands t n p) (s : List
 
   -- ---- a block
 
-  module _ (m j N : ℕ) (turn q : ScanCursor) (ink : Outcome) (out : List ℕ) (e : q .done ≡ m * n .per + j) (h : j < n .per) (i : q .done < N) (c : ℕ) (u : c ≡ chan (n .lumas) j) (few : c < 3)
+  module _ (m j N : ℕ) (turn q : ScanCursor) (ink : Outcome) (out : List ℕ)
+      (e : q .done ≡ m * n .per + j) (h : j < n .per) (i : q .done < N) (c : ℕ) (u : c ≡ chan (n .lumas) j) (few : c < 3)
       {x : BlockRead} (v : x ≡ said (blockAt t n s c q)) where
     pub resuming-stop : {f : Fault} → x ≡ read.Stop f → resuming s p N turn q ink out ≡ broke (brokeAt turn f)
     unfolding resuming

@@ -67,7 +67,11 @@ told-by {s} {n} {old} {new} e a = subst⁻¹ (λ (x : Break). Ran s n old (answe
 module _ {s : List ℕ} {n : Plan} {old new : List ℕ} {q : ScanCursor} {ink : Outcome} {m : ℕ} (w : Walk s n old new q ink m) where
   -- ---- a fault
 
-  fallen : {new′ : List ℕ} {x : Break} → length new′ ≡ length new → ((p : scan.Plan) → Stands (head n s) n p → coming s p (n .blocks) q ink new ≡ broke x) → Ran s n old (answer.Stop x) new′
+  fallen :
+      {new′ : List ℕ} {x : Break}
+      → length new′ ≡ length new
+      → ((p : scan.Plan) → Stands (head n s) n p → coming s p (n .blocks) q ink new ≡ broke x)
+      → Ran s n old (answer.Stop x) new′
   fallen {new′} {x} long h =
       record {
         size = long ∙ w .size;
@@ -97,7 +101,8 @@ module _ {s : List ℕ} {n : Plan} {old new : List ℕ} {q : ScanCursor} {ink : 
           size = w .size;
           each = λ p st.
               subst⁻¹ (λ (o : Scanned (Cursor Bits) (Option Spot)). Answers (closing s o) (answer.Stop (brokeAt q Broken)) new) (at-last p st)
-              (subst⁻¹ (λ (o : Read Bits (Unit {0})). Answers (here (file s) (cursorOf q) (onward o (λ _. give (finalBy ink new (some lastPart))))) (answer.Stop (brokeAt q Broken)) new) (end-not s (q .bits) e) refl);
+              (subst⁻¹ (λ (o : Read Bits (Unit {0})). Answers (here (file s) (cursorOf q) (onward o (λ _. give (finalBy ink new (some lastPart))))) (answer.Stop (brokeAt q Broken)) new)
+              (end-not s (q .bits) e) refl);
         }
 
   -- ---- one MCU more

@@ -77,7 +77,10 @@ module _ {s : List ℕ} {r : Record} {n : Plan} (u : Ready s r n) (few : r .bloc
           ap (ending ls q) (end-not s (q .bits) h)
           ∙ sym (ap (λ (o : Scanned Bits (List (List ℤ))). put old (settledRead (scan.planOf s r) o)) (scan-open s r (u .readable-is) e h))
 
-      go : (o : Scanned (Cursor Bits) (List (List ℤ))) → ahead s (scan.planOf s r) (r .blocks) (atStart (r .start)) ≡ o → closing s (settling bytes o) ≡ put old (settledRead (scan.planOf s r) (scanOf s r))
+      go :
+          (o : Scanned (Cursor Bits) (List (List ℤ)))
+          → ahead s (scan.planOf s r) (r .blocks) (atStart (r .start)) ≡ o
+          → closing s (settling bytes o) ≡ put old (settledRead (scan.planOf s r) (scanOf s r))
       go (whole ls q) e = close ls (record { bits = q .bits; predictors = q .predictors; done = q .done }) e (closes s (q .bits)) refl
       go (broke w) e = sym (ap (λ (o : Scanned Bits (List (List ℤ))). put old (settledRead (scan.planOf s r) o)) (scan-stop s r (u .readable-is) e))
 
@@ -92,7 +95,13 @@ module _ {s : List ℕ} {r : Record} {n : Plan} (u : Ready s r n) (few : r .bloc
   unfolding scanSettled
   passed {old} {new} {x} a = go (scanOf s r) refl (told-so a)
     where
-      all-of : (ls : List (List ℤ)) (b : Bits) → scanOf s r ≡ whole ls b → (w : Option (List ℕ)) → settledScan (scan.planOf s r) ls ≡ w → endedAt (scanAt (spot old 0) w) x new → Passed (whole w b) old x new
+      all-of :
+          (ls : List (List ℤ)) (b : Bits)
+          → scanOf s r ≡ whole ls b
+          → (w : Option (List ℕ))
+          → settledScan (scan.planOf s r) ls ≡ w
+          → endedAt (scanAt (spot old 0) w) x new
+          → Passed (whole w b) old x new
       all-of ls b e none f h = record { says = h; fills = tt }
       all-of ls b e (some t) f h =
           let laid : bytesAt (spot old 0) t ≡ spot (sets old 0 t) (0 + length t) = settled-laid s r ls b t (scan-levels s r e) f old 0 (omega arith) (omega arith) in

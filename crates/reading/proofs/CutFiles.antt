@@ -333,8 +333,14 @@ module _ (s : List ℕ) (c : ℕ) where
         rest-read : (t : Turn) (e : Bits) → later s t e ≡ whole ls last → Read-out n (after t e)
         rest-read t e k = go (readOn (file s) p n (after t e)) refl k
           where
-            go : (o : Scanned (Cursor Bits) (List (List ℤ))) → readOn (file s) p n (after t e) ≡ o → onwards o (λ ls e. whole (t .levels ∷ ls) e) ≡ whole ls last → Read-out n (after t e)
-            go (whole ms x) w v = record { levels-read = ms; last = x; read = w; behind = e₀; end = subst⁻¹ (λ (y : Cursor Bits). closed (file s) (y .bits) ≡ got nothing e₀) (whole-at v) end }
+            go :
+                (o : Scanned (Cursor Bits) (List (List ℤ)))
+                → readOn (file s) p n (after t e) ≡ o
+                → onwards o (λ ls e. whole (t .levels ∷ ls) e) ≡ whole ls last
+                → Read-out n (after t e)
+            go (whole ms x) w v =
+                let there-too = subst⁻¹ (λ (y : Cursor Bits). closed (file s) (y .bits) ≡ got nothing e₀) (whole-at v) end in
+                record { levels-read = ms; last = x; read = w; behind = e₀; end = there-too }
             go (broke x) w v = absurd (no-break x ls last v)
 
         by-block : (qs : List ℤ) (b : Bits) → b .at ≤ c → (o o′ : Read Bits (List ℤ)) → Cut c RanOut o o′

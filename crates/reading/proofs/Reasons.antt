@@ -54,7 +54,10 @@ module _ {S : Type 0} (src : Source S) (p : Plan) where
       later : Turn → S → Scanned (Cursor S) (List (List ℤ))
       later t s = onwards (readOn src p n (record { bits = s; predictors = t .predictors; done = suc (q .done) })) (λ ls e. whole (t .levels ∷ ls) e)
 
-      by-rest : (l : List ℤ) (o : Scanned (Cursor S) (List (List ℤ))) (r : Read S (List (List ℤ))) → forgetOn o ≡ r → forgetOn (onwards o (λ ls e. whole (l ∷ ls) e)) ≡ onward r (λ ls. give (l ∷ ls))
+      by-rest :
+          (l : List ℤ) (o : Scanned (Cursor S) (List (List ℤ))) (r : Read S (List (List ℤ)))
+          → forgetOn o ≡ r
+          → forgetOn (onwards o (λ ls e. whole (l ∷ ls) e)) ≡ onward r (λ ls. give (l ∷ ls))
       by-rest l (whole ls e) r h = ap (λ (x : Read S (List (List ℤ))). onward x (λ ls. give (l ∷ ls))) h
       by-rest l (broke w) r h = ap (λ (x : Read S (List (List ℤ))). onward x (λ ls. give (l ∷ ls))) h
 
@@ -69,7 +72,8 @@ module _ {S : Type 0} (src : Source S) (p : Plan) where
       by-restart : (r : Read S (List ℤ)) → ((x : Cursor S) → forgetOn (readOn src p n x) ≡ blocks src p n (x .done) (x .predictors) (x .bits))
           → forgetOn (onwards (here src q (onward r (λ qs.
           block (src .next) (p .channels c .dc) (p .channels c .ac) (getD qs c (pos 0)) >>= λ l. give (record { levels = l; predictors = set qs c (getD l 0 (pos 0)) })))) later)
-          ≡ onward r (λ qs. block (src .next) (p .channels c .dc) (p .channels c .ac) (getD qs c (pos 0)) >>= λ l. blocks src p n (suc (q .done)) (set qs c (getD l 0 (pos 0))) >>= λ ls. give (l ∷ ls))
+          ≡ onward r (λ qs.
+          block (src .next) (p .channels c .dc) (p .channels c .ac) (getD qs c (pos 0)) >>= λ l. blocks src p n (suc (q .done)) (set qs c (getD l 0 (pos 0))) >>= λ ls. give (l ∷ ls))
       by-restart (fault f) ih = refl
       by-restart (got qs s) ih = by-block qs (block (src .next) (p .channels c .dc) (p .channels c .ac) (getD qs c (pos 0)) s) ih
 

@@ -29,7 +29,8 @@ use Rattle.reading.specs.Words.{Not, Long, Begun, Within, Enough, Inspec
 use Rattle.reading.proofs.Choice.{recolour, restage, reread, header-choice, reading-choice}
 use Rattle.reading.proofs.HeaderEnds.{finished, header-ends}
 use Rattle.reading.proofs.HeaderNumbers.{OfHeader, cut-short, malformed, unsupported, header-number}
-use Rattle.reading.proofs.Judgement.{not-large, small-enough, Way, long, poor, headless, large, poor-for-work, admitted, way, way-back, admits, Judges, stopped, broken, through, judged, behindWork, scanBehind, foundIn, inspects, Inspected, inspect-accepted}
+use Rattle.reading.proofs.Judgement.{not-large, small-enough, Way, long, poor, headless, large, poor-for-work, admitted, way, way-back, admits}
+use Rattle.reading.proofs.Judgement.{Judges, stopped, broken, through, judged, behindWork, scanBehind, foundIn, inspects, Inspected, inspect-accepted}
 use Rattle.reading.proofs.CutFiles.{cut-header, cut-levels}
 
 -- ---- number 1, number 6 and the header, as tests and as statements

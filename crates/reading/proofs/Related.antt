@@ -16,7 +16,10 @@ use Rattle.reading.specs.Block.{Ask, end, skip, value, wrong, asked, zer
 module _ {S S′ : Type 0} (Rel : (A : Type 0) → Reader S A → Reader S′ A → Type 0)
     (gives : (A : Type 0) (a : A) → Rel A (give a) (give a))
     (fails : (A : Type 0) (e : Fault) → Rel A (fail e) (fail e))
-    (thens : (A B : Type 0) (m : Reader S A) (m′ : Reader S′ A) (k : A → Reader S B) (k′ : A → Reader S′ B) → Rel A m m′ → ((a : A) → Rel B (k a) (k′ a)) → Rel B (m >>= k) (m′ >>= k′)) where
+    (thens : (A B : Type 0) (m : Reader S A) (m′ : Reader S′ A) (k : A → Reader S B) (k′ : A → Reader S′ B)
+    → Rel A m m′
+    → ((a : A) → Rel B (k a) (k′ a))
+    → Rel B (m >>= k) (m′ >>= k′)) where
   pub rule-related : (b : Bool) → Rel (Unit {0}) (rule b) (rule b)
   rule-related true = gives (Unit {0}) tt
   rule-related false = fails (Unit {0}) Broken

@@ -132,7 +132,8 @@ returns-3 c =
     let a = (c .before .before .before .before .before .before .before .before .before .before .before .before) .args in
     let w = (c .before .before .before .before .before) .mcus .inv in
     let u = set-up (c .before .before .before .before .before .before .before) in
-    let e = scan-open (a .s .now) (a .found) (u .readable-is) (from-start (c .before .before .before .before .before .before) (all-read w _ (u .numbers) (c .before .before .before .if2 .taken))) (sym (c .before .before .at-end .ensures) ∙ c .before .if3 .left) in
+    let all = from-start (c .before .before .before .before .before .before) (all-read w _ (u .numbers) (c .before .before .before .if2 .taken)) in
+    let e = scan-open (a .s .now) (a .found) (u .readable-is) all (sym (c .before .before .at-end .ensures) ∙ c .before .if3 .left) in
     (ap Stop (c .broke .ensures) ∙ answer-stop e, left-stop (a .s .now) (a .found) (a .write) _ _ e (unchanged w _ (u .numbers)))
 
 same-length-3 : tie.Need-same-length-3 Inv-mcus μ-mcus
@@ -143,18 +144,27 @@ returns-4 c =
     let a = (c .before .before .before .before .before .before .before .before .before .before .before .before .before .before) .args in
     let w = (c .before .before .before .before .before .before .before) .mcus .inv in
     let u = set-up (c .before .before .before .before .before .before .before .before .before) in
-    let e = scan-stop (a .s .now) (a .found) (u .readable-is) (from-start (c .before .before .before .before .before .before .before .before) (stopped w (c .before .before .before .before .before .if2 .left) (c .before .before .before .before .restart .ensures) _ (u .numbers) (c .before .before .h .given .1))) in
+    let restarting = (c .before .before .before .before) in
+    let broke-there = stopped w (restarting .before .if2 .left) (restarting .restart .ensures) _ (u .numbers) (c .before .before .h .given .1) in
+    let e = scan-stop (a .s .now) (a .found) (u .readable-is) (from-start (c .before .before .before .before .before .before .before .before) broke-there) in
     (ap Stop (c .broke2 .ensures) ∙ answer-stop e, left-stop (a .s .now) (a .found) (a .write) _ _ e (unchanged w _ (u .numbers)))
 
 same-length-4 : tie.Need-same-length-4 Inv-mcus μ-mcus
-same-length-4 c = c .before .before .before .before .before .before .mcu .ensures .size ∙ c .before .before .before .before .before .before .before .before .before .before .before .before .before .mcus .inv .size
+same-length-4 c =
+    let blocks-read = (c .before .before .before .before .before .before) in
+    blocks-read .mcu .ensures .size ∙ blocks-read .before .before .before .before .before .before .before .mcus .inv .size
 
 returns-5 : tie.Need-returns-5 Inv-mcus μ-mcus
 returns-5 c =
     let a = (c .before .before .before .before .before .before .before .before .before .before .before .before .before .before .before .before .before .before .before .before) .args in
     let u = set-up (c .before .before .before .before .before .before .before .before .before .before .before .before .before .before .before) in
-    let b = broken (c .before .before .before .before .before .before .before .before .before .before .before .before .before .mcus .inv) (c .before .before .before .before .before .before .before .before .before .before .before .if2 .left) (c .before .before .before .before .before .before .before .before .before .before .restart .ensures) (c .before .before .before .before .before .before .before .before .enum-told .given .1) (c .before .before .before .before .before .before .mcu .ensures) _ (u .numbers) (c .before .before .g .given .1) in
-    let e = scan-stop (a .s .now) (a .found) (u .readable-is) (from-start (c .before .before .before .before .before .before .before .before .before .before .before .before .before .before) (b .0)) in
+    let blocks-read = (c .before .before .before .before .before .before) in
+    let restarting = (c .before .before .before .before .before .before .before .before .before .before) in
+    let walk = (c .before .before .before .before .before .before .before .before .before .before .before .before .before) in
+    let b =
+    broken (walk .mcus .inv) (restarting .before .if2 .left) (restarting .restart .ensures) (c .before .before .before .before .before .before .before .before .enum-told .given .1)
+    (blocks-read .mcu .ensures) _ (u .numbers) (c .before .before .g .given .1) in
+    let e = scan-stop (a .s .now) (a .found) (u .readable-is) (from-start (walk .before) (b .0)) in
     (ap Stop (c .broke-in .ensures) ∙ answer-stop e, left-stop (a .s .now) (a .found) (a .write) _ _ e (b .1))
 
 pub run-spec : {M : Type 1} → statement M

@@ -100,9 +100,10 @@ returns-4 : tie.Need-returns-4 Inv-mcus μ-mcus
 returns-4 c =
     let blocks-read = (c .before .before .before .before .before .before) in
     let marked = (c .before .before .before .before .before .before .before .before .before .before) in
+    let told-no = (c .before .before .before .before .before .before .before .before .before .before .before .before) in
     let restarting = (c .before .before .before .before .before .before .before .before .before .before .before .before .before .before) in
     told-by (c .broke-in .ensures)
-    (broken (restarting .before .before .before .mcus .inv) (restarting .before .if1 .left) (restarting .restart .ensures) (c .before .before .before .before .before .before .before .before .before .before .before .before .enum-told .given .1)
+    (broken (restarting .before .before .before .mcus .inv) (restarting .before .if1 .left) (restarting .restart .ensures) (told-no .enum-told .given .1)
     (marked .mark .ensures) (blocks-read .mcu .ensures) (search needs) (c .before .before .g .given .1))
 
 pub run-spec : {M : Type 1} → statement M
