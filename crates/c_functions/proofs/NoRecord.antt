@@ -31,11 +31,12 @@ and-first : (a b : Bool) → a ≡ false → (a and b) ≡ false
 and-first a b e = rw e refl
 
 -- a record without channels is not equal to one with channels
-other : (q : Record) (f : FlatRecord) → eqb (q .channels) 0 ≡ false → same q (channelless f) ≡ false
+other : (q : Record) (f : FlatRecord) → eqb (q .frame .channels) 0 ≡ false → same q (channelless f) ≡ false
 unfolding same
 other q f e =
-    and-first (sameFrame q (channelless f)) _
-    (and-false (eqb (q .width) (f .width)) _ (and-false (eqb (q .height) (f .height)) _ (and-first (eqb (q .channels) 0) _ e)))
+    let g = q .frame in
+    and-first (sameFrame g (channelless f .frame)) _
+    (and-false (eqb (g .width) (f .width)) _ (and-false (eqb (g .height) (f .height)) _ (and-first (eqb (g .channels) 0) _ e)))
 
 some : (n : ℕ) → 0 < n → eqb n 0 ≡ false
 some n p = ne-eqb n 0 (λ e. omega (arith, p, e))
@@ -49,7 +50,7 @@ module _ (s : List ℕ) (y : AllBytes s) (f : FlatRecord) (out scratch : List �
     where
       by : (l : Scanned Bits (List (List ℤ))) → itsLevels (channelless f) (scanned q l) rest ≡ refuses NotItsRecord rest
       by (broke x) = refl
-      by (whole ls b) = rw (other q f (some (q .channels) (header-accepted (eqb (f .colour) 1) s y q e .frame .few .0))) refl
+      by (whole ls b) = rw (other q f (some (q .frame .channels) (header-accepted (eqb (f .colour) 1) s y q e .frame .few .0))) refl
 
   channelless-decodes : (budget : Budget) → decode s (channelless f) out scratch budget ≡ notItsRecord s f out scratch budget
   unfolding decode

@@ -2,6 +2,7 @@
 use Prim.Native.Nat.{ℕ}
 use mathlib.Core.Bool.{Bool, cond}
 use lib.Dec.{ltb, eqb}
+use Rattle.reading.specs.declared.Frame.{Frame}
 use Rattle.reading.specs.declared.Record.{Record}
 use Rattle.c_record.specs.declared.FlatRecord.{FlatRecord}
 
@@ -13,18 +14,18 @@ digit b = cond b 1 0
 abbrev pub flat : Record → FlatRecord
 flat r =
     record {
-      width = r .width;
-      height = r .height;
-      channels = r .channels;
-      hs = r .hs;
-      vs = r .vs;
-      ids = r .ids;
-      qids = r .qids;
+      width = r .frame .width;
+      height = r .frame .height;
+      channels = r .frame .channels;
+      hs = r .frame .hs;
+      vs = r .frame .vs;
+      ids = r .frame .ids;
+      qids = r .frame .qids;
       dcids = r .dcids;
       acids = r .acids;
-      quants = r .quants;
-      dcs = r .dcs;
-      acs = r .acs;
+      quants = r .tables .quants;
+      dcs = r .tables .dcs;
+      acs = r .tables .acs;
       interval = r .interval;
       start = r .start;
       blocks = r .blocks;
@@ -34,22 +35,19 @@ flat r =
       colour = digit (r .colour);
     }
 
+-- the frame of numbers, with a count of channels
+abbrev pub frameWith : ℕ → FlatRecord → Frame
+frameWith channels f =
+    record { width = f .width; height = f .height; channels = channels; hs = f .hs; vs = f .vs; ids = f .ids; qids = f .qids }
+
 -- the record of numbers, with a count of channels
 abbrev pub recordWith : ℕ → FlatRecord → Record
 recordWith channels f =
     record {
-      width = f .width;
-      height = f .height;
-      channels = channels;
-      hs = f .hs;
-      vs = f .vs;
-      ids = f .ids;
-      qids = f .qids;
+      frame = frameWith channels f;
+      tables = record { quants = f .quants; dcs = f .dcs; acs = f .acs };
       dcids = f .dcids;
       acids = f .acids;
-      quants = f .quants;
-      dcs = f .dcs;
-      acs = f .acs;
       interval = f .interval;
       start = f .start;
       blocks = f .blocks;

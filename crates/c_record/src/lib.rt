@@ -4,8 +4,10 @@ ghost use mathlib.Core.Path.{_≡_};
 ghost use Rattle.reading.specs.Calls.{number};
 ghost use Rattle.c_record.specs.Asked.{asked};
 ghost use Rattle.c_record.specs.Flat.{digit, flat, recordOf};
+use reading::Frame;
 use reading::Limits;
 use reading::Record;
+use reading::Tables;
 use reading::Verdict;
 
 // A record as numbers of 64 bits, in this order; `include/tillsparrow.h` has the same. The colour choice is 0 or 1.
@@ -52,20 +54,22 @@ pub fn digit(yes: bool) -> usize
 pub fn flat(found: Record) -> FlatRecord
     ensures { λ r. ⌜ r ≡ flat found ⌝ }
 {
-    let ids = found.ids;
-    let qids = found.qids;
+    let frame = found.frame;
+    let tables = found.tables;
+    let ids = frame.ids;
+    let qids = frame.qids;
     let dcids = found.dcids;
     let acids = found.acids;
-    let quants = found.quants;
-    let dcs = found.dcs;
-    let acs = found.acs;
+    let quants = tables.quants;
+    let dcs = tables.dcs;
+    let acs = tables.acs;
     let colour = digit(found.colour);
     FlatRecord {
-        width: found.width,
-        height: found.height,
-        channels: found.channels,
-        hs: found.hs,
-        vs: found.vs,
+        width: frame.width,
+        height: frame.height,
+        channels: frame.channels,
+        hs: frame.hs,
+        vs: frame.vs,
         ids: ids,
         qids: qids,
         dcids: dcids,
@@ -89,12 +93,7 @@ fn record_of(numbers: FlatRecord) -> Record
 {
     let ids = numbers.ids;
     let qids = numbers.qids;
-    let dcids = numbers.dcids;
-    let acids = numbers.acids;
-    let quants = numbers.quants;
-    let dcs = numbers.dcs;
-    let acs = numbers.acs;
-    Record {
+    let frame = Frame {
         width: numbers.width,
         height: numbers.height,
         channels: numbers.channels,
@@ -102,11 +101,22 @@ fn record_of(numbers: FlatRecord) -> Record
         vs: numbers.vs,
         ids: ids,
         qids: qids,
-        dcids: dcids,
-        acids: acids,
+    };
+    let quants = numbers.quants;
+    let dcs = numbers.dcs;
+    let acs = numbers.acs;
+    let tables = Tables {
         quants: quants,
         dcs: dcs,
         acs: acs,
+    };
+    let dcids = numbers.dcids;
+    let acids = numbers.acids;
+    Record {
+        frame: frame,
+        tables: tables,
+        dcids: dcids,
+        acids: acids,
         interval: numbers.interval,
         start: numbers.start,
         blocks: numbers.blocks,
@@ -124,7 +134,7 @@ pub fn asked(numbers: FlatRecord) -> Record
 {
     let mut found = record_of(numbers);
     if 1 < numbers.colour {
-        found.channels = 0;
+        found.frame.channels = 0;
     }
     found
 }

@@ -18,7 +18,7 @@ use Rattle.reading.specs.Scan.{Scanned, whole, broke}
 use Rattle.reading.specs.Header.{Stage, more, done, stop, header}
 use Rattle.reading.specs.Code.Heads.{headed}
 use Rattle.reading.specs.Scan.{levels}
-use Rattle.reading.specs.Reading.{accepted, scanned, readFrom, reading, allSamples}
+use Rattle.reading.specs.Reading.{accepted, scanned, readFrom, reading, samplesOf}
 use Rattle.reading.specs.Judging.{Judged, accepts, refuses, onward, pay}
 use Rattle.reading.specs.Calls.{headerPrice, same, shortRoom, itsLevels, Decoded, undecoded, decodedWith, decoded, decode}
 use Rattle.reading.proofs.Equal.{records-equal}
@@ -107,9 +107,9 @@ module _ (s : List ℕ) (q r : Record) (out scratch : List ℕ) (rest : Budget) 
     unfolding drawnAs
     drawn-fault f p = sym (ap (λ x. decoded s r out scratch (itsLevels r (scanned q x) rest)) (ap (levels s) itself ∙ p))
 
-    pub drawn-done : (ls : List (List ℤ)) (b : Bits) → levels s r ≡ whole ls b → decodedWith r out scratch rest (allSamples s r ls) ≡ drawnAs s q r out scratch rest
+    pub drawn-done : (ls : List (List ℤ)) (b : Bits) → levels s r ≡ whole ls b → decodedWith r out scratch rest (samplesOf s r ls) ≡ drawnAs s q r out scratch rest
     unfolding drawnAs
     drawn-done ls b p = with-it ∙ sym (ap (λ x. decoded s r out scratch (itsLevels r (scanned q x) rest)) (ap (levels s) itself ∙ p))
       where
-        with-it : decodedWith r out scratch rest (allSamples s r ls) ≡ decoded s r out scratch (itsLevels r (accepted q ls) rest)
+        with-it : decodedWith r out scratch rest (samplesOf s r ls) ≡ decoded s r out scratch (itsLevels r (accepted q ls) rest)
         with-it = rw e refl

@@ -21,7 +21,8 @@ use Rattle.reading.specs.Header.{done, header}
 use Rattle.reading.specs.Scan.{levels}
 use Rattle.reading.specs.Code.Scans.{readable, scanOf}
 use Rattle.reading.specs.Code.Answers.{scanRead}
-use Rattle.reading.specs.Reading.{allSamples, picture}
+use Rattle.reading.specs.Reading.{samplesOf, pictureOf}
+use Rattle.reading.specs.Tables.{shapeOf, quantizersOf}
 use Rattle.reading.specs.Code.Painted.{drawn}
 use Rattle.reading.specs.Calls.{same}
 use Rattle.reading.proofs.Equal.{records-equal}
@@ -37,7 +38,7 @@ use Rattle.jpeg.specs.Steps.{drawnAs, leaving}
 use Rattle.reading.proofs.States.{header-readable}
 use Rattle.jpeg.proofs.Decodes.{drawn-other, drawn-fault, drawn-done}
 
-pub sized : (s : List ℕ) → AllBytes s → (colour : Bool) (r : Record) → header s colour ≡ done r → Sized r
+pub sized : (s : List ℕ) → AllBytes s → (colour : Bool) (r : Record) → header s colour ≡ done r → Sized (r .frame)
 sized s y colour r e =
     let a = H.header-accepted colour s y r e in
     record {
@@ -71,7 +72,7 @@ module _ (s : List ℕ) (y : AllBytes s) (q r : Record) (out scratch : List ℕ)
     room : 64 * r .blocks ≤ length scratch
     room = omega (arith, m .scratch-room, accepted .scratch)
 
-    module _ (v : ScanRead) (e3 : v ≡ scanRead (scanOf s r)) (scratch′ : List ℕ) (e4 : scratch′ ≡ drawn s r (scanOf s r) scratch) where
+    module _ (v : ScanRead) (e3 : v ≡ scanRead (scanOf s r)) (scratch′ : List ℕ) (e4 : scratch′ ≡ drawn (shapeOf (r .frame)) (quantizersOf s r) (r .blocks) (scanOf s r) scratch) where
       pub draws-stop :
           {answer : Decoding}
           → answer ≡ record { verdict = Refused NotItsRecord; budget = rest }
@@ -80,7 +81,7 @@ module _ (s : List ℕ) (y : AllBytes s) (q r : Record) (out scratch : List ℕ)
           → leaving answer out scratch′ ≡ drawnAs s q r out scratch rest
       draws-stop a g p =
           let o = E.refused (scanOf s r) e3 p in
-          ap₂ (λ x z. leaving x out z) a (e4 ∙ sym (E.drawn-stop s r scratch o))
+          ap₂ (λ x z. leaving x out z) a (e4 ∙ sym (E.drawn-stop (shapeOf (r .frame)) (quantizersOf s r) (r .blocks) scratch o))
           ∙ drawn-fault s q r out scratch rest (sym e ∙ f) g (sym (scan-is s r okay) ∙ o)
 
       module _ (p : v ≡ Done) where
@@ -88,7 +89,7 @@ module _ (s : List ℕ) (y : AllBytes s) (q r : Record) (out scratch : List ℕ)
         scanned = scan-levels s r (E.accepted (scanOf s r) e3 p .is)
 
         all : List ℕ
-        all = allSamples s r (E.accepted (scanOf s r) e3 p .blocks-read)
+        all = samplesOf s r (E.accepted (scanOf s r) e3 p .blocks-read)
 
         counted : length all ≡ r .scratch
         unfolding all
@@ -96,7 +97,7 @@ module _ (s : List ℕ) (y : AllBytes s) (q r : Record) (out scratch : List ℕ)
 
         filled : scratch′ ≡ over all scratch
         unfolding all
-        filled = e4 ∙ sym (E.drawn-all s r scratch (E.accepted (scanOf s r) e3 p) room)
+        filled = e4 ∙ sym (E.drawn-all (shapeOf (r .frame)) (quantizersOf s r) (r .blocks) scratch (E.accepted (scanOf s r) e3 p) room)
 
         part : take (r .scratch) scratch′ ≡ all
         part = ap (take (r .scratch)) filled ∙ take-at all (drop (length all) scratch) (r .scratch) counted
@@ -107,18 +108,22 @@ module _ (s : List ℕ) (y : AllBytes s) (q r : Record) (out scratch : List ℕ)
         pub draws-part : r .scratch ≡ length (take (r .scratch) scratch′)
         draws-part = sym (ap length part ∙ counted)
 
-        drawable : Drawable r (take (r .scratch) scratch′) out
+        drawable : Drawable (r .frame) (take (r .scratch) scratch′) out
         drawable =
             record {
               sized = sized s y (r .colour) r head;
-              output = accepted .output;
-              room = m .out-room;
+              room = omega (arith, m .out-room, accepted .output);
               whole = omega (arith, full, accepted .blocks);
             }
 
-        pub draws-done : {answer : Decoding} {out′ : List ℕ} → answer ≡ record { verdict = Accepted; budget = rest } → out′ ≡ rendered r (take (r .scratch) scratch′) out → leaving answer out′ scratch′ ≡ drawnAs s q r out scratch rest
+        pub draws-done :
+            {answer : Decoding} {out′ : List ℕ}
+            → answer ≡ record { verdict = Accepted; budget = rest }
+            → out′ ≡ rendered (r .frame) (r .colour) (take (r .scratch) scratch′) out
+            → leaving answer out′ scratch′ ≡ drawnAs s q r out scratch rest
         unfolding all
         draws-done {answer} {out′} a b =
             ap (λ x. leaving x out′ scratch′) a
-            ∙ ap₂ (λ x z. leaving (record { verdict = Accepted; budget = rest }) x z) (b ∙ rendered-drawable r (take (r .scratch) scratch′) out drawable ∙ ap (λ x. over (picture r x) out) part) filled
+            ∙ ap₂ (λ x z. leaving (record { verdict = Accepted; budget = rest }) x z)
+            (b ∙ rendered-drawable (r .frame) (r .colour) (take (r .scratch) scratch′) out drawable ∙ ap (λ x. over (pictureOf r x) out) part) filled
             ∙ drawn-done s q r out scratch rest (sym e ∙ f) (E.accepted (scanOf s r) e3 p .blocks-read) (E.accepted (scanOf s r) e3 p .behind) scanned

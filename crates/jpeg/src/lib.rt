@@ -67,8 +67,9 @@ fn draw(
     match jpeg_scan::draw(s, found, scratch) {
         ScanRead::Stop(_) => jpeg_price::undecoded(Refusal::NotItsRecord, rest),
         ScanRead::Done => {
+            let frame = found.frame;
             let n = found.scratch;
-            jpeg_render::picture(found, &scratch[..n], out);
+            jpeg_render::picture(frame, found.colour, &scratch[..n], out);
             Decoding {
                 verdict: Verdict::Accepted,
                 budget: rest,

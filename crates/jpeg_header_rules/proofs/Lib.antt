@@ -1,3 +1,5 @@
 pub mod Walks
 pub mod Marks
+pub mod Distinct
+pub mod Channels
 pub mod Rules

@@ -30,7 +30,7 @@ none-met n [] = refl
 none-met n (x ∷ l) = rw (unmarked n x) (none-met n l)
 
 -- whether a number has a place does not hang on where the count starts
-place-from : (l : List ℕ) (x i j : ℕ) → isNone (placeFrom l x i) ≡ isNone (placeFrom l x j)
+pub place-from : (l : List ℕ) (x i j : ℕ) → isNone (placeFrom l x i) ≡ isNone (placeFrom l x j)
 place-from [] x i j = refl
 place-from (y ∷ l) x i j = go (eqb x y) (place-from l x (suc i) (suc j))
   where

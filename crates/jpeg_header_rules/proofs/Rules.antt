@@ -2,7 +2,7 @@
 use Prim.Native.Nat.{ℕ, _+_, _-_, _*_, _/_, _%_, _<_, _≤_}
 use mathlib.Core.Path.{_≡_, refl, sym}
 use mathlib.Core.Bool.{Bool, true, false, cond}
-use mathlib.Core.List.{List, [], _∷_}
+use mathlib.Core.List.{List}
 use native.Mathlib.Omega.{arith}
 use lib.Dec.{leb, ltb, eqb}
 use lib.ListN.{length, take, drop, getD, length-take}
@@ -103,38 +103,20 @@ module _ (b : List ℕ) where
   pub known-three : 6 ≤ length b → byte b 0 ≡ 8 → (byte b 5 ≡ 1 → ⊥) → eqb (byte b 5) 3 ≡ frameKnown b
   known-three h n o = rw (le-leb 6 (length b) h, eq-eqb (byte b 0) 8 n, ne-eqb (byte b 5) 1 o)
 
-module _ (f : Frame) where
-  pub quants-first : 3 < getD (f .qids) 0 0 → false ≡ quantsFit f
-  quants-first h = rw (lt-leb (getD (f .qids) 0 0) 3 h)
-
-  pub quants-second : getD (f .qids) 0 0 ≤ 3 → 3 < getD (f .qids) 1 0 → false ≡ quantsFit f
-  quants-second h i = rw (le-leb (getD (f .qids) 0 0) 3 h, lt-leb (getD (f .qids) 1 0) 3 i)
-
-  pub quants-third : getD (f .qids) 0 0 ≤ 3 → getD (f .qids) 1 0 ≤ 3 → leb (getD (f .qids) 2 0) 3 ≡ quantsFit f
-  quants-third h i = rw (le-leb (getD (f .qids) 0 0) 3 h, le-leb (getD (f .qids) 1 0) 3 i)
-
 module _ (b : List ℕ) (f : Frame) where
   pub three-product : 4 < acrossOf b * downOf b → false ≡ threeFit b f
   three-product h = rw (lt-leb (acrossOf b * downOf b) 4 h)
 
   module _ (small : acrossOf b * downOf b ≤ 4) where
-    pub three-12 : getD (f .ids) 0 0 ≡ getD (f .ids) 1 0 → false ≡ threeFit b f
-    three-12 h = rw (le-leb (acrossOf b * downOf b) 4 small, eq-eqb (getD (f .ids) 0 0) (getD (f .ids) 1 0) h)
+    pub three-ids : apart (take (f .channels) (f .ids)) ≡ false → false ≡ threeFit b f
+    three-ids h = rw (le-leb (acrossOf b * downOf b) 4 small, h)
 
-    module _ (apart12 : getD (f .ids) 0 0 ≡ getD (f .ids) 1 0 → ⊥) where
-      pub three-13 : getD (f .ids) 0 0 ≡ getD (f .ids) 2 0 → false ≡ threeFit b f
-      three-13 h = rw (le-leb (acrossOf b * downOf b) 4 small, ne-eqb (getD (f .ids) 0 0) (getD (f .ids) 1 0) apart12, eq-eqb (getD (f .ids) 0 0) (getD (f .ids) 2 0) h)
+    module _ (distinct : apart (take (f .channels) (f .ids)) ≡ true) where
+      pub three-second : (byte b 10 ≡ 17 → ⊥) → false ≡ threeFit b f
+      three-second h = rw (le-leb (acrossOf b * downOf b) 4 small, distinct, ne-eqb (byte b 10) 17 h)
 
-      module _ (apart13 : getD (f .ids) 0 0 ≡ getD (f .ids) 2 0 → ⊥) where
-        pub three-23 : getD (f .ids) 1 0 ≡ getD (f .ids) 2 0 → false ≡ threeFit b f
-        three-23 h = rw (le-leb (acrossOf b * downOf b) 4 small, ne-eqb (getD (f .ids) 0 0) (getD (f .ids) 1 0) apart12, ne-eqb (getD (f .ids) 0 0) (getD (f .ids) 2 0) apart13, eq-eqb (getD (f .ids) 1 0) (getD (f .ids) 2 0) h)
-
-        module _ (apart23 : getD (f .ids) 1 0 ≡ getD (f .ids) 2 0 → ⊥) where
-          pub three-second : (byte b 10 ≡ 17 → ⊥) → false ≡ threeFit b f
-          three-second h = rw (le-leb (acrossOf b * downOf b) 4 small, ne-eqb (getD (f .ids) 0 0) (getD (f .ids) 1 0) apart12, ne-eqb (getD (f .ids) 0 0) (getD (f .ids) 2 0) apart13, ne-eqb (getD (f .ids) 1 0) (getD (f .ids) 2 0) apart23, ne-eqb (byte b 10) 17 h)
-
-          pub three-third : byte b 10 ≡ 17 → eqb (byte b 13) 17 ≡ threeFit b f
-          three-third h = rw (le-leb (acrossOf b * downOf b) 4 small, ne-eqb (getD (f .ids) 0 0) (getD (f .ids) 1 0) apart12, ne-eqb (getD (f .ids) 0 0) (getD (f .ids) 2 0) apart13, ne-eqb (getD (f .ids) 1 0) (getD (f .ids) 2 0) apart23, eq-eqb (byte b 10) 17 h)
+      pub three-third : byte b 10 ≡ 17 → eqb (byte b 13) 17 ≡ threeFit b f
+      three-third h = rw (le-leb (acrossOf b * downOf b) 4 small, distinct, eq-eqb (byte b 10) 17 h)
 
 -- a frame's test by the outcome of each of its parts
 module _ (b : List ℕ) (f : Frame) where
@@ -179,10 +161,6 @@ pub frame-made :
     → record { width = w; height = h; channels = c; hs = hs; vs = vs; ids = ids; qids = qids } ≡ frameOf b
 frame-made b c s w h hs vs ids qids ec es ew eh ehs evs ei eq = rw (ew, eh, ehs, evs, ei, eq, es, ec)
 
--- a list of three, by its entries
-pub three-made : {i j k x y z : ℕ} → i ≡ x → j ≡ y → k ≡ z → _≡_ {A = List ℕ} (i ∷ j ∷ k ∷ []) (x ∷ y ∷ z ∷ [])
-three-made p q r = rw (p, q, r)
-
 -- ---- the scan's tests
 
 module _ (b : List ℕ) (ch : ℕ) where
@@ -208,6 +186,9 @@ module _ (b : List ℕ) (ch : ℕ) where
         scan-last h = last-three (eqb (byte b (3 + 2 * ch)) 0) (rw (eq-eqb (byte b (1 + 2 * ch)) 0 start, eq-eqb (byte b (2 + 2 * ch)) 63 h))
 
 -- what is asked of one channel
+abbrev pub quantFits : List ℕ → ℕ → Bool
+quantFits qids c = leb (getD qids c 0) 3
+
 abbrev pub orderedAt : List ℕ → List ℕ → ℕ → Bool
 orderedAt b ids c = eqb (byte b (1 + 2 * c)) (getD ids c 0)
 
@@ -222,3 +203,25 @@ zero-no r x e z = le-ltb 0 x (omega arith)
 
 pub above-yes : (r x : ℕ) → r ≡ x → (r ≡ 0 → ⊥) → ltb 0 x ≡ true
 above-yes r x e z = lt-ltb 0 x (omega arith)
+
+-- one channel of a record, by its three tables in their order
+module _ (r : Record) (c : ℕ) where
+  pub stands-quant : {x : ℕ} → x ≡ quantAt r c → x ≡ 0 → standsIn r c ≡ false
+  stands-quant {x} e z = and-no (ltb 0 (quantAt r c)) _ (zero-no x (quantAt r c) e z)
+
+  module _ {x : ℕ} (quant : x ≡ quantAt r c) (there : x ≡ 0 → ⊥) where
+    behind-quant : (t : Bool) → (ltb 0 (dcAt r c) and ltb 0 (acAt r c)) ≡ t → standsIn r c ≡ t
+    behind-quant t e = and-on (ltb 0 (quantAt r c)) _ t (above-yes x (quantAt r c) quant there) e
+
+    pub stands-dc : {y : ℕ} → y ≡ dcAt r c → y ≡ 0 → standsIn r c ≡ false
+    stands-dc {y} e z = behind-quant false (and-no (ltb 0 (dcAt r c)) _ (zero-no y (dcAt r c) e z))
+
+    module _ {y : ℕ} (dc : y ≡ dcAt r c) (too : y ≡ 0 → ⊥) where
+      behind-dc : (t : Bool) → ltb 0 (acAt r c) ≡ t → standsIn r c ≡ t
+      behind-dc t e = behind-quant t (and-on (ltb 0 (dcAt r c)) _ t (above-yes y (dcAt r c) dc too) e)
+
+      pub stands-ac : {z : ℕ} → z ≡ acAt r c → z ≡ 0 → standsIn r c ≡ false
+      stands-ac {z} e none = behind-dc false (zero-no z (acAt r c) e none)
+
+      pub stands : {z : ℕ} → z ≡ acAt r c → (z ≡ 0 → ⊥) → standsIn r c ≡ true
+      stands {z} e some = behind-dc true (above-yes z (acAt r c) e some)

@@ -3,10 +3,11 @@
 // reader asks for no length. The header's steps stand on these.
 ghost use mathlib.Core.Path.{_≡_};
 ghost use mathlib.Core.Bool.{cond};
-ghost use mathlib.Core.List.{[], _∷_};
+ghost use mathlib.Core.List.{map};
+ghost use Prim.Native.Nat.{_+_, _*_, _/_, _%_};
 ghost use lib.Dec.{ltb, eqb};
-ghost use lib.ListN.{getD};
-ghost use Rattle.reading.specs.Tests.{_and_, apart, all};
+ghost use lib.ListN.{take};
+ghost use Rattle.reading.specs.Tests.{_and_, isNone, placeOf, apart, all};
 ghost use Rattle.reading.specs.Huffman.{sum};
 ghost use Rattle.reading.specs.Tables.{chosen};
 ghost use Rattle.reading.specs.Header.{byte, word, each, quantizerFits, countsOf, listable, tableFits, frameKnown, frameOf, quantsFit, threeFit, frameFits, scanKnown, inOrder, selected, complete};
@@ -36,22 +37,46 @@ pub fn word_at(body: &[u8], place: usize) -> usize
 
 // ---- what a frame and a scan say of each channel
 
-// x for a channel below the count, else 0
-fn kept(channel: usize, channels: usize, x: usize) -> usize
-    ensures { λ r. ⌜ r ≡ cond (ltb channel channels) x 0 ⌝ }
+// a byte for each of three channels, the first one's at a place and each other's a step behind; 0 behind the last channel
+pub fn each(body: &[u8], channels: usize, place: u8, step: u8) -> [usize; 3]
+    ensures { λ r. ⌜ r ≡ each channels (λ c. byte (now (body .entry)) (place + step * c)) ⌝ }
 {
-    if channel < channels { x } else { 0 }
+    let mut bytes = [0usize; 3];
+    let mut c: usize = 0;
+    while c < 3 {
+        if channels <= c {
+            return bytes;
+        }
+        bytes[c] = byte_at(body, place as usize + step as usize * c);
+        c += 1;
+    }
+    bytes
 }
 
-// a number for each of three channels; 0 behind the last
-pub fn each(channels: usize, first: usize, second: usize, third: usize) -> [usize; 3]
-    ensures { λ r. ⌜ r ≡ each channels (λ c. getD (first ∷ second ∷ third ∷ []) c 0) ⌝ }
+// the high half of each byte
+pub fn high_halves(bytes: [usize; 3]) -> [usize; 3]
+    ensures { λ r. ⌜ r ≡ map (λ x. x / 16) bytes ⌝ }
 {
-    [
-        kept(0, channels, first),
-        kept(1, channels, second),
-        kept(2, channels, third),
-    ]
+    let mut halves = bytes;
+    let mut c: usize = 0;
+    while c < 3 {
+        halves[c] = bytes[c] / 16;
+        c += 1;
+    }
+    halves
+}
+
+// the low half of each byte
+pub fn low_halves(bytes: [usize; 3]) -> [usize; 3]
+    ensures { λ r. ⌜ r ≡ map (λ x. x % 16) bytes ⌝ }
+{
+    let mut halves = bytes;
+    let mut c: usize = 0;
+    while c < 3 {
+        halves[c] = bytes[c] % 16;
+        c += 1;
+    }
+    halves
 }
 
 // ---- quantizers
@@ -194,18 +219,8 @@ pub fn frame_of(body: &[u8]) -> Frame
 {
     let channels = byte_at(body, 5);
     let sampling = byte_at(body, 7);
-    let ids = each(
-        channels,
-        byte_at(body, 6),
-        byte_at(body, 9),
-        byte_at(body, 12),
-    );
-    let qids = each(
-        channels,
-        byte_at(body, 8),
-        byte_at(body, 11),
-        byte_at(body, 14),
-    );
+    let ids = each(body, channels, 6, 3);
+    let qids = each(body, channels, 8, 3);
     Frame {
         width: word_at(body, 3),
         height: word_at(body, 1),
@@ -222,34 +237,66 @@ fn quants_fit(frame: Frame) -> bool
     ensures { λ r. ⌜ r ≡ quantsFit frame ⌝ }
 {
     let qids = frame.qids;
-    if 3 < qids[0] {
-        return false;
+    let channels = frame.channels;
+    let mut c: usize = 0;
+    while c < channels {
+        if 3 < reading::entry_at(&qids, c) {
+            return false;
+        }
+        c += 1;
     }
-    if 3 < qids[1] {
-        return false;
+    true
+}
+
+// a number stands nowhere in a list
+fn absent(list: &[usize], x: usize) -> bool
+    ensures { λ r. ⌜ r ≡ isNone (placeOf (now (list .entry)) x) ⌝ }
+{
+    let mut i: usize = 0;
+    while i < list.len() {
+        if x == list[i] {
+            return false;
+        }
+        i += 1;
     }
-    qids[2] <= 3
+    true
+}
+
+// no number stands twice in a list
+fn apart(list: &[usize]) -> bool
+    ensures { λ r. ⌜ r ≡ apart (now (list .entry)) ⌝ }
+{
+    let mut i: usize = 0;
+    while i < list.len() {
+        if !absent(&list[i + 1..], list[i]) {
+            return false;
+        }
+        i += 1;
+    }
+    true
+}
+
+// the component ids of the channels are apart; any count may come in, and behind the last id there is none
+fn ids_apart(frame: Frame) -> bool
+    ensures { λ r. ⌜ r ≡ apart (take (frame .channels) (frame .ids)) ⌝ }
+{
+    let ids = frame.ids;
+    let channels = frame.channels;
+    if 3 < channels {
+        return apart(&ids);
+    }
+    apart(&ids[..channels])
 }
 
 // in three channels: a sampling product up to 4, component ids apart, second and third sampling byte 17
 fn three_fit(body: &[u8], frame: Frame) -> bool
     ensures { λ r. ⌜ r ≡ threeFit (now (body .entry)) frame ⌝ }
 {
-    let ids = frame.ids;
-    let first = ids[0];
-    let second = ids[1];
-    let third = ids[2];
     let sampling = byte_at(body, 7);
     if 4 < (sampling / 16) * (sampling % 16) {
         return false;
     }
-    if first == second {
-        return false;
-    }
-    if first == third {
-        return false;
-    }
-    if second == third {
+    if !ids_apart(frame) {
         return false;
     }
     if byte_at(body, 10) != 17 {
@@ -352,13 +399,15 @@ fn place_of(places: &[usize], ids: &[usize], channel: usize) -> usize
 pub fn complete(found: Record) -> bool
     ensures { λ r. ⌜ r ≡ complete found ⌝ }
 {
-    let qids = found.qids;
+    let frame = found.frame;
+    let tables = found.tables;
+    let qids = frame.qids;
     let dcids = found.dcids;
     let acids = found.acids;
-    let quants = found.quants;
-    let dcs = found.dcs;
-    let acs = found.acs;
-    let channels = found.channels;
+    let quants = tables.quants;
+    let dcs = tables.dcs;
+    let acs = tables.acs;
+    let channels = frame.channels;
     let mut c: usize = 0;
     while c < channels {
         if place_of(&quants, &qids, c) == 0 {

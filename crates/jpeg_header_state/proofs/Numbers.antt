@@ -78,7 +78,7 @@ module _ (f : Frame) where
         single = λ one. ⊎-elim (λ p. (p .1, p .2)) (λ p. absurd (omega (arith, one, p .0))) k;
         ids = id-small;
         qids = qid-small;
-        apart = λ _. ((λ z. omega (arith, z)), (λ z. omega (arith, z)), (λ z. omega (arith, z)));
+        distinct = ⊎-elim (λ p. rw (p .0) tt) (λ p. rw (p .0) tt) k;
       }
     where
       one-block : f .hs ≡ 1 → f .vs ≡ 1 → f .hs * f .vs ≤ 4

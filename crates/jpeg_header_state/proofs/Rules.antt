@@ -12,7 +12,8 @@ use Rattle.reading.specs.declared.Case.the-variants.{Marker}
 use Rattle.reading.specs.declared.Header.{Header}
 use Rattle.reading.specs.Huffman.{sum}
 use Rattle.reading.specs.Layout.{blockCount, outputLength}
-use Rattle.reading.specs.Header.{Stage, more, done, stop, stop-if, byte, word, moved, each, withQuantizer, countsOf, withTable, frameKnown, frameOf, frameFits, withFrame, hasFrame, frame, withInterval, interval, shapeOf, dcId, acId, recordOf, complete, scanKnown, inOrder, selected, scanSegment}
+use Rattle.reading.specs.Tables.{shapeOf}
+use Rattle.reading.specs.Header.{Stage, more, done, stop, stop-if, byte, word, moved, each, withQuantizer, countsOf, withTable, frameKnown, frameOf, frameFits, withFrame, hasFrame, frame, withInterval, interval, dcId, acId, recordOf, complete, scanKnown, inOrder, selected, scanSegment}
 use Rattle.reading.proofs.Stages.{stop-yes, stop-go}
 use Rattle.reading.proofs.Accepted.{work-is}
 
@@ -43,8 +44,14 @@ module _ (b : List ℕ) (h : Header) where
   -- the state behind a quantizer, as the code stores it
   pub with-quantizer :
       (q : List ℕ)
-      → q ≡ set (h .quants) (byte b 0) (h .at + 1)
-      → record { at = h .at + 65; case = h .case; quants = q; dcs = h .dcs; acs = h .acs; frame = h .frame; interval = h .interval } ≡ withQuantizer b h
+      → q ≡ set (h .tables .quants) (byte b 0) (h .at + 1)
+      → record {
+        at = h .at + 65;
+        case = h .case;
+        tables = record { quants = q; dcs = h .tables .dcs; acs = h .tables .acs };
+        frame = h .frame;
+        interval = h .interval;
+      } ≡ withQuantizer b h
   with-quantizer q p = rw p
 
 -- ---- a Huffman table
@@ -53,15 +60,27 @@ module _ (b : List ℕ) (h : Header) where
   -- the state behind a table, as the code stores it
   module _ (l : List ℕ) (k : ℕ) (symbols : k ≡ sum (countsOf b)) where
     pub with-dc :
-        l ≡ set (h .dcs) (byte b 0 % 16) (h .at + 1)
+        l ≡ set (h .tables .dcs) (byte b 0 % 16) (h .at + 1)
         → byte b 0 / 16 ≡ 0
-        → record { at = h .at + (17 + k); case = h .case; quants = h .quants; dcs = l; acs = h .acs; frame = h .frame; interval = h .interval } ≡ withTable b h
+        → record {
+          at = h .at + (17 + k);
+          case = h .case;
+          tables = record { quants = h .tables .quants; dcs = l; acs = h .tables .acs };
+          frame = h .frame;
+          interval = h .interval;
+        } ≡ withTable b h
     with-dc e p = rw (e, symbols, p)
 
     pub with-ac :
-        l ≡ set (h .acs) (byte b 0 % 16) (h .at + 1)
+        l ≡ set (h .tables .acs) (byte b 0 % 16) (h .at + 1)
         → byte b 0 / 16 ≡ 1
-        → record { at = h .at + (17 + k); case = h .case; quants = h .quants; dcs = h .dcs; acs = l; frame = h .frame; interval = h .interval } ≡ withTable b h
+        → record {
+          at = h .at + (17 + k);
+          case = h .case;
+          tables = record { quants = h .tables .quants; dcs = h .tables .dcs; acs = l };
+          frame = h .frame;
+          interval = h .interval;
+        } ≡ withTable b h
     with-ac e p = rw (e, symbols, p)
 
 -- ---- the frame and the interval
@@ -106,18 +125,10 @@ pub record-made :
     → dcids ≡ each (h .frame .channels) (dcId b) → acids ≡ each (h .frame .channels) (acId b)
     → n ≡ blockCount (shapeOf (h .frame)) → o ≡ outputLength (shapeOf (h .frame))
     → record {
-      width = h .frame .width;
-      height = h .frame .height;
-      channels = h .frame .channels;
-      hs = h .frame .hs;
-      vs = h .frame .vs;
-      ids = h .frame .ids;
-      qids = h .frame .qids;
+      frame = h .frame;
+      tables = h .tables;
       dcids = dcids;
       acids = acids;
-      quants = h .quants;
-      dcs = h .dcs;
-      acs = h .acs;
       interval = h .interval;
       start = e;
       blocks = n;

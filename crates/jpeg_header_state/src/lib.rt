@@ -8,7 +8,8 @@ ghost use lib.Dec.{leb, eqb};
 ghost use lib.ListN.{length, set};
 ghost use Rattle.reading.specs.declared.Refusal.the-variants.{Malformed};
 ghost use Rattle.reading.specs.Layout.{blockCount, outputLength};
-ghost use Rattle.reading.specs.Header.{more, done, stop, stop-if, moved, quantizer, huffman, frame, interval, shapeOf, recordOf, scanSegment};
+ghost use Rattle.reading.specs.Tables.{shapeOf};
+ghost use Rattle.reading.specs.Header.{more, done, stop, stop-if, moved, quantizer, huffman, frame, interval, recordOf, scanSegment};
 ghost use Rattle.jpeg_header_state.specs.Segments.{stepped, inSegment, mostOf, numbersFit, behindFrame};
 use reading::Budget;
 use reading::Case;
@@ -116,11 +117,13 @@ pub fn quantizer(body: &[u8], state: Header, end: usize) -> Stepped
         return Stepped::stop(Refusal::Malformed);
     }
     let id = jpeg_header_rules::byte_at(body, 0);
-    let had = state.quants;
+    let mut tables = state.tables;
+    let had = tables.quants;
     let quants = replaced(had, id, at + 1);
+    tables.quants = quants;
     let mut next = state;
     next.at = at + 65;
-    next.quants = quants;
+    next.tables = tables;
     Stepped::more(next)
 }
 
@@ -140,17 +143,20 @@ pub fn huffman(body: &[u8], state: Header, end: usize) -> Stepped
     let first = jpeg_header_rules::byte_at(body, 0);
     let id = first % 16;
     let symbols = jpeg_header_rules::symbols(body);
-    let had_dcs = state.dcs;
-    let had_acs = state.acs;
+    let mut tables = state.tables;
+    let had_dcs = tables.dcs;
+    let had_acs = tables.acs;
     let mut next = state;
     next.at = at + (17 + symbols);
     if first / 16 == 0 {
         let dcs = replaced(had_dcs, id, at + 1);
-        next.dcs = dcs;
+        tables.dcs = dcs;
+        next.tables = tables;
         return Stepped::more(next);
     }
     let acs = replaced(had_acs, id, at + 1);
-    next.acs = acs;
+    tables.acs = acs;
+    next.tables = tables;
     Stepped::more(next)
 }
 
@@ -246,32 +252,17 @@ fn record_of(body: &[u8], colour: bool, state: Header, end: usize) -> Record
     ensures { λ r. ⌜ r ≡ recordOf (now (body .entry)) colour state end ⌝ }
 {
     let frame = state.frame;
-    let channels = frame.channels;
-    let first = jpeg_header_rules::byte_at(body, 2);
-    let second = jpeg_header_rules::byte_at(body, 4);
-    let third = jpeg_header_rules::byte_at(body, 6);
-    let dcids = jpeg_header_rules::each(channels, first / 16, second / 16, third / 16);
-    let acids = jpeg_header_rules::each(channels, first % 16, second % 16, third % 16);
+    let tables = state.tables;
+    let ids = jpeg_header_rules::each(body, frame.channels, 2, 2);
+    let dcids = jpeg_header_rules::high_halves(ids);
+    let acids = jpeg_header_rules::low_halves(ids);
     let blocks = block_count(frame);
     let output = output_length(frame);
-    let ids = frame.ids;
-    let qids = frame.qids;
-    let quants = state.quants;
-    let dcs = state.dcs;
-    let acs = state.acs;
     Record {
-        width: frame.width,
-        height: frame.height,
-        channels: channels,
-        hs: frame.hs,
-        vs: frame.vs,
-        ids: ids,
-        qids: qids,
+        frame: frame,
+        tables: tables,
         dcids: dcids,
         acids: acids,
-        quants: quants,
-        dcs: dcs,
-        acs: acs,
         interval: state.interval,
         start: end,
         blocks: blocks,

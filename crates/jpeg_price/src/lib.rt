@@ -71,10 +71,10 @@ fn pay(price: u64, x: Refusal, budget: Budget) -> Decoding
 fn too_large(limits: Limits, found: Record) -> bool
     ensures { λ r. ⌜ r ≡ tooLarge limits found ⌝ }
 {
-    if limits.side < found.width {
+    if limits.side < found.frame.width {
         return true;
     }
-    if limits.side < found.height {
+    if limits.side < found.frame.height {
         return true;
     }
     if limits.output < found.scratch {

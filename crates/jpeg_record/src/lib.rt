@@ -1,7 +1,9 @@
 // Whether two records are equal in every field: what number 8 turns on (the rules' 'Refusal numbers').
 ghost use mathlib.Core.Path.{_≡_};
-ghost use Rattle.reading.specs.Calls.{eqList, same, sameFrame, sameIds, sameTables, sameSizes};
+ghost use Rattle.reading.specs.Calls.{eqList, same, sameFrame, sameTables, sameScan, sameSizes};
+use reading::Frame;
 use reading::Record;
+use reading::Tables;
 
 fn same_list(a: &[usize], b: &[usize]) -> bool
     ensures { λ r. ⌜ r ≡ eqList (now (a .entry)) (now (b .entry)) ⌝ }
@@ -31,7 +33,7 @@ fn same_four(a: [usize; 4], b: [usize; 4]) -> bool
     same_list(&a, &b)
 }
 
-fn same_frame(a: Record, b: Record) -> bool
+fn same_frame(a: Frame, b: Frame) -> bool
     ensures { λ r. ⌜ r ≡ sameFrame a b ⌝ }
 {
     if a.width != b.width {
@@ -46,12 +48,9 @@ fn same_frame(a: Record, b: Record) -> bool
     if a.hs != b.hs {
         return false;
     }
-    a.vs == b.vs
-}
-
-fn same_ids(a: Record, b: Record) -> bool
-    ensures { λ r. ⌜ r ≡ sameIds a b ⌝ }
-{
+    if a.vs != b.vs {
+        return false;
+    }
     let a1 = a.ids;
     let b1 = b.ids;
     if !same_three(a1, b1) {
@@ -59,20 +58,10 @@ fn same_ids(a: Record, b: Record) -> bool
     }
     let a2 = a.qids;
     let b2 = b.qids;
-    if !same_three(a2, b2) {
-        return false;
-    }
-    let a3 = a.dcids;
-    let b3 = b.dcids;
-    if !same_three(a3, b3) {
-        return false;
-    }
-    let a4 = a.acids;
-    let b4 = b.acids;
-    same_three(a4, b4)
+    same_three(a2, b2)
 }
 
-fn same_tables(a: Record, b: Record) -> bool
+fn same_tables(a: Tables, b: Tables) -> bool
     ensures { λ r. ⌜ r ≡ sameTables a b ⌝ }
 {
     let a1 = a.quants;
@@ -90,15 +79,28 @@ fn same_tables(a: Record, b: Record) -> bool
     same_four(a3, b3)
 }
 
-fn same_sizes(a: Record, b: Record) -> bool
-    ensures { λ r. ⌜ r ≡ sameSizes a b ⌝ }
+fn same_scan(a: Record, b: Record) -> bool
+    ensures { λ r. ⌜ r ≡ sameScan a b ⌝ }
 {
+    let a1 = a.dcids;
+    let b1 = b.dcids;
+    if !same_three(a1, b1) {
+        return false;
+    }
+    let a2 = a.acids;
+    let b2 = b.acids;
+    if !same_three(a2, b2) {
+        return false;
+    }
     if a.interval != b.interval {
         return false;
     }
-    if a.start != b.start {
-        return false;
-    }
+    a.start == b.start
+}
+
+fn same_sizes(a: Record, b: Record) -> bool
+    ensures { λ r. ⌜ r ≡ sameSizes a b ⌝ }
+{
     if a.blocks != b.blocks {
         return false;
     }
@@ -120,13 +122,13 @@ fn same_sizes(a: Record, b: Record) -> bool
 pub fn same(a: Record, b: Record) -> bool
     ensures { λ r. ⌜ r ≡ same a b ⌝ }
 {
-    if !same_frame(a, b) {
+    if !same_frame(a.frame, b.frame) {
         return false;
     }
-    if !same_ids(a, b) {
+    if !same_tables(a.tables, b.tables) {
         return false;
     }
-    if !same_tables(a, b) {
+    if !same_scan(a, b) {
         return false;
     }
     same_sizes(a, b)

@@ -1,4 +1,4 @@
--- The test of a record is what rendering stands on, and what is rendered where it passes and where it fails.
+-- The test of a frame is what rendering stands on, and what is rendered where it passes and where it fails.
 use Prim.Native.Nat.{ℕ, _*_, _≤_}
 use mathlib.Core.Path.{_≡_, refl, ap, sym, _∙_, subst⁻¹}
 use mathlib.Core.Bool.{Bool, true, false, cond}
@@ -8,10 +8,10 @@ use native.Mathlib.Omega.{arith}
 use lib.Dec.{T, eqb, leb, leb→le, eqb→eq}
 use lib.ListN.{length}
 use borrow.Author.Tests.{eq-eqb, le-leb}
-use Rattle.reading.specs.declared.Record.{Record}
+use Rattle.reading.specs.declared.Frame.{Frame}
 use Rattle.reading.specs.Tests.{_and_, _or_, within, over}
 use Rattle.reading.specs.Layout.{ceiling, blockCount}
-use Rattle.reading.specs.Tables.{shapeIn}
+use Rattle.reading.specs.Tables.{shapeOf}
 use Rattle.reading.specs.Reading.{picture}
 use Rattle.reading.proofs.Plain.{and-left, and-right}
 use Rattle.reading.proofs.Places.{count-is}
@@ -34,7 +34,7 @@ counting n hs k alone =
 
 -- ---- the frame's numbers
 
-module _ (r : Record) where
+module _ (r : Frame) where
   pub framed-sized : framed r ≡ true → Sized r
   unfolding framed
   framed-sized e =
@@ -62,23 +62,21 @@ module _ (r : Record) where
       rw (counting (r .channels) (r .hs) (ok .channels) (ok .alone), le-leb _ _ (ok .hs-least), le-leb _ _ (ok .hs-most), le-leb _ _ (ok .vs-least), le-leb _ _ (ok .vs-most), le-leb _ _ (ok .width-most), le-leb _ _ (ok .height-most)) refl
 
   -- all blocks, in the code's words
-  pub blocks-are : Sized r → blockCount (shapeIn r) ≡ ceiling (r .width) (8 * r .hs) * ceiling (r .height) (8 * r .vs) * perOf r
+  pub blocks-are : Sized r → blockCount (shapeOf r) ≡ ceiling (r .width) (8 * r .hs) * ceiling (r .height) (8 * r .vs) * perOf r
   blocks-are ok = count-is (r .width) (r .height) (r .hs) (r .vs) (r .channels) (ok .hs-least) (ok .vs-least)
 
 -- ---- with the buffers
 
-module _ (r : Record) (samples out : List ℕ) where
+module _ (r : Frame) (samples out : List ℕ) where
   pub fits-drawable : fits r (length samples) (length out) ≡ true → Drawable r samples out
   unfolding fits
   fits-drawable e =
-      let a : T (framed r and eqb (r .output) (r .width * r .height * r .channels) and leb (r .output) (length out) and leb (64 * blockCount (shapeIn r)) (length samples)) = subst⁻¹ T e tt in
+      let a : T (framed r and leb (r .width * r .height * r .channels) (length out) and leb (64 * blockCount (shapeOf r)) (length samples)) = subst⁻¹ T e tt in
       let b = and-right (framed r) _ a in
-      let c = and-right (eqb (r .output) (r .width * r .height * r .channels)) _ b in
       record {
         sized = framed-sized r (is-true (framed r) (and-left (framed r) _ a));
-        output = eqb→eq _ _ (and-left (eqb (r .output) (r .width * r .height * r .channels)) _ b);
-        room = leb→le _ _ (and-left (leb (r .output) (length out)) _ c);
-        whole = leb→le _ _ (and-right (leb (r .output) (length out)) _ c);
+        room = leb→le _ _ (and-left (leb (r .width * r .height * r .channels) (length out)) _ b);
+        whole = leb→le _ _ (and-right (leb (r .width * r .height * r .channels) (length out)) _ b);
       }
     where
       is-true : (b : Bool) → T b → b ≡ true
@@ -88,17 +86,22 @@ module _ (r : Record) (samples out : List ℕ) where
   drawable-fits : Drawable r samples out → fits r (length samples) (length out) ≡ true
   unfolding fits
   drawable-fits ok =
-      rw (sized-framed r (ok .sized), eq-eqb _ _ (ok .output), le-leb _ _ (ok .room), le-leb _ _ (ok .whole)) refl
+      rw (sized-framed r (ok .sized), le-leb _ _ (ok .room), le-leb _ _ (ok .whole)) refl
 
-  -- a record that can be drawn is drawn
-  pub rendered-drawable : Drawable r samples out → rendered r samples out ≡ over (picture r samples) out
+-- ---- what is rendered
+
+module _ (r : Frame) (colour : Bool) (samples out : List ℕ) where
+  -- a frame that can be drawn is drawn
+  pub rendered-drawable : Drawable r samples out → rendered r colour samples out ≡ over (picture (shapeOf r) colour samples) out
   unfolding rendered
-  rendered-drawable ok = ap (λ t. cond t (over (picture r samples) out) out) (drawable-fits ok)
+  rendered-drawable ok = ap (λ t. cond t (over (picture (shapeOf r) colour samples) out) out) (drawable-fits r samples out ok)
 
   -- by the test
-  pub rendered-fit : {e : List ℕ} → fits r (length samples) (length out) ≡ true → e ≡ over (picture r samples) out → e ≡ rendered r samples out
-  rendered-fit t h = h ∙ sym (rendered-drawable (fits-drawable t))
+  pub rendered-fit : {e : List ℕ} → fits r (length samples) (length out) ≡ true
+      → e ≡ over (picture (shapeOf r) colour samples) out
+      → e ≡ rendered r colour samples out
+  rendered-fit t h = h ∙ sym (rendered-drawable (fits-drawable r samples out t))
 
-  pub rendered-unfit : fits r (length samples) (length out) ≡ false → out ≡ rendered r samples out
+  pub rendered-unfit : fits r (length samples) (length out) ≡ false → out ≡ rendered r colour samples out
   unfolding rendered
-  rendered-unfit t = sym (ap (λ b. cond b (over (picture r samples) out) out) t)
+  rendered-unfit t = sym (ap (λ b. cond b (over (picture (shapeOf r) colour samples) out) out) t)

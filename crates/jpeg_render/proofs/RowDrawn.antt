@@ -1,35 +1,39 @@
 -- A row of pixels, MCU by MCU, and a picture, row by row: what holds after some of them, and that the next one fits.
-use Prim.Native.Nat.{ℕ, _+_, _*_, _-_, _<_, _≤_, min}
+use Prim.Native.Nat.{ℕ, _+_, _*_, _-_, _/_, _%_, _<_, _≤_, min}
 use mathlib.Core.Path.{_≡_, refl, sym, ap, _∙_}
+use mathlib.Core.Bool.{Bool}
 use mathlib.Core.List.{List}
 use native.Mathlib.Omega.{arith}
 use native.Mathlib.Nat.{mul-le-mul-right}
 use lib.Dec.{eqb}
 use lib.ListN.{length}
-use Rattle.reading.specs.declared.Record.{Record}
+use Rattle.whole.specs.Lists.{listOf}
+use Rattle.reading.specs.declared.Frame.{Frame}
 use Rattle.reading.specs.Tests.{_and_, over}
+use Rattle.reading.specs.Layout.{outputLength}
+use Rattle.reading.specs.Tables.{shapeOf}
 use Rattle.reading.specs.Reading.{pixel, picture}
 use Rattle.jpeg_render_row.specs.Drawn.{pixels}
 use Rattle.jpeg_render_row.proofs.Drawing.{length-pixels, DrawnTo, drawn-none, drawn-more}
-use Rattle.jpeg_render.specs.Drawn.{rows}
+use Rattle.jpeg_render.specs.Drawn.{rows, rowDrawn}
 use Rattle.jpeg_render.specs.Rows.{Drawable, McuFits, perOf, lumaOfRow, chromaOfRow, inMcu}
 use Rattle.jpeg_render.proofs.Drawing.{no-rows, row-more, rows-over}
-use Rattle.jpeg_render.proofs.RowPlaces.{channels-in, area-most, row-room, mcu-within, luma-within, chroma-within, chroma-most, pixel-in-row}
+use Rattle.jpeg_render.proofs.RowPlaces.{channels-in, channels-counted, area-most, row-room, mcu-within, luma-within, chroma-within, chroma-most, pixel-in-row}
 
 -- after k MCUs
-pub record RowTo (r : Record) (y : ℕ) (t d : List ℕ) (luma chroma x : ℕ) (out : List ℕ) : Type 0 where
+pub record RowTo (r : Frame) (colour : Bool) (y : ℕ) (t d : List ℕ) (luma chroma x : ℕ) (out : List ℕ) : Type 0 where
   pub k : ℕ
   pub luma-is : luma ≡ lumaOfRow r y + k * (64 * perOf r)
   pub chroma-is : chroma ≡ chromaOfRow r y + k * (64 * perOf r)
   pub x-is : x ≡ min (k * (8 * r .hs)) (r .width)
-  pub drawn : DrawnTo (λ i. pixel r t i y) (r .channels) (y * (r .width * r .channels)) (r .width) d x out
+  pub drawn : DrawnTo (λ i. pixel (shapeOf r) colour t i y) (r .channels) (y * (r .width * r .channels)) (r .width) d x out
 
-module _ (r : Record) (t d : List ℕ) (ok : Drawable r t d) (y : ℕ) (below : y < r .height) where
-  pub row-none : {luma chroma : ℕ} → luma ≡ lumaOfRow r y → chroma ≡ chromaOfRow r y → RowTo r y t d luma chroma 0 d
+module _ (r : Frame) (colour : Bool) (t d : List ℕ) (ok : Drawable r t d) (y : ℕ) (below : y < r .height) where
+  pub row-none : {luma chroma : ℕ} → luma ≡ lumaOfRow r y → chroma ≡ chromaOfRow r y → RowTo r colour y t d luma chroma 0 d
   row-none p q = record { k = 0; luma-is = omega (arith, p); chroma-is = omega (arith, q); x-is = omega arith; drawn = drawn-none _ _ _ _ _ }
 
   -- the next MCU
-  module _ {luma chroma x : ℕ} {out : List ℕ} (before : RowTo r y t d luma chroma x out) (more : x < r .width) where
+  module _ {luma chroma x : ℕ} {out : List ℕ} (before : RowTo r colour y t d luma chroma x out) (more : x < r .width) where
     at-mcu : x ≡ before .k * (8 * r .hs)
     at-mcu = omega (arith, before .x-is)
 
@@ -61,8 +65,8 @@ module _ (r : Record) (t d : List ℕ) (ok : Drawable r t d) (y : ℕ) (below : 
           within-row = omega arith
 
       pub row-next : {step : ℕ} {e : List ℕ} → step ≡ 64 * perOf r
-          → e ≡ pixels (inMcu t luma chroma (r .hs) (r .colour and eqb (r .channels) 3)) (r .channels) (y * (r .width * r .channels) + x * r .channels) n out
-          → RowTo r y t d (luma + step) (chroma + step) (x + n) e
+          → e ≡ pixels (inMcu t luma chroma (r .hs) (colour and eqb (r .channels) 3)) (r .channels) (y * (r .width * r .channels) + x * r .channels) n out
+          → RowTo r colour y t d (luma + step) (chroma + step) (x + n) e
       row-next {step} {e} per h =
           record {
             k = before .k + 1;
@@ -73,36 +77,36 @@ module _ (r : Record) (t d : List ℕ) (ok : Drawable r t d) (y : ℕ) (below : 
           }
         where
           same : (i c : ℕ) → i < n → c < r .channels
-              → inMcu t luma chroma (r .hs) (r .colour and eqb (r .channels) 3) i c ≡ pixel r t (x + i) y c
+              → inMcu t luma chroma (r .hs) (colour and eqb (r .channels) 3) i c ≡ pixel (shapeOf r) colour t (x + i) y c
           same i c l m =
               rw (before .luma-is, before .chroma-is, at-mcu)
-              (pixel-in-row r t d ok y below (before .k) i (omega arith) c m)
+              (pixel-in-row r t d ok y below (before .k) i (omega arith) colour c m)
 
 -- ---- the picture
 
 -- after y rows
-pub record PictureTo (r : Record) (t d : List ℕ) (y : ℕ) (out : List ℕ) : Type 0 where
+pub record PictureTo (r : Frame) (colour : Bool) (t d : List ℕ) (y : ℕ) (out : List ℕ) : Type 0 where
   pub within : y ≤ r .height
   pub size : length out ≡ length d
-  pub drawn : out ≡ rows (λ j i. pixel r t i j) (r .channels) (r .width) y d
+  pub drawn : out ≡ rows (λ j i. pixel (shapeOf r) colour t i j) (r .channels) (r .width) y d
 
-module _ (r : Record) (t d : List ℕ) (ok : Drawable r t d) where
-  pub picture-none : PictureTo r t d 0 d
+module _ (r : Frame) (colour : Bool) (t d : List ℕ) (ok : Drawable r t d) where
+  pub picture-none : PictureTo r colour t d 0 d
   picture-none = record { within = omega arith; size = refl; drawn = sym (no-rows _ _ _ _) }
 
-  module _ {y : ℕ} {out : List ℕ} (before : PictureTo r t d y out) where
+  module _ {y : ℕ} {out : List ℕ} (before : PictureTo r colour t d y out) where
     -- the buffer has room as before
     pub still-drawable : Drawable r t out
     still-drawable =
         record {
           sized = ok .sized;
-          output = ok .output;
           room = omega (arith, ok .room, before .size);
           whole = ok .whole;
         }
 
     pub picture-next : {e : List ℕ} → y < r .height
-        → e ≡ pixels (λ i. pixel r t i y) (r .channels) (y * (r .width * r .channels)) (r .width) out → PictureTo r t d (y + 1) e
+        → e ≡ rowDrawn r colour t y out
+        → PictureTo r colour t d (y + 1) e
     picture-next more h =
         record {
           within = omega arith;
@@ -110,9 +114,12 @@ module _ (r : Record) (t d : List ℕ) (ok : Drawable r t d) where
           drawn = h ∙ row-more _ _ _ _ _ _ (before .drawn);
         }
 
-    pub picture-all : r .height ≤ y → out ≡ over (picture r t) d
+    pub picture-all : r .height ≤ y → out ≡ over (picture (shapeOf r) colour t) d
+    unfolding outputLength
     picture-all left =
         let all : y ≡ r .height = omega (arith, before .within) in
         before .drawn
-        ∙ rows-over (λ j i. pixel r t i j) (r .channels) (r .width) y (r .output) d (channels-in r (ok .sized) .0)
-        (omega (arith, ok .output, ap (λ n. n * (r .width * r .channels)) all)) (ok .room)
+        ∙ rows-over (λ j i. pixel (shapeOf r) colour t i j) (r .channels) (r .width) y (r .width * r .height * r .channels) d (channels-in r (ok .sized) .0)
+        (omega (arith, ap (λ n. n * (r .width * r .channels)) all)) (ok .room)
+        ∙ ap (λ n. over (listOf (r .width * r .height * n) (λ k. pixel (shapeOf r) colour t (k / n % r .width) (k / n / r .width) (k % n))) d)
+        (sym (channels-counted r (ok .sized)))

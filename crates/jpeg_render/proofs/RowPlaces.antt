@@ -2,7 +2,7 @@
 -- of them lie within the samples.
 use Prim.Native.Nat.{ℕ, suc, _+_, _*_, _-_, _/_, _%_, _<_, _≤_}
 use mathlib.Core.Path.{_≡_, refl, sym, ap, _∙_}
-use mathlib.Core.Bool.{false}
+use mathlib.Core.Bool.{Bool, false}
 use mathlib.Core.List.{List}
 use mathlib.Core.Logic.{⊎-elim}
 use native.Mathlib.Omega.{arith}
@@ -10,13 +10,14 @@ use native.Mathlib.Nat.{div-le-self, mul-le-mul, mul-le-mul-right, mul-div-cance
 use lib.Arith.{digits-div, digits-mod}
 use lib.Dec.{eqb}
 use lib.ListN.{getD, length}
-use Rattle.reading.specs.declared.Record.{Record}
+use Rattle.reading.specs.declared.Frame.{Frame}
 use Rattle.reading.specs.Tests.{_and_}
-use Rattle.reading.specs.Layout.{ceiling, sampleAt}
-use Rattle.reading.specs.Tables.{shapeIn}
+use Rattle.reading.specs.Layout.{ceiling, channelsIn, sampleAt}
+use Rattle.reading.specs.Tables.{shapeOf}
 use Rattle.reading.specs.Reading.{pixel}
 use Rattle.reading.specs.Code.Mcus.{mcusOf, blocksOf}
 use Rattle.reading.proofs.McuCounts.{mcus-asked, blocks-asked}
+use Rattle.reading.proofs.Places.{channels-are}
 use Rattle.jpeg_render_row.specs.Runs.{three, shown}
 use Rattle.jpeg_render.specs.Rows.{Sized, Drawable, perOf, blocksAbove, lumaOfRow, chromaOfRow, lumaAt, inMcu}
 use Rattle.jpeg_render.proofs.Shades.{and-false, shown-one, shown-cong}
@@ -24,9 +25,13 @@ use Rattle.reading.proofs.SamplePlaces.{first-channel-place, chroma-place, mcu-
 
 -- ---- the numbers are small
 
-module _ (r : Record) (ok : Sized r) where
+module _ (r : Frame) (ok : Sized r) where
   pub channels-in : (1 ≤ r .channels) × (r .channels ≤ 3)
   channels-in = ⊎-elim (λ e. omega arith) (λ e. omega arith) (ok .channels)
+
+  -- the shape has as many channels as the frame says
+  pub channels-counted : channelsIn (shapeOf r) ≡ r .channels
+  channels-counted = channels-are (r .width) (r .height) (r .hs) (r .vs) (r .channels) (channels-in .0)
 
   pub area-most : r .hs * r .vs ≤ 16
   area-most = mul-le-mul (ok .hs-most) (ok .vs-most)
@@ -83,10 +88,10 @@ module _ (r : Record) (ok : Sized r) where
 
 -- ---- row y of a picture
 
-module _ (r : Record) (t d : List ℕ) (ok : Drawable r t d) (y : ℕ) (below : y < r .height) where
+module _ (r : Frame) (t d : List ℕ) (ok : Drawable r t d) (y : ℕ) (below : y < r .height) where
   -- the row has room in the buffer
   pub row-room : y * (r .width * r .channels) + r .width * r .channels ≤ length d
-  row-room = omega (arith, mul-le-mul-right (r .width * r .channels) below, ok .output, ok .room)
+  row-room = omega (arith, mul-le-mul-right (r .width * r .channels) below, ok .room)
 
   -- MCU k of the row is one of the picture's
   pub mcu-within : (k : ℕ) → k * (8 * r .hs) < r .width → 64 * (blocksAbove r y + k * perOf r + perOf r) ≤ length t
@@ -104,22 +109,24 @@ module _ (r : Record) (t d : List ℕ) (ok : Drawable r t d) (y : ℕ) (below : 
 
   -- pixel i of MCU k
   module _ (k i : ℕ) (l : i < 8 * r .hs) where
-    luma-place : sampleAt (shapeIn r) (k * (8 * r .hs) + i) y 0 ≡ lumaAt (lumaOfRow r y + k * (64 * perOf r)) i
+    luma-place : sampleAt (shapeOf r) (k * (8 * r .hs) + i) y 0 ≡ lumaAt (lumaOfRow r y + k * (64 * perOf r)) i
     luma-place =
         first-channel-place (r .width) (r .height) (r .hs) (r .vs) (r .channels) (ok .sized .hs-least) (ok .sized .vs-least) (k * (8 * r .hs) + i) y
         ∙ rw (← mod-eight (k * (8 * r .hs) + i) (r .hs), ← mod-eight y (r .vs), digits-div k l, digits-mod k l) (omega arith)
 
-    others-place : (c : ℕ) → c < r .channels - 1 → sampleAt (shapeIn r) (k * (8 * r .hs) + i) y (suc c) ≡ chromaOfRow r y + k * (64 * perOf r) + 64 * c + i / r .hs
+    others-place : (c : ℕ) → c < r .channels - 1
+        → sampleAt (shapeOf r) (k * (8 * r .hs) + i) y (suc c) ≡ chromaOfRow r y + k * (64 * perOf r) + 64 * c + i / r .hs
     others-place c h =
         chroma-place (r .width) (r .height) (r .hs) (r .vs) (r .channels) (ok .sized .hs-least) (ok .sized .vs-least) (k * (8 * r .hs) + i) y c h
         ∙ rw (digits-div k l, digits-mod k l) (omega arith)
 
     -- is the picture's
-    pub pixel-in-row : (c : ℕ) → c < r .channels
-        → inMcu t (lumaOfRow r y + k * (64 * perOf r)) (chromaOfRow r y + k * (64 * perOf r)) (r .hs) (r .colour and eqb (r .channels) 3) i c
-        ≡ pixel r t (k * (8 * r .hs) + i) y c
+    pub pixel-in-row : (colour : Bool) (c : ℕ) → c < r .channels
+        → inMcu t (lumaOfRow r y + k * (64 * perOf r)) (chromaOfRow r y + k * (64 * perOf r)) (r .hs) (colour and eqb (r .channels) 3) i c
+        ≡ pixel (shapeOf r) colour t (k * (8 * r .hs) + i) y c
     unfolding inMcu
-    pixel-in-row c h = ⊎-elim one many (ok .sized .channels)
+    pixel-in-row colour c h =
+        ⊎-elim one many (ok .sized .channels) ∙ ap (λ n. shown (colour and eqb n 3) sample c) (sym (channels-counted r (ok .sized)))
       where
         luma : ℕ
         luma = lumaAt (lumaOfRow r y + k * (64 * perOf r)) i
@@ -128,7 +135,7 @@ module _ (r : Record) (t d : List ℕ) (ok : Drawable r t d) (y : ℕ) (below : 
         chroma = chromaOfRow r y + k * (64 * perOf r)
 
         sample : ℕ → ℕ
-        sample n = getD t (sampleAt (shapeIn r) (k * (8 * r .hs) + i) y n) 0
+        sample n = getD t (sampleAt (shapeOf r) (k * (8 * r .hs) + i) y n) 0
 
         counted : ℕ → ℕ
         counted = three (getD t luma 0) (getD t (chroma + i / r .hs) 0) (getD t (chroma + 64 + i / r .hs) 0)
@@ -136,14 +143,14 @@ module _ (r : Record) (t d : List ℕ) (ok : Drawable r t d) (y : ℕ) (below : 
         first : counted 0 ≡ sample 0
         first = ap (λ n. getD t n 0) (sym luma-place)
 
-        one : r .channels ≡ 1 → shown (r .colour and eqb (r .channels) 3) counted c ≡ shown (r .colour and eqb (r .channels) 3) sample c
+        one : r .channels ≡ 1 → shown (colour and eqb (r .channels) 3) counted c ≡ shown (colour and eqb (r .channels) 3) sample c
         one e =
-            let plain : r .colour and eqb (r .channels) 3 ≡ false = rw (e, and-false) refl in
-            shown-one (r .colour and eqb (r .channels) 3) counted sample plain first c (omega arith)
+            let plain : colour and eqb (r .channels) 3 ≡ false = rw (e, and-false) refl in
+            shown-one (colour and eqb (r .channels) 3) counted sample plain first c (omega arith)
 
-        many : r .channels ≡ 3 → shown (r .colour and eqb (r .channels) 3) counted c ≡ shown (r .colour and eqb (r .channels) 3) sample c
+        many : r .channels ≡ 3 → shown (colour and eqb (r .channels) 3) counted c ≡ shown (colour and eqb (r .channels) 3) sample c
         many e =
-            shown-cong (r .colour and eqb (r .channels) 3) counted sample first
+            shown-cong (colour and eqb (r .channels) 3) counted sample first
             (ap (λ n. getD t n 0) (omega (arith, others-place 0 (omega arith))))
             (ap (λ n. getD t n 0) (omega (arith, others-place 1 (omega arith))))
             c (omega arith)

@@ -1,4 +1,4 @@
--- The picture of a record from its block samples, in the parts that the code has.
+-- The picture of a frame from its block samples, in the parts that the code has.
 pub mod Drawn
 pub mod Rows
 pub mod Rendered

@@ -1,28 +1,28 @@
--- What is drawn of any record: its picture, where the numbers of the record fit each other and the buffers, and else nothing.
+-- What is drawn of any frame: its picture, where its numbers are a frame's and the buffers fit, and else nothing.
 use Prim.Native.Nat.{ℕ, _*_}
 use mathlib.Core.Bool.{Bool, cond}
 use mathlib.Core.List.{List}
 use lib.Dec.{eqb, leb}
 use lib.ListN.{length}
-use Rattle.reading.specs.declared.Record.{Record}
+use Rattle.reading.specs.declared.Frame.{Frame}
 use Rattle.reading.specs.Tests.{_and_, _or_, within, over}
 use Rattle.reading.specs.Layout.{blockCount}
-use Rattle.reading.specs.Tables.{shapeIn}
+use Rattle.reading.specs.Tables.{shapeOf}
 use Rattle.reading.specs.Reading.{picture}
 
 -- the frame's numbers: three channels, or one that is one block wide in an MCU; sampling factors; sides of two bytes
-unfoldable pub framed : Record → Bool
-framed r =
-    (eqb (r .channels) 3 or (eqb (r .channels) 1 and eqb (r .hs) 1))
-    and within 1 4 (r .hs) and within 1 4 (r .vs) and leb (r .width) 65535 and leb (r .height) 65535
+unfoldable pub framed : Frame → Bool
+framed f =
+    (eqb (f .channels) 3 or (eqb (f .channels) 1 and eqb (f .hs) 1))
+    and within 1 4 (f .hs) and within 1 4 (f .vs) and leb (f .width) 65535 and leb (f .height) 65535
 
--- so many samples are those of all blocks, and the picture has room in so many bytes
-unfoldable pub fits : Record → ℕ → ℕ → Bool
+-- the picture has room in so many bytes, and so many samples are those of all blocks
+unfoldable pub fits : Frame → ℕ → ℕ → Bool
 unfolding framed
-fits r samples room =
-    framed r and eqb (r .output) (r .width * r .height * r .channels) and leb (r .output) room and leb (64 * blockCount (shapeIn r)) samples
+fits f samples room =
+    framed f and leb (f .width * f .height * f .channels) room and leb (64 * blockCount (shapeOf f)) samples
 
--- the buffer that is left: the picture over what stood in it, where the record fits
-unfoldable pub rendered : Record → List ℕ → List ℕ → List ℕ
+-- the buffer that is left: the picture over what stood in it, where the frame fits
+unfoldable pub rendered : Frame → Bool → List ℕ → List ℕ → List ℕ
 unfolding fits
-rendered r samples out = cond (fits r (length samples) (length out)) (over (picture r samples) out) out
+rendered f colour samples out = cond (fits f (length samples) (length out)) (over (picture (shapeOf f) colour samples) out) out

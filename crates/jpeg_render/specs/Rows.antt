@@ -1,4 +1,4 @@
--- What rendering stands on: the numbers of a record, where a row of pixels begins among the block samples, and the
+-- What rendering stands on: the numbers of a frame, where a row of pixels begins among the block samples, and the
 -- pixels of an MCU in that row.
 use Prim.Native.Nat.{ℕ, _+_, _*_, _-_, _/_, _%_, _<_, _≤_}
 use mathlib.Core.Path.{_≡_}
@@ -6,13 +6,13 @@ use mathlib.Core.Bool.{Bool}
 use mathlib.Core.List.{List}
 use mathlib.Core.Logic.{_⊎_}
 use lib.ListN.{getD, length}
-use Rattle.reading.specs.declared.Record.{Record}
+use Rattle.reading.specs.declared.Frame.{Frame}
 use Rattle.reading.specs.Layout.{ceiling, blockCount}
-use Rattle.reading.specs.Tables.{shapeIn}
+use Rattle.reading.specs.Tables.{shapeOf}
 use Rattle.jpeg_render_row.specs.Runs.{three, shown}
 
 -- the frame's numbers
-pub record Sized (r : Record) : Type 0 where
+pub record Sized (r : Frame) : Type 0 where
   pub channels : (r .channels ≡ 1) ⊎ (r .channels ≡ 3)
   pub hs-least : 1 ≤ r .hs
   pub hs-most : r .hs ≤ 4
@@ -22,29 +22,28 @@ pub record Sized (r : Record) : Type 0 where
   pub width-most : r .width ≤ 65535
   pub height-most : r .height ≤ 65535
 
--- a record by which block samples are drawn into a buffer
-pub record Drawable (r : Record) (samples out : List ℕ) : Type 0 where
+-- a frame by which block samples are drawn into a buffer
+pub record Drawable (r : Frame) (samples out : List ℕ) : Type 0 where
   pub sized : Sized r
-  pub output : r .output ≡ r .width * r .height * r .channels
-  pub room : r .output ≤ length out
-  pub whole : 64 * blockCount (shapeIn r) ≤ length samples
+  pub room : r .width * r .height * r .channels ≤ length out
+  pub whole : 64 * blockCount (shapeOf r) ≤ length samples
 
 -- ---- the row of pixels y among the block samples
 
 -- the blocks of an MCU
-abbrev pub perOf : Record → ℕ
+abbrev pub perOf : Frame → ℕ
 perOf r = r .hs * r .vs + (r .channels - 1)
 
 -- the blocks of the MCUs above those that have row y
-abbrev pub blocksAbove : Record → ℕ → ℕ
+abbrev pub blocksAbove : Frame → ℕ → ℕ
 blocksAbove r y = y / (8 * r .vs) * ceiling (r .width) (8 * r .hs) * perOf r
 
 -- the place of the first channel's sample (0, y)
-abbrev pub lumaOfRow : Record → ℕ → ℕ
+abbrev pub lumaOfRow : Frame → ℕ → ℕ
 lumaOfRow r y = 64 * (blocksAbove r y + y % (8 * r .vs) / 8 * r .hs) + 8 * (y % (8 * r .vs) % 8)
 
 -- the place of the first chroma channel's sample for pixel (0, y)
-abbrev pub chromaOfRow : Record → ℕ → ℕ
+abbrev pub chromaOfRow : Frame → ℕ → ℕ
 chromaOfRow r y = 64 * (blocksAbove r y + r .hs * r .vs) + 8 * (y % (8 * r .vs) / r .vs)
 
 -- ---- the pixels of an MCU in a row

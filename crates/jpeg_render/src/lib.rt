@@ -1,5 +1,6 @@
-// The picture of a record from the samples of all its blocks (the rules' 'Samples, places, colour'). Any record may come in: one whose
-// numbers do not fit each other or the two buffers is not drawn, and the output stays as it was. The test is made once a picture.
+// The picture of a frame from the samples of all its blocks (the rules' 'Samples, places, colour'), in colour where that is chosen. Any
+// frame may come in: one whose numbers are not a frame's, or that does not fit the two buffers, is not drawn, and the output stays as it
+// was. The test is made once a picture.
 ghost use mathlib.Core.Path.{_≡_};
 ghost use lib.Dec.{eqb};
 ghost use Rattle.reading.specs.Tests.{_and_, _or_};
@@ -8,8 +9,8 @@ ghost use Rattle.jpeg_render.specs.Rendered.{framed, fits, rendered};
 mod layout;
 mod render;
 
+use reading::Frame;
 use reading::Limits;
-use reading::Record;
 
 // Three channels, or one that is one block wide in an MCU.
 fn channels(n: usize, hs: usize) -> bool
@@ -25,45 +26,42 @@ fn channels(n: usize, hs: usize) -> bool
 }
 
 // The numbers of a frame. They are tested first: behind them no product wraps.
-fn framed(found: Record) -> bool
-    ensures { λ r. ⌜ r ≡ framed found ⌝ }
+fn framed(frame: Frame) -> bool
+    ensures { λ r. ⌜ r ≡ framed frame ⌝ }
 {
-    if !channels(found.channels, found.hs) {
+    if !channels(frame.channels, frame.hs) {
         return false;
     }
-    if !reading::within(1, 4, found.hs) {
+    if !reading::within(1, 4, frame.hs) {
         return false;
     }
-    if !reading::within(1, 4, found.vs) {
+    if !reading::within(1, 4, frame.vs) {
         return false;
     }
-    if Limits::SIDE < found.width {
+    if Limits::SIDE < frame.width {
         return false;
     }
-    found.height <= Limits::SIDE
+    frame.height <= Limits::SIDE
 }
 
-// Whether a record can be drawn from so many samples into so many bytes.
-fn fits(found: Record, samples: usize, room: usize) -> bool
-    ensures { λ r. ⌜ r ≡ fits found samples room ⌝ }
+// Whether a frame can be drawn from so many samples into so many bytes.
+fn fits(frame: Frame, samples: usize, room: usize) -> bool
+    ensures { λ r. ⌜ r ≡ fits frame samples room ⌝ }
 {
-    if !framed(found) {
+    if !framed(frame) {
         return false;
     }
-    if found.output != found.width * found.height * found.channels {
+    if room < frame.width * frame.height * frame.channels {
         return false;
     }
-    if room < found.output {
-        return false;
-    }
-    layout::all_samples(found) <= samples
+    layout::all_samples(frame) <= samples
 }
 
 // The picture over what stood in the buffer.
-pub fn picture(found: Record, samples: &[u8], out: &mut [u8])
-    ensures { λ _. ⌜ now (out .exit) ≡ rendered found (now (samples .entry)) (now (out .entry)) ⌝ }
+pub fn picture(frame: Frame, colour: bool, samples: &[u8], out: &mut [u8])
+    ensures { λ _. ⌜ now (out .exit) ≡ rendered frame colour (now (samples .entry)) (now (out .entry)) ⌝ }
 {
-    if fits(found, samples.len(), out.len()) {
-        render::picture(found, samples, out);
+    if fits(frame, samples.len(), out.len()) {
+        render::picture(frame, colour, samples, out);
     }
 }

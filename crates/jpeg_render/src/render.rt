@@ -4,15 +4,17 @@
 // over its pixels before the loop over pixels. Nearly all files have sampling 1 or 2 across, which have functions of their own: 1 is
 // spread by a loop of its own, and with 2 in colour it is not the chroma samples that are spread but what they add to luma.
 use crate::layout;
-use reading::Record;
+use reading::Frame;
 ghost use mathlib.Core.Path.{_≡_};
 ghost use mathlib.Core.Bool.{true};
 ghost use Prim.Native.Nat.{_+_, _*_, _-_, _/_, _≤_, _<_, min};
 ghost use lib.Dec.{eqb};
 ghost use lib.ListN.{length, getD};
 ghost use Rattle.reading.specs.Tests.{_and_, over};
-ghost use Rattle.reading.specs.Reading.{pixel, picture};
+ghost use Rattle.reading.specs.Tables.{shapeOf};
+ghost use Rattle.reading.specs.Reading.{picture};
 ghost use Rattle.jpeg_render_row.specs.Drawn.{written, pixels};
+ghost use Rattle.jpeg_render.specs.Drawn.{rowDrawn};
 ghost use Rattle.jpeg_render.specs.Rows.{Drawable, RunsFit, ColourFits, McuFits, inRuns, inMcu, Spread, Gathered};
 
 // The smaller of two numbers.
@@ -200,27 +202,27 @@ fn mcu(
 }
 
 // Row y, MCU by MCU; the last MCU may reach past the picture's side.
-fn row(found: Record, y: usize, samples: &[u8], out: &mut [u8])
-    requires { ⌜ Drawable found (now samples) (now out) × (y < found .height) ⌝ }
-    ensures { λ _. ⌜ now (out .exit) ≡ pixels (λ x. pixel found (now (samples .entry)) x y) (found .channels) (y * (found .width * found .channels)) (found .width) (now (out .entry)) ⌝ }
+fn row(frame: Frame, colour: bool, y: usize, samples: &[u8], out: &mut [u8])
+    requires { ⌜ Drawable frame (now samples) (now out) × (y < frame .height) ⌝ }
+    ensures { λ _. ⌜ now (out .exit) ≡ rowDrawn frame colour (now (samples .entry)) y (now (out .entry)) ⌝ }
 {
-    let start = y * (found.width * found.channels);
-    let step = 64 * reading::mcu_blocks(found.hs, found.vs, found.channels);
-    let mut luma = layout::luma_of_row(found, y);
-    let mut chroma = layout::chroma_of_row(found, y);
+    let start = y * (frame.width * frame.channels);
+    let step = 64 * reading::mcu_blocks(frame.hs, frame.vs, frame.channels);
+    let mut luma = layout::luma_of_row(frame, y);
+    let mut chroma = layout::chroma_of_row(frame, y);
     let mut x = 0usize;
-    while x < found.width {
-        let n = least(found.width - x, 8 * found.hs);
+    while x < frame.width {
+        let n = least(frame.width - x, 8 * frame.hs);
         mcu(
             samples,
             luma,
             chroma,
-            found.hs,
+            frame.hs,
             n,
-            found.channels,
-            found.colour,
+            frame.channels,
+            colour,
             out,
-            start + x * found.channels,
+            start + x * frame.channels,
         );
         luma += step;
         chroma += step;
@@ -228,14 +230,14 @@ fn row(found: Record, y: usize, samples: &[u8], out: &mut [u8])
     }
 }
 
-// The picture of a record from the samples of all its blocks, over what stood in the buffer.
-pub(crate) fn picture(found: Record, samples: &[u8], out: &mut [u8])
-    requires { ⌜ Drawable found (now samples) (now out) ⌝ }
-    ensures { λ _. ⌜ now (out .exit) ≡ over (picture found (now (samples .entry))) (now (out .entry)) ⌝ }
+// The picture of a frame from the samples of all its blocks, over what stood in the buffer.
+pub(crate) fn picture(frame: Frame, colour: bool, samples: &[u8], out: &mut [u8])
+    requires { ⌜ Drawable frame (now samples) (now out) ⌝ }
+    ensures { λ _. ⌜ now (out .exit) ≡ over (picture (shapeOf frame) colour (now (samples .entry))) (now (out .entry)) ⌝ }
 {
     let mut y = 0usize;
-    while y < found.height {
-        row(found, y, samples, out);
+    while y < frame.height {
+        row(frame, colour, y, samples, out);
         y += 1;
     }
 }

@@ -7,7 +7,7 @@ use mathlib.Core.List.{List, [], _++_}
 use Prim.Native.Nat.{ℕ, _+_, _*_, _-_, _<_, _≤_, min}
 use native.Mathlib.Nat.{add-mul}
 use native.Mathlib.Omega.{arith}
-use lib.ListN.{length, take, length-append}
+use lib.ListN.{length, take, length-append, drop, getD}
 use lib.IntN.{ℤ}
 use Rattle.reading.specs.declared.Fault.{Fault}
 use Rattle.reading.specs.declared.ScanCursor.{ScanCursor}
@@ -18,7 +18,7 @@ use Rattle.jpeg_scan_plan.specs.declared.Plan.{Plan}
 use Rattle.jpeg_scan_plan.specs.declared.Halt.{Halt}
 use Rattle.jpeg_scan_plan.specs.declared.Halt.the-variants.{No, Yes}
 use Rattle.jpeg_scan_plan.specs.declared.CursorRead.{CursorRead}
-use Rattle.jpeg_scan_plan.specs.Plans.{Stands}
+use Rattle.jpeg_scan_plan.specs.Plans.{Stands, Quantizes}
 use Rattle.jpeg_scan_plan.specs.Marks.{restarted, brokeIn}
 use Rattle.jpeg_scan.specs.Steps.{ahead, resumed, before, inked, Passed, Behind, Went}
 use Rattle.jpeg_scan_plan.proofs.Marks.{restart-done}
@@ -30,7 +30,7 @@ pub record On (s : List ℕ) (p : scan.Plan) (n : Plan) (write : Bool) (old : Li
   pub levels : List (List ℤ)
   pub count : length levels ≡ q .done
   pub same : ahead s p (n .blocks) q₀ ≡ before levels (ahead s p (n .blocks) q)
-  pub here : new ≡ inked write p 0 levels old
+  pub here : (quant : ℕ → List ℕ) → Quantizes (take (n .start) s) n quant → new ≡ inked write (p .shape) quant 0 levels old
 
 -- before MCU m, or behind the last block: q₀ is the cursor and `old` the scratch at the start of the scan, q and `new` are those now
 pub record Walk (s : List ℕ) (n : Plan) (write : Bool) (old : List ℕ) (q₀ : ScanCursor) (new : List ℕ) (q : ScanCursor) (m : ℕ) : Type 0 where
@@ -43,7 +43,7 @@ begin s n write old q e =
     record {
       size = refl;
       place = omega (arith, e);
-      on = λ p st. record { levels = []; count = sym e; same = sym (before-none (ahead s p (n .blocks) q)); here = sym (inked-none write p 0 old) };
+      on = λ p st. record { levels = []; count = sym e; same = sym (before-none (ahead s p (n .blocks) q)); here = λ quant h. sym (inked-none (p .shape) quant write 0 old) };
     }
 
 module _ {s : List ℕ} {n : Plan} {write : Bool} {old : List ℕ} {q₀ : ScanCursor} {new : List ℕ} {q : ScanCursor} {m : ℕ} (w : Walk s n write old q₀ new q m) where
@@ -56,7 +56,9 @@ module _ {s : List ℕ} {n : Plan} {write : Bool} {old : List ℕ} {q₀ : ScanC
     all-read h = o .same ∙ ap (before (o .levels)) (ahead-none s p (n .blocks) q h) ∙ before-whole (o .levels) (cursorOf q)
 
     pub unchanged : write ≡ false → new ≡ old
-    unchanged t = o .here ∙ ap (λ (b : Bool). inked b p 0 (o .levels) old) t ∙ inked-not p 0 (o .levels) old
+    unchanged t =
+        let own : ℕ → List ℕ = λ c. take 64 (drop (getD (n .quants) c 0) (take (n .start) s)) in
+        o .here own (λ c h. refl) ∙ ap (λ (b : Bool). inked b (p .shape) own 0 (o .levels) old) t ∙ inked-not (p .shape) own 0 (o .levels) old
 
   module _ (i : q .done < n .blocks) where
     pub at-mcu : q .done ≡ m * n .per
@@ -106,9 +108,9 @@ module _ {s : List ℕ} {n : Plan} {write : Bool} {old : List ℕ} {q₀ : ScanC
                   levels = ls ++ ms;
                   count = length-append ls ms ∙ omega (arith, o p st .count, done-same, passed .place);
                   same = on-from p st g ∙ ap (before ls) (passed .same q (sym done-same)) ∙ before-before ls ms (ahead s p (n .blocks) (b .cursor));
-                  here =
-                      passed .here ∙ ap₂ (λ (k : ℕ) (x : List ℕ). inked write p k ms x) z (o p st .here)
-                      ∙ inked-more write p 0 ls ms old (λ (t : write ≡ true). omega arith);
+                  here = λ quant h.
+                      passed .here quant h ∙ ap₂ (λ (k : ℕ) (x : List ℕ). inked write (p .shape) quant k ms x) z (o p st .here quant h)
+                      ∙ inked-more (p .shape) quant write 0 ls ms old (λ (t : write ≡ true). omega arith);
                 }
 
         pub further : (p : scan.Plan) → Stands (take (n .start) s) n p → b .halt ≡ No → Walk s n write old q₀ new′ (b .cursor) (m + 1)

@@ -14,7 +14,8 @@ use Rattle.reading.specs.declared.ScanCursor.{ScanCursor}
 use Rattle.reading.specs.Tests.{over}
 use Rattle.reading.specs.Reader.{_>>_, give}
 use Rattle.reading.specs.Bits.{file, firstBit}
-use Rattle.reading.specs.Reading.{allSamples}
+use Rattle.reading.specs.Tables.{shapeOf, quantizersOf}
+use Rattle.reading.specs.Reading.{samplesOf}
 use Rattle.reading.specs.Scan.{planOf, closed, Cursor, Scanned, whole, broke, here, onwards, levels}
 use Rattle.reading.specs.Code.Scans.{atStart, cursorOf, brokeAt, readable, scanOf}
 use Rattle.reading.proofs.Reasons.{whole-val, no-break}
@@ -47,20 +48,20 @@ module _ (s : List ℕ) (r : Record) (e : readable s r ≡ true) where
 
 -- ---- the scratch
 
-inked-all : (s : List ℕ) (r : Record) (ls : List (List ℤ)) (old : List ℕ) → inked true (planOf s r) 0 ls old ≡ over (allSamples s r ls) old
+inked-all : (s : List ℕ) (r : Record) (ls : List (List ℤ)) (old : List ℕ) → inked true (shapeOf (r .frame)) (quantizersOf s r) 0 ls old ≡ over (samplesOf s r ls) old
 unfolding inked placed
-inked-all s r ls old = let z : 64 * 0 + length (allSamples s r ls) ≡ length (allSamples s r ls) = omega arith in ap (λ (k : ℕ). allSamples s r ls ++ drop k old) z
+inked-all s r ls old = let z : 64 * 0 + length (samplesOf s r ls) ≡ length (samplesOf s r ls) = omega arith in ap (λ (k : ℕ). samplesOf s r ls ++ drop k old) z
 
 module _ (s : List ℕ) (r : Record) where
   pub left-done :
       (write : Bool) (old : List ℕ) {new : List ℕ} {ls : List (List ℤ)} {b : Bits}
       → scanOf s r ≡ whole ls b
-      → new ≡ inked write (planOf s r) 0 ls old
+      → new ≡ inked write (shapeOf (r .frame)) (quantizersOf s r) 0 ls old
       → Left write s r old new
-  left-done false old {new} {ls} e h = h ∙ inked-not (planOf s r) 0 ls old
+  left-done false old {new} {ls} e h = h ∙ inked-not (shapeOf (r .frame)) (quantizersOf s r) 0 ls old
   left-done true old {new} {ls} {b} e h =
       λ ms c g. let same : ls ≡ ms = whole-val (sym e ∙ g) in
-      h ∙ ap (λ (l : List (List ℤ)). inked true (planOf s r) 0 l old) same ∙ inked-all s r ms old
+      h ∙ ap (λ (l : List (List ℤ)). inked true (shapeOf (r .frame)) (quantizersOf s r) 0 l old) same ∙ inked-all s r ms old
 
   pub left-stop : (write : Bool) (old new : List ℕ) {w : Break} → scanOf s r ≡ broke w → (write ≡ false → new ≡ old) → Left write s r old new
   left-stop false old new e h = h refl

@@ -22,7 +22,7 @@ use Rattle.reading.specs.Scan as scan
 use Rattle.reading.specs.Scan.{broke}
 use Rattle.reading.specs.Code.Scans.{brokeAt}
 use Rattle.jpeg_scan_plan.specs.declared.Plan.{Plan}
-use Rattle.jpeg_scan_plan.specs.Plans.{chan, Stands}
+use Rattle.jpeg_scan_plan.specs.Plans.{chan, Stands, Quantizes}
 use Rattle.jpeg_scan_plan.specs.Marks.{brokeIn}
 use Rattle.jpeg_scan.specs.Steps.{ahead, resumed, before, placed, inked, Passed}
 use Rattle.jpeg_scan_plan.proofs.Standing.{chan-below}
@@ -118,7 +118,7 @@ pub record On (s : List ℕ) (p : scan.Plan) (n : Plan) (write : Bool) (old : Li
       (turn : ScanCursor)
       → turn .done ≡ from .done
       → resumed s p (n .blocks) turn from ≡ before levels (entered j (ahead s p (n .blocks) q) (resumed s p (n .blocks) turn q))
-  pub here : new ≡ inked write p (from .done) levels old
+  pub here : (quant : ℕ → List ℕ) → Quantizes (head n s) n quant → new ≡ inked write (p .shape) quant (from .done) levels old
 
 -- before block j: `from` is the cursor and `old` the scratch at the start of the MCU, q and `new` are those now
 pub record Walk (s : List ℕ) (n : Plan) (write : Bool) (old : List ℕ) (from : ScanCursor) (new : List ℕ) (q : ScanCursor) (j : ℕ) : Type 0 where
@@ -132,7 +132,7 @@ begin s n write old q =
       size = refl;
       along = along-none n q;
       on = λ p m st e.
-          record { levels = []; count = refl; same = λ turn d. sym (before-none (resumed s p (n .blocks) turn q)); here = sym (inked-none write p (q .done) old) };
+          record { levels = []; count = refl; same = λ turn d. sym (before-none (resumed s p (n .blocks) turn q)); here = λ quant h. sym (inked-none (p .shape) quant write (q .done) old) };
     }
 
 module _ {s : List ℕ} {n : Plan} {write : Bool} {old : List ℕ} {from : ScanCursor} {new : List ℕ} {q : ScanCursor} {j : ℕ} (w : Walk s n write old from new q j) where
@@ -175,13 +175,17 @@ module _ {s : List ℕ} {n : Plan} {write : Bool} {old : List ℕ} {from : ScanC
       few-c : c < 3
       few-c = below (n .lumas) j u
 
+      abbrev own : ℕ → List ℕ
+      own c = take 64 (drop (getD (n .quants) c 0) (head n s))
+
       pub broken : {f : Fault} → x ≡ Stop f
           → ((turn : ScanCursor) → turn .done ≡ from .done → resumed s p (n .blocks) turn from ≡ broke (brokeIn turn q f)) × (write ≡ false → new ≡ old)
       broken {f} g = (
         λ turn d. o .same turn d
             ∙ ap (before (o .levels)) (behind turn h ∙ block-stop st s m j (n .blocks) (turnOf j turn q) q at h i c u few-c v g ∙ ap broke (turn-names (w .along) turn d f))
             ∙ before-broke (o .levels) (brokeIn turn q f),
-        λ (t : write ≡ false). o .here ∙ ap (λ (b : Bool). inked b p (from .done) (o .levels) old) t ∙ inked-not p (from .done) (o .levels) old,
+        λ (t : write ≡ false). o .here own (λ c h. refl) ∙ ap (λ (b : Bool). inked b (p .shape) own (from .done) (o .levels) old) t
+            ∙ inked-not (p .shape) own (from .done) (o .levels) old,
       )
 
       more : {b : Bits} {z : ℤ} {k : ℕ} → x ≡ Got b z k → {l : List ℤ} → l ≡ levelsOf (blockAt (head n s) n s c q) → {new′ : List ℕ} → new′ ≡ paintedAt n s c q write l k new
@@ -197,10 +201,10 @@ module _ {s : List ℕ} {n : Plan} {write : Bool} {old : List ℕ} {from : ScanC
             same =
                 λ turn d. o .same turn d ∙ ap (before (o .levels)) (behind turn h ∙ next (turnOf j turn q)) ∙ before-before (o .levels) (l ∷ []) (ahead s p (n .blocks) (past q c z b))
                 ∙ ap (before (o .levels ++ (l ∷ []))) (sym (entered-later (j + 1) _ _ (omega arith)));
-            here =
-                d ∙ inked-one write p (q .done) c (take 64 (drop (getD (n .quants) c 0) (head n s))) l k new (channel-here st s m j (q .done) at h ∙ sym u) (st .quant-is c few-c) reach
-                ∙ ap₂ (λ (a : ℕ) (x : List ℕ). inked write p a (l ∷ []) x) place (o .here)
-                ∙ inked-more write p (from .done) (o .levels) (l ∷ []) old (λ (t : write ≡ true). omega (arith, room t, w .along .place));
+            here = λ quant qs.
+                d ∙ inked-one (p .shape) quant write (q .done) c (own c) l k new (channel-here st s m j (q .done) at h ∙ sym u) (qs c few-c) reach
+                ∙ ap₂ (λ (a : ℕ) (x : List ℕ). inked write (p .shape) quant a (l ∷ []) x) place (o .here quant qs)
+                ∙ inked-more (p .shape) quant write (from .done) (o .levels) (l ∷ []) old (λ (t : write ≡ true). omega (arith, room t, w .along .place));
           }
 
   pub further : j < n .per → q .done < n .blocks → {c : ℕ} → c ≡ chan (n .lumas) j → {x : BlockRead} → x ≡ said (blockAt (head n s) n s c q)

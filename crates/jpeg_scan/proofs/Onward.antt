@@ -23,7 +23,7 @@ use Rattle.reading.specs.Bits.{Source, one, file, mark}
 use Rattle.reading.specs.Huffman.{Table, tableAt}
 use Rattle.reading.specs.Block.{block}
 use Rattle.reading.specs.Code.Places.{places}
-use Rattle.reading.specs.Layout.{channelIn, channelOf, perMcu, mcuOf, dueBefore, restartDue, restartBefore, restartCode}
+use Rattle.reading.specs.Layout.{channelIn, channelOf, perMcu, mcuOf, opensMcu, dueBefore, restartDue, restartBefore, restartCode}
 use Rattle.reading.specs.Code.Answers.{said, levelsOf}
 use Rattle.reading.specs.Scan as scan
 use Rattle.reading.specs.Scan.{Cursor, Scanned, whole, broke, here, onwards}
@@ -33,6 +33,7 @@ use Rattle.jpeg_scan_plan.specs.declared.Plan.{Plan}
 use Rattle.jpeg_scan_plan.specs.declared.Halt.{Halt}
 use Rattle.jpeg_scan_plan.specs.declared.Halt.the-variants.{No, Yes}
 use Rattle.jpeg_scan_plan.specs.declared.CursorRead.{CursorRead}
+use Rattle.reading.proofs.Restarts.{ahead-is}
 use Rattle.jpeg_scan_plan.specs.Plans.{chan, Stands}
 use Rattle.jpeg_scan_plan.specs.Marks.{onTo, behindMarker, restarted}
 use Rattle.jpeg_scan.specs.Steps.{begun, ahead, resumed, before}
@@ -146,13 +147,13 @@ module _ (src : Source Bits) (p : scan.Plan) (k : ℕ) (q : Cursor Bits) where
 
 ahead-restart : (s : List ℕ) (p : scan.Plan) (N : ℕ) (q : ScanCursor) → q .done < N
     → ahead s p N q
-    ≡ onwards (here (file s) (cursorOf q) (scan.restart (file s) p (q .done) (q .predictors) (q .bits))) (λ qs b. resumed s p N q (record { bits = b; predictors = qs; done = q .done }))
+    ≡ onwards (here (file s) (cursorOf q) (scan.ahead (file s) p (q .done) (q .predictors) (q .bits))) (λ qs b. resumed s p N q (record { bits = b; predictors = qs; done = q .done }))
 unfolding ahead resumed file
 ahead-restart s p N q i =
     let c : ℕ = channelOf (p .shape) (q .done) in
     let more : N - q .done ≡ suc (N - (q .done + 1)) = omega arith in
     rw more
-    (turn-restart (file s) p (N - (q .done + 1)) (cursorOf q) (scan.restart (file s) p (q .done) (q .predictors) (q .bits)) _ _
+    (turn-restart (file s) p (N - (q .done + 1)) (cursorOf q) (scan.ahead (file s) p (q .done) (q .predictors) (q .bits)) _ _
     (λ qs b. turn-block (file s) p (N - (q .done + 1)) (cursorOf q) qs c (block (one s) (p .channels c .dc) (p .channels c .ac) (getD qs c (pos 0)) b)))
 
 module _ {t : List ℕ} {n : Plan} {p : scan.Plan} (st : Stands t n p) (s : List ℕ) where
@@ -166,9 +167,13 @@ module _ {t : List ℕ} {n : Plan} {p : scan.Plan} (st : Stands t n p) (s : List
     channel-here = ap (λ (i : ℕ). channelIn (p .shape .factors) i) place-in ∙ st .channel-is j h
 
     -- inside an MCU no restart is due
+    pub not-open : 0 < j → opensMcu (p .shape) k ≡ false
+    unfolding opensMcu
+    not-open i = ap (λ (x : ℕ). eqb x 0) place-in ∙ ne-eqb j 0 (λ (z : j ≡ 0). omega arith)
+
     pub not-due : 0 < j → restartDue (p .shape) (p .interval) k ≡ false
     unfolding restartDue
-    not-due i = ap (λ (x : ℕ). eqb x 0 and dueBefore (p .interval) (mcuOf (p .shape) k)) place-in ∙ ap (λ (x : Bool). x and dueBefore (p .interval) (mcuOf (p .shape) k)) (ne-eqb j 0 (λ (z : j ≡ 0). omega arith))
+    not-due i = ap (λ (x : Bool). x and dueBefore (p .interval) (mcuOf (p .shape) k)) (not-open i)
 
   pub inside : (m j : ℕ) (N : ℕ) (q : ScanCursor) → q .done ≡ m * n .per + j → 0 < j → j < n .per → ahead s p N q ≡ resumed s p N q q
   unfolding ahead resumed
@@ -178,7 +183,7 @@ module _ {t : List ℕ} {n : Plan} {p : scan.Plan} (st : Stands t n p) (s : List
       go zero = refl
       go (suc k) =
           let c : ℕ = channelOf (p .shape) (q .done) in
-          rw (not-due m j (q .done) e h i)
+          rw (not-open m j (q .done) e h i)
           (turn-block (file s) p k (cursorOf q) (q .predictors) c (block (file s .next) (p .channels c .dc) (p .channels c .ac) (getD (q .predictors) c (pos 0)) (q .bits)))
 
   -- the block at a cursor
@@ -215,18 +220,23 @@ module _ {t : List ℕ} {n : Plan} {p : scan.Plan} (st : Stands t n p) (s : List
     mcu-is : mcuOf (p .shape) (q .done) ≡ m
     mcu-is = ap₂ (λ (a b : ℕ). a / b) e (st .per-is) ∙ mul-div-cancel m (st .some)
 
+    opens : opensMcu (p .shape) (q .done) ≡ true
+    unfolding opensMcu
+    opens = ap (λ (x : ℕ). eqb x 0) (ap₂ (λ (a b : ℕ). a % b) e (st .per-is) ∙ mul-mod-left m (n .per))
+
     pub due-is : restartDue (p .shape) (p .interval) (q .done) ≡ dueBefore (n .interval) m
     unfolding restartDue
     due-is =
-        ap (λ (x : ℕ). eqb x 0 and dueBefore (p .interval) (mcuOf (p .shape) (q .done))) (ap₂ (λ (a b : ℕ). a % b) e (st .per-is) ∙ mul-mod-left m (n .per))
-        ∙ ap₂ dueBefore (st .interval-is) mcu-is
+        ap (λ (x : Bool). x and dueBefore (p .interval) (mcuOf (p .shape) (q .done))) opens ∙ ap₂ dueBefore (st .interval-is) mcu-is
 
     pub code-is : restartCode (p .shape) (p .interval) (q .done) ≡ restartBefore (n .interval) m
     code-is = ap₂ restartBefore (st .interval-is) mcu-is
 
     pub restart-next : ahead s p N q ≡ went q (restarted s (n .interval) m q) (resumed s p N q)
     unfolding restarted file
-    restart-next = ahead-restart s p N q i ∙ rw (due-is, code-is) (go (dueBefore (n .interval) m))
+    restart-next =
+        ahead-restart s p N q i ∙ ap (λ (x : Reader Bits (List ℤ)). onwards (here (file s) (cursorOf q) (x (q .bits))) after) (ahead-is (file s) p (q .done) (q .predictors))
+        ∙ rw (due-is, code-is) (go (dueBefore (n .interval) m))
       where
         code : ℕ
         code = restartBefore (n .interval) m

@@ -9,11 +9,11 @@ use lib.Seq.{length-take-le, take-at, drop-at, drop-drop}
 use lib.IntN.{ℤ}
 use borrow.Author.Tests.{le-ltb}
 use Rattle.reading.specs.Code.Places.{places}
-use Rattle.reading.specs.Layout.{channelOf}
+use Rattle.reading.specs.Layout.{Shape, channelOf}
 use Rattle.reading.specs.Transform.{coefficients, samples}
 use Rattle.reading.specs.Code.Painted.{samplesTo, painted}
 use Rattle.reading.specs.Scan as scan
-use Rattle.reading.proofs.Counted.{samplesOf, samplesTo-length, samplesOf-length, samplesOf-append}
+use Rattle.reading.proofs.Counted.{samplesFrom, samplesTo-length, samplesFrom-length, samplesFrom-append}
 use Rattle.reading.proofs.Reach.{samples-enough}
 use Rattle.jpeg_scan.specs.Steps.{placed, inked}
 
@@ -66,33 +66,34 @@ pub painted-length : (write : Bool) (k : ℕ) (q : List ℕ) (l : List ℤ) (n :
 painted-length true k q l n old h = placed-length (64 * k) (samplesTo q l n) old (omega (arith, samplesTo-length q l n, h refl))
 painted-length false k q l n old h = refl
 
-pub inked-not : (p : scan.Plan) (k : ℕ) (ls : List (List ℤ)) (old : List ℕ) → inked false p k ls old ≡ old
-unfolding inked
-inked-not p k ls old = refl
+module _ (p : Shape) (quant : ℕ → List ℕ) where
+  pub inked-not : (k : ℕ) (ls : List (List ℤ)) (old : List ℕ) → inked false p quant k ls old ≡ old
+  unfolding inked
+  inked-not k ls old = refl
 
-pub inked-none : (write : Bool) (p : scan.Plan) (k : ℕ) (old : List ℕ) → inked write p k [] old ≡ old
-unfolding inked
-inked-none false p k old = refl
-inked-none true p k old = placed-none (64 * k) old
+  pub inked-none : (write : Bool) (k : ℕ) (old : List ℕ) → inked write p quant k [] old ≡ old
+  unfolding inked
+  inked-none false k old = refl
+  inked-none true k old = placed-none (64 * k) old
 
--- blocks, and then blocks behind them
-pub inked-more : (write : Bool) (p : scan.Plan) (k : ℕ) (ls ms : List (List ℤ)) (old : List ℕ) → (write ≡ true → 64 * k ≤ length old)
-    → inked write p (k + length ls) ms (inked write p k ls old) ≡ inked write p k (ls ++ ms) old
-unfolding inked
-inked-more false p k ls ms old h = refl
-inked-more true p k ls ms old h =
-    let z : 64 * (k + length ls) ≡ 64 * k + length (samplesOf p k ls) = omega (arith, samplesOf-length p k ls) in
-    ap (λ (a : ℕ). placed a (samplesOf p (k + length ls) ms) (placed (64 * k) (samplesOf p k ls) old)) z
-    ∙ placed-placed (64 * k) (samplesOf p k ls) (samplesOf p (k + length ls) ms) old (h refl)
-    ∙ ap (λ (l : List ℕ). placed (64 * k) l old) (sym (samplesOf-append p k ls ms))
+  -- blocks, and then blocks behind them
+  pub inked-more : (write : Bool) (k : ℕ) (ls ms : List (List ℤ)) (old : List ℕ) → (write ≡ true → 64 * k ≤ length old)
+      → inked write p quant (k + length ls) ms (inked write p quant k ls old) ≡ inked write p quant k (ls ++ ms) old
+  unfolding inked
+  inked-more false k ls ms old h = refl
+  inked-more true k ls ms old h =
+      let z : 64 * (k + length ls) ≡ 64 * k + length (samplesFrom p quant k ls) = omega (arith, samplesFrom-length p quant k ls) in
+      ap (λ (a : ℕ). placed a (samplesFrom p quant (k + length ls) ms) (placed (64 * k) (samplesFrom p quant k ls) old)) z
+      ∙ placed-placed (64 * k) (samplesFrom p quant k ls) (samplesFrom p quant (k + length ls) ms) old (h refl)
+      ∙ ap (λ (l : List ℕ). placed (64 * k) l old) (sym (samplesFrom-append p quant k ls ms))
 
--- one block, as the code paints it
-pub inked-one : (write : Bool) (p : scan.Plan) (k c : ℕ) (q : List ℕ) (l : List ℤ) (reach : ℕ) (old : List ℕ)
-    → channelOf (p .shape) k ≡ c → p .channels c .quant ≡ q → reach ≡ places l
-    → cond write (placed (64 * k) (samplesTo q l reach) old) old ≡ inked write p k (l ∷ []) old
-unfolding inked
-inked-one false p k c q l reach old u v e = refl
-inked-one true p k c q l reach old u v e =
-    ap (λ (x : List ℕ). placed (64 * k) x old)
-    (ap (samplesTo q l) e ∙ samples-enough l q ∙ ap (λ (x : List ℕ). samples (coefficients x l)) (sym v)
-    ∙ ap (λ (d : ℕ). samples (coefficients (p .channels d .quant) l)) (sym u) ∙ sym (append-nil (samples (coefficients (p .channels (channelOf (p .shape) k) .quant) l))))
+  -- one block, as the code paints it
+  pub inked-one : (write : Bool) (k c : ℕ) (q : List ℕ) (l : List ℤ) (reach : ℕ) (old : List ℕ)
+      → channelOf p k ≡ c → quant c ≡ q → reach ≡ places l
+      → cond write (placed (64 * k) (samplesTo q l reach) old) old ≡ inked write p quant k (l ∷ []) old
+  unfolding inked
+  inked-one false k c q l reach old u v e = refl
+  inked-one true k c q l reach old u v e =
+      ap (λ (x : List ℕ). placed (64 * k) x old)
+      (ap (samplesTo q l) e ∙ samples-enough l q ∙ ap (λ (x : List ℕ). samples (coefficients x l)) (sym v)
+      ∙ ap (λ (d : ℕ). samples (coefficients (quant d) l)) (sym u) ∙ sym (append-nil (samples (coefficients (quant (channelOf p k)) l))))

@@ -11,16 +11,16 @@ use Rattle.reading.specs.declared.ScanCursor.{ScanCursor}
 use Rattle.reading.specs.Tests.{over}
 use Rattle.reading.specs.Bits.{Source, file}
 use Rattle.reading.specs.Block.{block}
-use Rattle.reading.specs.Layout.{channelOf}
+use Rattle.reading.specs.Layout.{Shape, channelOf}
 use Rattle.reading.specs.Scan as scan
 use Rattle.reading.specs.Scan.{Cursor, Scanned, whole, broke, here, onwards}
 use Rattle.reading.specs.Code.Scans.{cursorOf, scanOf}
-use Rattle.reading.specs.Reading.{dequantized, blockSamples, allSamples}
+use Rattle.reading.specs.Reading.{dequantized, blockSamples, samplesOf}
 use Rattle.jpeg_scan_plan.specs.declared.Plan.{Plan}
 use Rattle.jpeg_scan_plan.specs.declared.Halt.{Halt}
 use Rattle.jpeg_scan_plan.specs.declared.Halt.the-variants.{No, Yes}
 use Rattle.jpeg_scan_plan.specs.declared.CursorRead.{CursorRead}
-use Rattle.jpeg_scan_plan.specs.Plans.{Stands}
+use Rattle.jpeg_scan_plan.specs.Plans.{Stands, Quantizes}
 use Rattle.jpeg_scan_plan.specs.Marks.{brokeIn}
 
 -- ---- the blocks from a cursor on
@@ -57,10 +57,10 @@ unfoldable pub placed : ℕ → List ℕ → List ℕ → List ℕ
 placed a new old = take a old ++ (new ++ drop (a + length new) old)
 
 -- the scratch behind the blocks ls, which start at block k: each block's samples at its own part, where they are written
-unfoldable pub inked : Bool → scan.Plan → ℕ → List (List ℤ) → List ℕ → List ℕ
+unfoldable pub inked : Bool → Shape → (ℕ → List ℕ) → ℕ → List (List ℤ) → List ℕ → List ℕ
 unfolding placed
-inked false p k ls old = old
-inked true p k ls old = placed (64 * k) (blockSamples (dequantized p k ls)) old
+inked false p quant k ls old = old
+inked true p quant k ls old = placed (64 * k) (blockSamples (dequantized p quant k ls)) old
 
 -- ---- what the blocks of one MCU leave
 
@@ -70,7 +70,7 @@ pub record Passed (s : List ℕ) (p : scan.Plan) (n : Plan) (from q : ScanCursor
   pub count : length levels ≡ min (n .per) (n .blocks - from .done)
   pub place : q .done ≡ from .done + length levels
   pub same : (turn : ScanCursor) → turn .done ≡ from .done → resumed s p (n .blocks) turn from ≡ before levels (ahead s p (n .blocks) q)
-  pub here : new ≡ inked write p (from .done) levels old
+  pub here : (quant : ℕ → List ℕ) → Quantizes (take (n .start) s) n quant → new ≡ inked write (p .shape) quant (from .done) levels old
 
 abbrev pub Behind : List ℕ → scan.Plan → Plan → ScanCursor → Bool → List ℕ → Halt → ScanCursor → List ℕ → Type 0
 Behind s p n from write old No q new = Passed s p n from q write old new
@@ -87,4 +87,4 @@ pub record Went (s : List ℕ) (n : Plan) (from : ScanCursor) (write : Bool) (ol
 abbrev pub Left : Bool → List ℕ → Record → List ℕ → List ℕ → Type 0
 Left false s r old new = new ≡ old
 Left true s r old new =
-    (ls : List (List ℤ)) (b : Bits) → scanOf s r ≡ whole ls b → new ≡ over (allSamples s r ls) old
+    (ls : List (List ℤ)) (b : Bits) → scanOf s r ≡ whole ls b → new ≡ over (samplesOf s r ls) old

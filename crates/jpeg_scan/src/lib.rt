@@ -4,6 +4,7 @@ ghost use mathlib.Core.Path.{_≡_};
 ghost use mathlib.Core.Bool.{true, cond};
 ghost use Prim.Native.Nat.{_+_, _*_, _≤_};
 ghost use lib.ListN.{length, take, drop};
+ghost use Rattle.reading.specs.Tables.{shapeOf, quantizersOf};
 ghost use Rattle.reading.specs.Code.Painted.{samplesTo, drawn};
 ghost use Rattle.reading.specs.Code.Scans.{scanOf};
 ghost use Rattle.reading.specs.Code.Answers.{scanRead};
@@ -147,7 +148,7 @@ pub fn validate(s: &[u8], found: Record) -> ScanRead
 // The scan of a record is read, and then, where it was accepted and the scratch has room for all blocks, read again with its
 // samples: so a refusal writes nothing.
 pub fn draw(s: &[u8], found: Record, scratch: &mut [u8]) -> ScanRead
-    ensures { λ r. ⌜ (r ≡ scanRead (scanOf (now (s .entry)) found)) × (now (scratch .exit) ≡ drawn (now (s .entry)) found (scanOf (now (s .entry)) found) (now (scratch .entry))) ⌝ }
+    ensures { λ r. ⌜ (r ≡ scanRead (scanOf (now (s .entry)) found)) × (now (scratch .exit) ≡ drawn (shapeOf (found .frame)) (quantizersOf (now (s .entry)) found) (found .blocks) (scanOf (now (s .entry)) found) (now (scratch .entry))) ⌝ }
 {
     let blocks = found.blocks;
     match run(s, found, false, scratch) {

@@ -37,8 +37,8 @@ planIn r =
       dcs = three (dcAt r);
       acs = three (acAt r);
       quants = three (quantAt r);
-      lumas = r .hs * r .vs;
-      per = r .hs * r .vs + (r .channels - 1);
+      lumas = r .frame .hs * r .frame .vs;
+      per = r .frame .hs * r .frame .vs + (r .frame .channels - 1);
       interval = r .interval;
       blocks = r .blocks;
     }
@@ -60,4 +60,7 @@ pub record Stands (t : List ℕ) (n : Plan) (p : scan.Plan) : Type 0 where
   pub channel-is : (j : ℕ) → j < n .per → channelIn (p .shape .factors) j ≡ chan (n .lumas) j
   pub dc-is : (c : ℕ) → c < 3 → p .channels c .dc ≡ tableAt t (getD (n .dcs) c 0)
   pub ac-is : (c : ℕ) → c < 3 → p .channels c .ac ≡ tableAt t (getD (n .acs) c 0)
-  pub quant-is : (c : ℕ) → c < 3 → p .channels c .quant ≡ take 64 (drop (getD (n .quants) c 0) t)
+
+-- its places of quantizers, in the bytes t, stand for the quantizer of each channel
+abbrev pub Quantizes : List ℕ → Plan → (ℕ → List ℕ) → Type 0
+Quantizes t n quant = (c : ℕ) → c < 3 → quant c ≡ take 64 (drop (getD (n .quants) c 0) t)

@@ -53,13 +53,13 @@ fn readable(s: &[u8], found: Record) -> bool
     if s.len() < found.start {
         return false;
     }
-    if !reading::within(1, 4, found.hs) {
+    if !reading::within(1, 4, found.frame.hs) {
         return false;
     }
-    if !reading::within(1, 4, found.vs) {
+    if !reading::within(1, 4, found.frame.vs) {
         return false;
     }
-    reading::within(1, 3, found.channels)
+    reading::within(1, 3, found.frame.channels)
 }
 
 // The place of each channel's table; 0 where there is none.
@@ -96,17 +96,19 @@ impl Plan {
         if !readable(s, found) {
             return Self::none();
         }
-        let dc_places = found.dcs;
+        let frame = found.frame;
+        let tables = found.tables;
+        let dc_places = tables.dcs;
         let dc_ids = found.dcids;
-        let ac_places = found.acs;
+        let ac_places = tables.acs;
         let ac_ids = found.acids;
-        let places = found.quants;
-        let ids = found.qids;
+        let places = tables.quants;
+        let ids = frame.qids;
         let dcs = chosen(dc_places, dc_ids);
         let acs = chosen(ac_places, ac_ids);
         let quants = chosen(places, ids);
-        let lumas = found.hs * found.vs;
-        let per = reading::mcu_blocks(found.hs, found.vs, found.channels);
+        let lumas = frame.hs * frame.vs;
+        let per = reading::mcu_blocks(frame.hs, frame.vs, frame.channels);
         Self {
             start: found.start,
             dcs: dcs,

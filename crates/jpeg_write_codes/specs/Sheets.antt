@@ -28,4 +28,4 @@ unfoldable pub sure : Record → List ℕ → ℕ → ℕ → Bool
 unfolding zerosCoded
 sure r ws coded room =
     cond (ltb room (2 * coded + 4 * r .blocks)) false
-    (cond (ltb 3 (r .channels)) false (zerosCoded ws (2 * r .channels)))
+    (cond (ltb 3 (r .frame .channels)) false (zerosCoded ws (2 * r .frame .channels)))

@@ -130,8 +130,8 @@ pub fn sure(found: Record, words: &[u32], coded: usize, room: usize) -> bool
     if half - ends < coded {
         return false;
     }
-    if 3 < found.channels {
+    if 3 < found.frame.channels {
         return false;
     }
-    zeros_coded(words, 2 * found.channels)
+    zeros_coded(words, 2 * found.frame.channels)
 }

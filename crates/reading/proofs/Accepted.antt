@@ -3,13 +3,13 @@
 use Prim.Native.Nat.{ℕ, zero, suc, _+_, _*_, _-_, _^_, _<_, _≤_, zero-le}
 use mathlib.Core.Path.{_≡_, refl, ap, subst, subst⁻¹}
 use mathlib.Core.Bool.{Bool, true, false, not, cond}
-use mathlib.Core.Logic.{_⊎_, _≢_, inl, inr, ⊎-elim}
+use mathlib.Core.Logic.{_⊎_, inl, inr, ⊎-elim}
 use mathlib.Core.List.{List}
 use native.Mathlib.Omega.{arith}
 use native.Mathlib.Nat.{not-suc-le-zero, mul-le-mul, div-lt-iff-lt-mul}
 use lib.Dec.{T, leb, ltb, eqb, lit<, lit≤, leb→le, ltb→lt, eqb→eq}
-use lib.ListN.{length, getD}
-use borrow.Author.Tests.{ltb-true, eq-eqb, ne-eqb}
+use lib.ListN.{length, getD, take}
+use borrow.Author.Tests.{ltb-true, ltb-false, le-ltb, eq-eqb, ne-eqb}
 use Rattle.reading.specs.declared.Refusal.{Refusal}
 use Rattle.reading.specs.declared.Refusal.the-variants.{CutShort, Malformed, Unsupported}
 use Rattle.reading.specs.declared.Case.{Case}
@@ -19,35 +19,35 @@ use Rattle.reading.specs.declared.Kind.the-variants.{Quants, Tables, Fra
 use Rattle.reading.specs.declared.Frame.{Frame}
 use Rattle.reading.specs.declared.Header.{Header}
 use Rattle.reading.specs.declared.Record.{Record}
-use Rattle.reading.specs.Tests.{_and_, _or_, within}
+use Rattle.reading.specs.Tests.{_and_, _or_, within, apart}
 use Rattle.reading.specs.Layout.{Shape, ceiling, blockCount, outputLength, workOf}
-use Rattle.reading.specs.Tables.{shapeIn}
-use Rattle.reading.specs.Header.{Stage, more, done, stop, byte, word, moved, window, each, withQuantizer, withTable, frameKnown, acrossOf, downOf, quantsFit, threeFit, frameOf, frameFits, hasFrame, withFrame, withInterval, shapeOf, dcId, acId, recordOf, selected, kindOf, segment, segmentEnd, stepIn, step, opens, started, opening, header}
+use Rattle.reading.specs.Tables.{shapeOf}
+use Rattle.reading.specs.Header.{Stage, more, done, stop, byte, word, moved, window, eachFrom, each, withQuantizer, withTable, frameKnown, acrossOf, downOf, quantsFit, threeFit, frameOf, frameFits, hasFrame, withFrame, withInterval, dcId, acId, recordOf, selected, kindOf, segment, segmentEnd, stepIn, step, opens, started, opening, header}
 use Rattle.reading.proofs.Plain.{and-left, and-right}
 use Rattle.reading.proofs.Stages.{stop-or, chosen-or, steps-hold}
 use Rattle.reading.proofs.HeaderEnds.{is-so}
 use Rattle.reading.proofs.Places.{count-is, output-is}
 use Rattle.reading.proofs.Fits.{within-known, all-at}
 use Rattle.reading.proofs.FileBytes.{AllBytes, byte-below, word-below, window-bytes}
-use Rattle.reading.proofs.Frames.{FrameOk, Shaped, frameIn}
+use Rattle.reading.proofs.Frames.{FrameOk, Shaped}
 
 -- ---- a number for each channel
 
-each-most : (n k : ℕ) (f : ℕ → ℕ) → ((c : ℕ) → c < n → f c ≤ k) → (c : ℕ) → getD (each n f) c 0 ≤ k
-each-most n k f h c = go c
-  where
-    at : (i : ℕ) → cond (ltb i n) (f i) 0 ≤ k
-    at i = by (ltb i n) refl
-      where
-        by : (t : Bool) → ltb i n ≡ t → cond t (f i) 0 ≤ k
-        by true p = h i (ltb-true i n p)
-        by false p = zero-le
+module _ (ch : ℕ) (f : ℕ → ℕ) where
+  -- behind the last channel there is 0
+  each-past : (n i c : ℕ) → ch ≤ i + c → getD (eachFrom n i ch f) c 0 ≡ 0
+  each-past zero i c h = refl
+  each-past (suc n) i zero h = rw (le-ltb i ch (omega arith))
+  each-past (suc n) i (suc c) h = each-past n (suc i) c (omega arith)
 
-    go : (c : ℕ) → getD (each n f) c 0 ≤ k
-    go zero = at 0
-    go (suc zero) = at 1
-    go (suc (suc zero)) = at 2
-    go (suc (suc (suc c))) = zero-le
+  each-most : (k : ℕ) → ((c : ℕ) → c < ch → f c ≤ k) → (n i c : ℕ) → getD (eachFrom n i ch f) c 0 ≤ k
+  each-most k h zero i c = zero-le
+  each-most k h (suc n) i zero = by (ltb i ch) refl
+    where
+      by : (t : Bool) → ltb i ch ≡ t → cond t (f i) 0 ≤ k
+      by true p = h i (ltb-true i ch p)
+      by false p = zero-le
+  each-most k h (suc n) i (suc c) = each-most k h n (suc i) c
 
 -- ---- the frame
 
@@ -61,17 +61,12 @@ module _ (b : List ℕ) (y : AllBytes b) (known : T (frameKnown b)) (fits : T (f
   quants : T (quantsFit (frameOf b))
   quants = and-left (quantsFit (frameOf b)) _ tables
 
-  last-two : (q : ℕ → ℕ) → T (leb (q 0) 3 and leb (q 1) 3 and leb (q 2) 3) → T (leb (q 1) 3) × T (leb (q 2) 3)
-  last-two q t = let u = and-right (leb (q 0) 3) _ t in (and-left (leb (q 1) 3) _ u, and-right (leb (q 1) 3) _ u)
-
   quant-ids : (c : ℕ) → getD (frameOf b .qids) c 0 ≤ 3
-  quant-ids c = go c
+  quant-ids c = go (ltb c (byte b 5)) refl
     where
-      go : (c : ℕ) → getD (frameOf b .qids) c 0 ≤ 3
-      go zero = leb→le _ 3 (and-left (leb (getD (frameOf b .qids) 0 0) 3) _ quants)
-      go (suc zero) = leb→le _ 3 (last-two (λ i. getD (frameOf b .qids) i 0) quants .0)
-      go (suc (suc zero)) = leb→le _ 3 (last-two (λ i. getD (frameOf b .qids) i 0) quants .1)
-      go (suc (suc (suc c))) = zero-le
+      go : (t : Bool) → ltb c (byte b 5) ≡ t → getD (frameOf b .qids) c 0 ≤ 3
+      go true p = leb→le _ 3 (all-at (λ c. leb (getD (frameOf b .qids) c 0) 3) (byte b 5) 0 quants c zero-le (omega (arith, ltb-true c (byte b 5) p)))
+      go false p = omega (arith, each-past (byte b 5) (λ k. byte b (8 + 3 * k)) 3 0 c (omega (arith, ltb-false c (byte b 5) p)))
 
   counted : (byte b 5 ≡ 1) ⊎ (byte b 5 ≡ 3)
   counted = go (eqb (byte b 5) 1) refl (and-right (eqb (byte b 0) 8) _ (and-right (leb 6 (length b)) _ known))
@@ -91,21 +86,20 @@ module _ (b : List ℕ) (y : AllBytes b) (known : T (frameKnown b)) (fits : T (f
   product-fits true h = lit≤ tt
   product-fits false h = leb→le (acrossOf b * downOf b) 4 (and-left (leb (acrossOf b * downOf b) 4) _ h)
 
-  -- the ids of three channels
-  ids-apart : byte b 5 ≡ 3 → (getD (frameOf b .ids) 0 0 ≢ getD (frameOf b .ids) 1 0) × (getD (frameOf b .ids) 0 0 ≢ getD (frameOf b .ids) 2 0) × (getD (frameOf b .ids) 1 0 ≢ getD (frameOf b .ids) 2 0)
-  ids-apart e = tests (getD (frameOf b .ids) 0 0) (getD (frameOf b .ids) 1 0) (getD (frameOf b .ids) 2 0) (eqb (byte b 10) 17 and eqb (byte b 13) 17) (and-right (leb (acrossOf b * downOf b) 4) _ three)
+  -- the ids of all channels: one is apart from none, and three are tested
+  ids-apart : T (apart (take (byte b 5) (frameOf b .ids)))
+  ids-apart = ⊎-elim one three counted
     where
-      three : T (threeFit b (frameOf b))
-      three = subst (λ t. T (t or threeFit b (frameOf b))) (ne-eqb (byte b 5) 1 (λ k. omega (arith, e, k))) (and-right (quantsFit (frameOf b)) _ tables)
+      one : byte b 5 ≡ 1 → T (apart (take (byte b 5) (frameOf b .ids)))
+      one e = subst⁻¹ (λ n. T (apart (take n (each n (λ c. byte b (6 + 3 * c)))))) e tt
 
-      differ : (x y : ℕ) → T (not (eqb x y)) → x ≢ y
-      differ x y t k = subst (λ b. T (not b)) (eq-eqb x y k) t
-
-      tests : (x y z : ℕ) (r : Bool) → T (not (eqb x y) and not (eqb x z) and not (eqb y z) and r) → (x ≢ y) × (x ≢ z) × (y ≢ z)
-      tests x y z r t =
-          let u = and-right (not (eqb x y)) _ t in
-          let v = and-right (not (eqb x z)) _ u in
-          (differ x y (and-left (not (eqb x y)) _ t), differ x z (and-left (not (eqb x z)) _ u), differ y z (and-left (not (eqb y z)) _ v))
+      three : byte b 5 ≡ 3 → T (apart (take (byte b 5) (frameOf b .ids)))
+      three e = and-left (apart (take (byte b 5) (frameOf b .ids))) _ (and-right (leb (acrossOf b * downOf b) 4) _ tested)
+        where
+          tested : T (threeFit b (frameOf b))
+          tested =
+              subst (λ t. T (t or threeFit b (frameOf b))) (ne-eqb (byte b 5) 1 (λ k. omega (arith, e, k)))
+              (and-right (quantsFit (frameOf b)) _ tables)
 
   pub frame-ok : FrameOk (frameOf b)
   frame-ok =
@@ -118,9 +112,9 @@ module _ (b : List ℕ) (y : AllBytes b) (known : T (frameKnown b)) (fits : T (f
         down = factor-fits (eqb (byte b 5) 1) (downOf b) (and-left (within 1 4 (downOf b)) _ (and-right (within 1 4 (acrossOf b)) _ sides));
         product = product-fits (eqb (byte b 5) 1) (and-right (quantsFit (frameOf b)) _ tables);
         single = λ e. (ap (λ t. cond t 1 (acrossOf b)) (eq-eqb (byte b 5) 1 e), ap (λ t. cond t 1 (downOf b)) (eq-eqb (byte b 5) 1 e));
-        ids = λ c. omega (arith, each-most (byte b 5) 255 (λ k. byte b (6 + 3 * k)) (λ k h. omega (arith, byte-below b y (6 + 3 * k))) c);
+        ids = λ c. omega (arith, each-most (byte b 5) (λ k. byte b (6 + 3 * k)) 255 (λ k h. omega (arith, byte-below b y (6 + 3 * k))) 3 0 c);
         qids = quant-ids;
-        apart = ids-apart;
+        distinct = ids-apart;
       }
 
 -- ---- sizes
@@ -157,22 +151,22 @@ module _ (f : Frame) (ok : FrameOk f) where
 -- ---- the record
 
 pub record Accepted (colour : Bool) (r : Record) : Type 0 where
-  pub frame : FrameOk (frameIn r)
+  pub frame : FrameOk (r .frame)
   pub dcids : (c : ℕ) → getD (r .dcids) c 0 ≤ 3
   pub acids : (c : ℕ) → getD (r .acids) c 0 ≤ 3
-  pub blocks : r .blocks ≡ blockCount (shapeIn r)
+  pub blocks : r .blocks ≡ blockCount (shapeOf (r .frame))
   pub scratch : r .scratch ≡ 64 * r .blocks
-  pub output : r .output ≡ r .width * r .height * r .channels
+  pub output : r .output ≡ r .frame .width * r .frame .height * r .frame .channels
   pub work : r .work ≡ 3136 * r .blocks + r .output
   pub choice : r .colour ≡ colour
   pub interval : r .interval < 65536
 
 module _ (colour : Bool) (r : Record) (a : Accepted colour r) where
   pub blocks-below : r .blocks < 2 ^ 29
-  blocks-below = omega (arith, a .blocks, blocks-are (frameIn r) (a .frame), count-small (frameIn r) (a .frame))
+  blocks-below = omega (arith, a .blocks, blocks-are (r .frame) (a .frame), count-small (r .frame) (a .frame))
 
   pub output-below : r .output < 2 ^ 34
-  output-below = omega (arith, a .output, output-small (frameIn r) (a .frame))
+  output-below = omega (arith, a .output, output-small (r .frame) (a .frame))
 
   pub work-below : r .work < 2 ^ 41
   work-below = omega (arith, a .work, blocks-below, output-below)
@@ -182,8 +176,8 @@ module _ (colour : Bool) where
   found-ok b h e ok n t =
       record {
         frame = ok;
-        dcids = each-most (h .frame .channels) 3 (dcId b) (λ c p. leb→le (dcId b c) 3 (and-left (leb (dcId b c) 3) _ (both c p)));
-        acids = each-most (h .frame .channels) 3 (acId b) (λ c p. leb→le (acId b c) 3 (and-right (leb (dcId b c) 3) _ (both c p)));
+        dcids = each-most (h .frame .channels) (dcId b) 3 (λ c p. leb→le (dcId b c) 3 (and-left (leb (dcId b c) 3) _ (both c p))) 3 0;
+        acids = each-most (h .frame .channels) (acId b) 3 (λ c p. leb→le (acId b c) 3 (and-right (leb (dcId b c) 3) _ (both c p))) 3 0;
         blocks = refl;
         scratch = refl;
         output = bytes-are (h .frame) ok;

@@ -8,10 +8,11 @@ use lib.ListN.{length, take, length-append}
 use lib.IntN.{ℤ}
 use Rattle.reading.specs.declared.Bits.{Bits}
 use Rattle.reading.specs.declared.Record.{Record}
-use Rattle.reading.specs.Layout.{channelOf}
+use Rattle.reading.specs.Layout.{Shape, channelOf}
+use Rattle.reading.specs.Tables.{shapeOf, quantizersOf}
 use Rattle.reading.specs.Transform.{coefficients, samples}
 use Rattle.reading.specs.Code.Painted.{samplesTo}
-use Rattle.reading.specs.Reading.{dequantized, blockSamples, allSamples}
+use Rattle.reading.specs.Reading.{dequantized, blockSamples, samplesOf}
 use Rattle.reading.specs.Scan.{Plan, planOf, noPredictors, whole, broke, levels}
 use Rattle.reading.specs.Code.Scans.{nowhere, readable, scanOf}
 use Rattle.reading.proofs.DoubleSum.{length-samples}
@@ -32,26 +33,28 @@ fine-whole p k ps ((v ∷ l) ∷ ls) f = (ap suc (f .0 .whole), fine-whole p (su
 
 -- ---- the samples of blocks one after another
 
-abbrev pub samplesOf : Plan → ℕ → List (List ℤ) → List ℕ
-samplesOf p k ls = blockSamples (dequantized p k ls)
+abbrev pub samplesFrom : Shape → (ℕ → List ℕ) → ℕ → List (List ℤ) → List ℕ
+samplesFrom p q k ls = blockSamples (dequantized p q k ls)
 
 pub samplesTo-length : (q : List ℕ) (l : List ℤ) (n : ℕ) → length (samplesTo q l n) ≡ 64
 unfolding samplesTo
 samplesTo-length q l n = length-samples (coefficients q (take n l))
 
-pub samplesOf-length : (p : Plan) (k : ℕ) (ls : List (List ℤ)) → length (samplesOf p k ls) ≡ 64 * length ls
-samplesOf-length p k [] = refl
-samplesOf-length p k (l ∷ ls) =
-    let c : List ℤ = coefficients (p .channels (channelOf (p .shape) k) .quant) l in
-    length-append (samples c) (samplesOf p (suc k) ls) ∙ ap₂ (λ (a b : ℕ). a + b) (length-samples c) (samplesOf-length p (suc k) ls) ∙ omega arith
+module _ (p : Shape) (q : ℕ → List ℕ) where
+  pub samplesFrom-length : (k : ℕ) (ls : List (List ℤ)) → length (samplesFrom p q k ls) ≡ 64 * length ls
+  samplesFrom-length k [] = refl
+  samplesFrom-length k (l ∷ ls) =
+      let c : List ℤ = coefficients (q (channelOf p k)) l in
+      length-append (samples c) (samplesFrom p q (suc k) ls)
+      ∙ ap₂ (λ (a b : ℕ). a + b) (length-samples c) (samplesFrom-length (suc k) ls) ∙ omega arith
 
-pub samplesOf-append : (p : Plan) (k : ℕ) (ls ms : List (List ℤ)) → samplesOf p k (ls ++ ms) ≡ samplesOf p k ls ++ samplesOf p (k + length ls) ms
-samplesOf-append p k [] ms = let z : k ≡ k + 0 = omega arith in ap (λ (i : ℕ). samplesOf p i ms) z
-samplesOf-append p k (l ∷ ls) ms =
-    let c : List ℤ = coefficients (p .channels (channelOf (p .shape) k) .quant) l in
-    let z : suc k + length ls ≡ k + suc (length ls) = omega arith in
-    ap (λ (r : List ℕ). samples c ++ r) (samplesOf-append p (suc k) ls ms ∙ ap (λ (i : ℕ). samplesOf p (suc k) ls ++ samplesOf p i ms) z)
-    ∙ sym (append-assoc (samples c) (samplesOf p (suc k) ls) (samplesOf p (k + suc (length ls)) ms))
+  pub samplesFrom-append : (k : ℕ) (ls ms : List (List ℤ)) → samplesFrom p q k (ls ++ ms) ≡ samplesFrom p q k ls ++ samplesFrom p q (k + length ls) ms
+  samplesFrom-append k [] ms = let z : k ≡ k + 0 = omega arith in ap (λ (i : ℕ). samplesFrom p q i ms) z
+  samplesFrom-append k (l ∷ ls) ms =
+      let c : List ℤ = coefficients (q (channelOf p k)) l in
+      let z : suc k + length ls ≡ k + suc (length ls) = omega arith in
+      ap (λ (r : List ℕ). samples c ++ r) (samplesFrom-append (suc k) ls ms ∙ ap (λ (i : ℕ). samplesFrom p q (suc k) ls ++ samplesFrom p q i ms) z)
+      ∙ sym (append-assoc (samples c) (samplesFrom p q (suc k) ls) (samplesFrom p q (k + suc (length ls)) ms))
 
 -- ---- a record's scan
 
@@ -76,5 +79,5 @@ module _ (s : List ℕ) (r : Record) {ls : List (List ℤ)} {b : Bits} (e : leve
   pub blocks-whole : Whole ls
   blocks-whole = fine-whole (planOf s r) 0 noPredictors ls (levels-fine s r ls b e .0)
 
-  pub samples-counted : length (allSamples s r ls) ≡ 64 * r .blocks
-  samples-counted = samplesOf-length (planOf s r) 0 ls ∙ ap (λ (k : ℕ). 64 * k) blocks-counted
+  pub samples-counted : length (samplesOf s r ls) ≡ 64 * r .blocks
+  samples-counted = samplesFrom-length (shapeOf (r .frame)) (quantizersOf s r) 0 ls ∙ ap (λ (k : ℕ). 64 * k) blocks-counted

@@ -24,9 +24,9 @@ use Rattle.reading.specs.Bits.{firstOf, afterFull, freshFrom, oneAt, one
 use Rattle.reading.specs.Block.{block}
 use Rattle.reading.specs.Huffman.{Table}
 use Rattle.reading.specs.Header.{done, header}
-use Rattle.reading.specs.Layout.{channelOf, restartDue, restartCode}
-use Rattle.reading.specs.Tables.{shapeIn}
-use Rattle.reading.specs.Scan.{Plan, planOf, channelAt, noPredictors, restart, closed, Turn, Cursor, Scanned, whole, broke, here, onwards, readOn, started, ended, levels}
+use Rattle.reading.specs.Layout.{channelOf, mcuOf, opensMcu, dueBefore, restartBefore}
+use Rattle.reading.specs.Tables.{shapeOf}
+use Rattle.reading.specs.Scan.{Plan, planOf, channelAt, noPredictors, restart, ahead, closed, Turn, Cursor, Scanned, whole, broke, here, onwards, readOn, started, ended, levels}
 use Rattle.reading.specs.Reading.{accepted, refused, reading}
 use Rattle.reading.specs.Words.{brokenAt, cutTurn, cutFrom, cutAt}
 use Rattle.reading.proofs.Readings.{no-fault}
@@ -246,21 +246,28 @@ module _ (s : List ℕ) (c : ℕ) where
           rw (gone c s (b .at + fulls (drop (b .at) (take c s))) out, never (padded b) (ltb 0 (fulls (drop (b .at) (take c s)))))
           (lost (padded b and ltb 0 (fulls (drop (b .at) s)) and isAt s (b .at + fulls (drop (b .at) s)) code) (b .at + fulls (drop (b .at) s) + 1) (omega (arith, more)))
 
-  restart-cut : (p : Plan) (k : ℕ) (ps : List ℤ) (b : Bits) → b .at ≤ c → Cut c Broken (restart (file s) p k ps b) (restart (file (take c s)) p k ps b)
+  ahead-cut : (p : Plan) (k : ℕ) (ps : List ℤ) (b : Bits) → b .at ≤ c → Cut c Broken (ahead (file s) p k ps b) (ahead (file (take c s)) p k ps b)
   unfolding file
-  restart-cut p k ps b h = go (restartDue (p .shape) (p .interval) k)
+  ahead-cut p k ps b h = opens (opensMcu (p .shape) k)
     where
       behind : (o o′ : Read Bits (Unit {0})) → Cut c Broken o o′ → Cut c Broken (onward o (λ _. give noPredictors)) (onward o′ (λ _. give noPredictors))
       behind _ _ (kept a e i) = kept noPredictors e i
       behind _ _ (missing a e i) = missing noPredictors e i
       behind _ _ (broken f o) = broken f (onward o (λ _. give noPredictors))
 
+      m : ℕ
+      m = mcuOf (p .shape) k
+
       code : ℕ
-      code = restartCode (p .shape) (p .interval) k
+      code = restartBefore (p .interval) m
 
       go : (t : Bool) → Cut c Broken (cond t (mark s code >> give noPredictors) (give ps) b) (cond t (mark (take c s) code >> give noPredictors) (give ps) b)
       go true = behind (mark s code b) (mark (take c s) code b) (mark-cut code b h)
       go false = kept ps b h
+
+      opens : (t : Bool) → Cut c Broken (cond t (restart (file s) (p .interval) m ps) (give ps) b) (cond t (restart (file (take c s)) (p .interval) m ps) (give ps) b)
+      opens true = go (dueBefore (p .interval) m)
+      opens false = kept ps b h
 
   -- the end of the whole file is not in the prefix
   closed-cut : (b e : Bits) (u : Unit {0}) → b .at ≤ c → c < length s → closed (file s) b ≡ got u e → closed (file (take c s)) b ≡ fault Broken
@@ -354,26 +361,26 @@ module _ (s : List ℕ) (c : ℕ) where
             rw (le-ltb c (b .at) h, le-ltb c (e .at) i)
             (one-more l (readOn (file (take c s)) p n (after t e)) (next t e) (ih (after t e) i (rest-read t e k)))
 
-        by-restart : (o o′ : Read Bits (List ℤ)) → Cut c Broken o o′
+        by-ahead : (o o′ : Read Bits (List ℤ)) → Cut c Broken o o′
             → onwards (here (file s) q (byRestart s o)) (later s) ≡ whole ls last
             → onwards (onwards (here (file (take c s)) q (byRestart (take c s) o′)) (later (take c s))) (ended (file (take c s))) ≡ broke (cutTurn c q o (byRestart s o) next)
         unfolding file
-        by-restart _ _ (broken f o) k = absurd (no-break _ ls last k)
-        by-restart _ _ (missing qs b i) k = go (blockAt s qs b) k
+        by-ahead _ _ (broken f o) k = absurd (no-break _ ls last k)
+        by-ahead _ _ (missing qs b i) k = go (blockAt s qs b) k
           where
             go : (o : Read Bits (List ℤ)) → onwards (here (file s) q (byBlock qs o)) (later s) ≡ whole ls last
                 → _≡_ {A = Scanned Bits (List (List ℤ))} (broke (brokenAt Broken q)) (broke (cutTurn c q (got qs b) (byBlock qs o) next))
             go (got l e) j = rw (lt-ltb c (b .at) i) refl
             go (fault f) j = absurd (no-break _ ls last j)
-        by-restart _ _ (kept qs b i) k =
+        by-ahead _ _ (kept qs b i) k =
             by-block qs b i (blockAt s qs b) (blockAt (take c s) qs b)
             (block-cuts (p .channels (channelOf (p .shape) (q .done)) .dc) (p .channels (channelOf (p .shape) (q .done)) .ac) (getD qs (channelOf (p .shape) (q .done)) (pos 0)) .cut b i) k
 
       pub turn-cut : q .bits .at ≤ c → Read-out (suc n) q → Breaks (suc n) q
       unfolding file cutFrom
       turn-cut h r =
-          by-restart (r .levels-read) (r .last) (r .behind) (r .end) (restart (file s) p (q .done) (q .predictors) (q .bits)) (restart (file (take c s)) p (q .done) (q .predictors) (q .bits))
-          (restart-cut p (q .done) (q .predictors) (q .bits) h) (r .read)
+          by-ahead (r .levels-read) (r .last) (r .behind) (r .end) (ahead (file s) p (q .done) (q .predictors) (q .bits)) (ahead (file (take c s)) p (q .done) (q .predictors) (q .bits))
+          (ahead-cut p (q .done) (q .predictors) (q .bits) h) (r .read)
 
     pub blocks-cut : (n : ℕ) (q : Cursor Bits) → q .bits .at ≤ c → Read-out n q → Breaks n q
     unfolding file cutFrom
@@ -413,7 +420,7 @@ module _ (s : List ℕ) (c : ℕ) where
     cut-header = header-prefix s (take c s) colour r same-head (header-within s colour r (apart .head)) (omega (arith, length-take c s, from, less)) (apart .head)
 
     same-plan : planOf (take c s) r ≡ planOf s r
-    same-plan = ap (λ (l : List ℕ). record { shape = shapeIn r; interval = r .interval; channels = channelAt l r }) (sym same-head)
+    same-plan = ap (λ (l : List ℕ). record { shape = shapeOf (r .frame); interval = r .interval; channels = channelAt l r }) (sym same-head)
 
     pub cut-levels : levels (take c s) r ≡ broke (cutAt s r c)
     unfolding levels cutAt

@@ -24,7 +24,9 @@ use Rattle.reading.specs.declared.Refusal.the-variants.{OverBudget, Shor
 use Rattle.reading.specs.declared.Verdict.{Verdict}
 use Rattle.reading.specs.declared.Verdict.the-variants.{Accepted, Refused}
 use Rattle.reading.specs.Tests.{_or_, over}
-use Rattle.reading.specs.Reading.{Reading, accepted, refused, reading, allSamples, pixel, picture}
+use Rattle.reading.specs.Layout.{Shape, channelsIn, outputLength}
+use Rattle.reading.specs.Tables.{shapeOf}
+use Rattle.reading.specs.Reading.{Reading, accepted, refused, reading, samplesOf, pixel, picture, pictureOf}
 use Rattle.reading.specs.Judging.{Judged, accepts, refuses, give, remaining}
 use Rattle.reading.specs.Calls.{number, headerPrice, same, shortRoom, itsLevels, decoding, Decoded, decodedWith, decoded, decode, inspect}
 use Rattle.reading.specs.Words.{Not, ReadsAs, Roomy}
@@ -32,6 +34,7 @@ use Rattle.reading.proofs.HeaderEnds.{or-left, or-right, is-so}
 use Rattle.reading.proofs.FileBytes.{AllBytes}
 use Rattle.reading.proofs.Equal.{records-equal, same-self}
 use Rattle.reading.proofs.Demand3.{taken-apart, accepted-record}
+use Rattle.reading.proofs.Accepted.{bytes-are}
 use Rattle.reading.proofs.Judgement.{tested, charged, inspect-accepts}
 use Rattle.reading.proofs.Choice.{recolour, reread, reading-choice}
 use Rattle.reading.proofs.Counted.{samples-counted}
@@ -42,8 +45,10 @@ use Rattle.reading.proofs.States.{header-fits}
 pub over-length : (new old : List ℕ) → length new ≤ length old → length (over new old) ≡ length old
 over-length new old h = length-append new (drop (length new) old) ∙ omega (arith, length-drop (length new) old)
 
-pub picture-length : (r : Record) (t : List ℕ) → length (picture r t) ≡ r .output
-picture-length r t = length-from (λ k. pixel r t (k / r .channels % r .width) (k / r .channels / r .width) (k % r .channels)) 0 (r .output)
+pub picture-length : (p : Shape) (colour : Bool) (t : List ℕ) → length (picture p colour t) ≡ outputLength p
+picture-length p colour t =
+    let ch = channelsIn p in
+    length-from (λ k. pixel p colour t (k / ch % p .width) (k / ch / p .width) (k % ch)) 0 (outputLength p)
 
 module _ (s : List ℕ) (r : Record) (out scratch : List ℕ) (budget : Budget) where
   abbrev pub price : ℕ
@@ -57,8 +62,8 @@ module _ (s : List ℕ) (r : Record) (out scratch : List ℕ) (budget : Budget) 
     pub room : Roomy r out scratch
     pub paid : price ≤ budget .left
     pub left : d .answer .budget ≡ remaining budget price
-    pub picture-is : d .output ≡ over (picture r (allSamples s r blocks)) out
-    pub samples-are : d .scratch ≡ over (allSamples s r blocks) scratch
+    pub picture-is : d .output ≡ over (pictureOf r (samplesOf s r blocks)) out
+    pub samples-are : d .scratch ≡ over (samplesOf s r blocks) scratch
 
   -- ---- a refused one
 
@@ -188,7 +193,7 @@ module _ (s : List ℕ) (r : Record) (out scratch : List ℕ) (budget : Budget) 
       → reading s (r .colour) ≡ accepted r ls
       → Roomy r out scratch
       → price ≤ budget .left
-      → decode s r out scratch budget ≡ decodedWith r out scratch (remaining budget price) (allSamples s r ls)
+      → decode s r out scratch budget ≡ decodedWith r out scratch (remaining budget price) (samplesOf s r ls)
   unfolding decode
   decodes ls e a p = rw (le-ltb (length out) (r .output) (a .0), le-ltb (length scratch) (r .scratch) (a .1), le-ltb (budget .left) price p, e, same-self r) refl
 
@@ -197,7 +202,7 @@ module _ (s : List ℕ) (r : Record) (out scratch : List ℕ) (budget : Budget) 
       (ls : List (List ℤ))
       → reading s (r .colour) ≡ accepted r ls
       → decode s r out scratch budget .answer .verdict ≡ Accepted
-      → (decode s r out scratch budget .scratch ≡ over (allSamples s r ls) scratch) × (decode s r out scratch budget .output ≡ over (picture r (allSamples s r ls)) out)
+      → (decode s r out scratch budget .scratch ≡ over (samplesOf s r ls) scratch) × (decode s r out scratch budget .output ≡ over (pictureOf r (samplesOf s r ls)) out)
   decode-draws ls e v =
       let k = decode-accepts .0 v in
       let w = decodes ls e (k .0) (k .1) in
@@ -219,18 +224,24 @@ module _ (s : List ℕ) (r : Record) (out scratch : List ℕ) (budget : Budget) 
       go d (Refused x) w = w .left
 
   -- the samples are as many as the record says
-  pub drawn-counted : AllBytes s → (ls : List (List ℤ)) → reading s (r .colour) ≡ accepted r ls → length (allSamples s r ls) ≡ r .scratch
+  pub drawn-counted : AllBytes s → (ls : List (List ℤ)) → reading s (r .colour) ≡ accepted r ls → length (samplesOf s r ls) ≡ r .scratch
   drawn-counted y ls e =
       let t = taken-apart s (r .colour) r ls e in
       samples-counted s r (t .body) ∙ sym (header-fits s (r .colour) y r (t .head) .accepted .scratch)
+
+  -- and so are the bytes of the picture
+  pub picture-counted : AllBytes s → (ls : List (List ℤ)) → reading s (r .colour) ≡ accepted r ls → (t : List ℕ) → length (pictureOf r t) ≡ r .output
+  picture-counted y ls e t =
+      let a = header-fits s (r .colour) y r (taken-apart s (r .colour) r ls e .head) .accepted in
+      picture-length (shapeOf (r .frame)) (r .colour) t ∙ bytes-are (r .frame) (a .frame) ∙ sym (a .output)
 
   pub decode-lengths : AllBytes s → (length (decode s r out scratch budget .output) ≡ length out) × (length (decode s r out scratch budget .scratch) ≡ length scratch)
   decode-lengths y = go (decode s r out scratch budget) (decode s r out scratch budget .answer .verdict) decode-says
     where
       go : (d : Decoded) (v : Verdict) → Says v d → (length (d .output) ≡ length out) × (length (d .scratch) ≡ length scratch)
       go d Accepted w = (
-        ap length (w .picture-is) ∙ over-length (picture r (allSamples s r (w .blocks))) out (omega (arith, picture-length r (allSamples s r (w .blocks)), w .room .0)),
-        ap length (w .samples-are) ∙ over-length (allSamples s r (w .blocks)) scratch (omega (arith, drawn-counted y (w .blocks) (w .read), w .room .1)),
+        ap length (w .picture-is) ∙ over-length (pictureOf r (samplesOf s r (w .blocks))) out (omega (arith, picture-counted y (w .blocks) (w .read) (samplesOf s r (w .blocks)), w .room .0)),
+        ap length (w .samples-are) ∙ over-length (samplesOf s r (w .blocks)) scratch (omega (arith, drawn-counted y (w .blocks) (w .read), w .room .1)),
       )
       go d (Refused x) w = (ap length (w .output), ap length (w .scratch-is))
 

@@ -9,7 +9,7 @@ use native.Mathlib.Numerals.{add-one}
 use Rattle.reading.specs.Layout.{blockCount, channelOf}
 use Rattle.reading.proofs.Places.{channel-in}
 use Rattle.reading.specs.Scan.{planOf}
-use Rattle.reading.specs.Tables.{shapeIn, quantAt, dcAt, acAt}
+use Rattle.reading.specs.Tables.{shapeOf, quantAt, dcAt, acAt}
 use Rattle.reading.proofs.ScanWritten.{GoodPlan}
 use lib.Dec.{T, eqb, ltb, leb, eqb→eq, leb→le, ltb→lt, lit<}
 use lib.ListN.{length, take, drop, getD, set, replicate, length-take, length-drop}
@@ -68,19 +68,19 @@ places-at P (x ∷ l) (suc i) h k = places-at P l i (h .1) k
 module _ (s : List ℕ) (colour : Bool) where
   -- what holds of a header's state
   pub record Inv (h : Header) : Type 0 where
-    pub dcs : Places (TableOk 0 s (h .at)) (h .dcs)
-    pub acs : Places (TableOk 1 s (h .at)) (h .acs)
-    pub quants : Places (QuantOk s (h .at)) (h .quants)
+    pub dcs : Places (TableOk 0 s (h .at)) (h .tables .dcs)
+    pub acs : Places (TableOk 1 s (h .at)) (h .tables .acs)
+    pub quants : Places (QuantOk s (h .at)) (h .tables .quants)
     pub lum : 0 < h .frame .channels → 0 < h .frame .hs * h .frame .vs
 
   pub record Ready (r : Record) : Type 0 where
-    pub dcs : Places (TableOk 0 s (r .start)) (r .dcs)
-    pub acs : Places (TableOk 1 s (r .start)) (r .acs)
-    pub quants : Places (QuantOk s (r .start)) (r .quants)
+    pub dcs : Places (TableOk 0 s (r .start)) (r .tables .dcs)
+    pub acs : Places (TableOk 1 s (r .start)) (r .tables .acs)
+    pub quants : Places (QuantOk s (r .start)) (r .tables .quants)
     pub whole : T (complete r)
-    pub some-channel : 0 < r .channels
-    pub lum : 0 < r .hs * r .vs
-    pub count : r .blocks ≡ blockCount (shapeIn r)
+    pub some-channel : 0 < r .frame .channels
+    pub lum : 0 < r .frame .hs * r .frame .vs
+    pub count : r .blocks ≡ blockCount (shapeOf (r .frame))
 
   pub data Kept : Stage → Type 0 where
     on : (h : Header) → Inv h → Kept (more h)
@@ -94,8 +94,8 @@ module _ (s : List ℕ) (colour : Bool) where
   later-q a b h x t = record { nonzero = t .nonzero; by = le-trans (t .by) h }
 
   -- tables kept at a later place
-  kept : (h : Header) → Inv h → (i : Header) → h .dcs ≡ i .dcs → h .acs ≡ i .acs → h .quants ≡ i .quants → h .at ≤ i .at → (0 < i .frame .channels → 0 < i .frame .hs * i .frame .vs) → Inv i
-  kept h v i d a q k l = record { lum = l; quants = subst (Places (QuantOk s (i .at))) q (places-map _ _ (later-q (h .at) (i .at) k) (h .quants) (v .quants)); dcs = subst (Places (TableOk 0 s (i .at))) d (places-map _ _ (later (h .at) (i .at) k) (h .dcs) (v .dcs)); acs = subst (Places (TableOk 1 s (i .at))) a (places-map _ _ (later (h .at) (i .at) k) (h .acs) (v .acs)) }
+  kept : (h : Header) → Inv h → (i : Header) → h .tables .dcs ≡ i .tables .dcs → h .tables .acs ≡ i .tables .acs → h .tables .quants ≡ i .tables .quants → h .at ≤ i .at → (0 < i .frame .channels → 0 < i .frame .hs * i .frame .vs) → Inv i
+  kept h v i d a q k l = record { lum = l; quants = subst (Places (QuantOk s (i .at))) q (places-map _ _ (later-q (h .at) (i .at) k) (h .tables .quants) (v .quants)); dcs = subst (Places (TableOk 0 s (i .at))) d (places-map _ _ (later (h .at) (i .at) k) (h .tables .dcs) (v .dcs)); acs = subst (Places (TableOk 1 s (i .at))) a (places-map _ _ (later (h .at) (i .at) k) (h .tables .acs) (v .acs)) }
 
   frame-lum : (b : List ℕ) → T (frameFits b (frameOf b)) → 0 < frameOf b .hs * frameOf b .vs
   frame-lum b t = go (eqb (byte b 5) 1)
@@ -125,9 +125,9 @@ module _ (s : List ℕ) (colour : Bool) where
       stop-or Kept off _ _ _
       (λ t1. stop-or Kept off _ _ _
       (λ t2. stop-or Kept off _ _ _ (λ t3. stop-or Kept off _ _ _ (λ t4. stop-or Kept off _ _ _ (λ t5. ready (recordOf b colour h e) (record {
-        dcs = places-map _ _ (later (h .at) e (le-trans p q)) (h .dcs) (v .dcs);
-        acs = places-map _ _ (later (h .at) e (le-trans p q)) (h .acs) (v .acs);
-        quants = places-map _ _ (later-q (h .at) e (le-trans p q)) (h .quants) (v .quants);
+        dcs = places-map _ _ (later (h .at) e (le-trans p q)) (h .tables .dcs) (v .dcs);
+        acs = places-map _ _ (later (h .at) e (le-trans p q)) (h .tables .acs) (v .acs);
+        quants = places-map _ _ (later-q (h .at) e (le-trans p q)) (h .tables .quants) (v .quants);
         whole = is-so (complete (recordOf b colour h e)) t5;
         some-channel = ltb→lt 0 (h .frame .channels) (is-so (hasFrame h) t1);
         lum = v .lum (ltb→lt 0 (h .frame .channels) (is-so (hasFrame h) t1));
@@ -163,9 +163,9 @@ module _ (s : List ℕ) (colour : Bool) where
   table-kept : (h : Header) → Inv h → (e : ℕ) → T (tableFits (window s (h .at) e)) → Inv (withTable (window s (h .at) e) h)
   table-kept h v e t =
       record {
-        dcs = put-kept (eqb (byte w 0 / 16) 0) (h .at + (17 + sum (countsOf w))) (h .dcs) (byte w 0 % 16) (h .at + 1) (places-map _ _ (later (h .at) (h .at + (17 + sum (countsOf w))) (omega arith)) (h .dcs) (v .dcs)) (λ c. ok 0 (eqb→eq _ 0 (subst⁻¹ T c tt)));
-        acs = put-kept (eqb (byte w 0 / 16) 1) (h .at + (17 + sum (countsOf w))) (h .acs) (byte w 0 % 16) (h .at + 1) (places-map _ _ (later (h .at) (h .at + (17 + sum (countsOf w))) (omega arith)) (h .acs) (v .acs)) (λ c. ok 1 (eqb→eq _ 1 (subst⁻¹ T c tt)));
-        quants = places-map _ _ (later-q (h .at) (h .at + (17 + sum (countsOf w))) (omega arith)) (h .quants) (v .quants);
+        dcs = put-kept (eqb (byte w 0 / 16) 0) (h .at + (17 + sum (countsOf w))) (h .tables .dcs) (byte w 0 % 16) (h .at + 1) (places-map _ _ (later (h .at) (h .at + (17 + sum (countsOf w))) (omega arith)) (h .tables .dcs) (v .dcs)) (λ c. ok 0 (eqb→eq _ 0 (subst⁻¹ T c tt)));
+        acs = put-kept (eqb (byte w 0 / 16) 1) (h .at + (17 + sum (countsOf w))) (h .tables .acs) (byte w 0 % 16) (h .at + 1) (places-map _ _ (later (h .at) (h .at + (17 + sum (countsOf w))) (omega arith)) (h .tables .acs) (v .acs)) (λ c. ok 1 (eqb→eq _ 1 (subst⁻¹ T c tt)));
+        quants = places-map _ _ (later-q (h .at) (h .at + (17 + sum (countsOf w))) (omega arith)) (h .tables .quants) (v .quants);
         lum = v .lum;
       }
     where
@@ -194,9 +194,9 @@ module _ (s : List ℕ) (colour : Bool) where
   quant-kept : (h : Header) → Inv h → (e : ℕ) → T (quantizerFits (window s (h .at) e)) → Inv (withQuantizer (window s (h .at) e) h)
   quant-kept h v e t =
       record {
-        dcs = places-map _ _ (later (h .at) (h .at + 65) (omega arith)) (h .dcs) (v .dcs);
-        acs = places-map _ _ (later (h .at) (h .at + 65) (omega arith)) (h .acs) (v .acs);
-        quants = places-set (QuantOk s (h .at + 65)) (h .quants) (byte w 0) (h .at + 1) (places-map _ _ (later-q (h .at) (h .at + 65) (omega arith)) (h .quants) (v .quants)) ok;
+        dcs = places-map _ _ (later (h .at) (h .at + 65) (omega arith)) (h .tables .dcs) (v .dcs);
+        acs = places-map _ _ (later (h .at) (h .at + 65) (omega arith)) (h .tables .acs) (v .acs);
+        quants = places-set (QuantOk s (h .at + 65)) (h .tables .quants) (byte w 0) (h .at + 1) (places-map _ _ (later-q (h .at) (h .at + 65) (omega arith)) (h .tables .quants) (v .quants)) ok;
         lum = v .lum;
       }
     where
@@ -284,16 +284,16 @@ pub record Stands (s : List ℕ) (r : Record) (c : ℕ) : Type 0 where
   pub dc : TableOk 0 s (r .start) (dcAt r c)
   pub ac : TableOk 1 s (r .start) (acAt r c)
 
-pub tables-stand : (s : List ℕ) (colour : Bool) (r : Record) → header s colour ≡ done r → (k : ℕ) → Stands s r (channelOf (shapeIn r) k)
+pub tables-stand : (s : List ℕ) (colour : Bool) (r : Record) → header s colour ≡ done r → (k : ℕ) → Stands s r (channelOf (shapeOf (r .frame)) k)
 tables-stand s colour r e k =
     record {
-      quant = places-at _ (r .quants) (getD (r .qids) c 0) (q .quants) (ltb→lt 0 _ (and-left (ltb 0 (quantAt r c)) _ there));
-      dc = places-at _ (r .dcs) (getD (r .dcids) c 0) (q .dcs) (ltb→lt 0 _ (and-left (ltb 0 (dcAt r c)) (ltb 0 (acAt r c)) (and-right (ltb 0 (quantAt r c)) _ there)));
-      ac = places-at _ (r .acs) (getD (r .acids) c 0) (q .acs) (ltb→lt 0 _ (and-right (ltb 0 (dcAt r c)) (ltb 0 (acAt r c)) (and-right (ltb 0 (quantAt r c)) _ there)));
+      quant = places-at _ (r .tables .quants) (getD (r .frame .qids) c 0) (q .quants) (ltb→lt 0 _ (and-left (ltb 0 (quantAt r c)) _ there));
+      dc = places-at _ (r .tables .dcs) (getD (r .dcids) c 0) (q .dcs) (ltb→lt 0 _ (and-left (ltb 0 (dcAt r c)) (ltb 0 (acAt r c)) (and-right (ltb 0 (quantAt r c)) _ there)));
+      ac = places-at _ (r .tables .acs) (getD (r .acids) c 0) (q .acs) (ltb→lt 0 _ (and-right (ltb 0 (dcAt r c)) (ltb 0 (acAt r c)) (and-right (ltb 0 (quantAt r c)) _ there)));
     }
   where
     c : ℕ
-    c = channelOf (shapeIn r) k
+    c = channelOf (shapeOf (r .frame)) k
 
     q : Ready s colour r
     q = header-ready s colour r e
@@ -301,12 +301,12 @@ tables-stand s colour r e k =
     none : (n : ℕ) → 0 + n ≡ n
     none n = omega arith
 
-    there : T (ltb 0 (quantAt r (channelOf (shapeIn r) k)) and ltb 0 (dcAt r (channelOf (shapeIn r) k)) and ltb 0 (acAt r (channelOf (shapeIn r) k)))
-    there = all-at (λ c. ltb 0 (quantAt r c) and ltb 0 (dcAt r c) and ltb 0 (acAt r c)) (r .channels) 0 (q .whole) (channelOf (shapeIn r) k) zero-le (subst (λ i. channelOf (shapeIn r) k < i) (sym (none (r .channels))) (channel-in (r .width) (r .height) (r .hs) (r .vs) (r .channels) k (q .some-channel) (q .lum)))
+    there : T (ltb 0 (quantAt r (channelOf (shapeOf (r .frame)) k)) and ltb 0 (dcAt r (channelOf (shapeOf (r .frame)) k)) and ltb 0 (acAt r (channelOf (shapeOf (r .frame)) k)))
+    there = all-at (λ c. ltb 0 (quantAt r c) and ltb 0 (dcAt r c) and ltb 0 (acAt r c)) (r .frame .channels) 0 (q .whole) (channelOf (shapeOf (r .frame)) k) zero-le (subst (λ i. channelOf (shapeOf (r .frame)) k < i) (sym (none (r .frame .channels))) (channel-in (r .frame .width) (r .frame .height) (r .frame .hs) (r .frame .vs) (r .frame .channels) k (q .some-channel) (q .lum)))
 
 pub good-plan : (s : List ℕ) (colour : Bool) (r : Record) → header s colour ≡ done r → GoodPlan (planOf s r)
 good-plan s colour r e =
     record {
-      dcs = λ k. good-table s (r .start) (dcAt r (channelOf (shapeIn r) k)) (header-within s colour r e) (tables-stand s colour r e k .dc);
-      acs = λ k. good-table s (r .start) (acAt r (channelOf (shapeIn r) k)) (header-within s colour r e) (tables-stand s colour r e k .ac);
+      dcs = λ k. good-table s (r .start) (dcAt r (channelOf (shapeOf (r .frame)) k)) (header-within s colour r e) (tables-stand s colour r e k .dc);
+      acs = λ k. good-table s (r .start) (acAt r (channelOf (shapeOf (r .frame)) k)) (header-within s colour r e) (tables-stand s colour r e k .ac);
     }

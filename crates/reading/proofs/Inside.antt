@@ -16,8 +16,8 @@ use Rattle.reading.specs.Bits.{firstOf, afterFull, freshFrom, oneAt, one
 use Rattle.reading.specs.Huffman.{Table, codeFrom, symbol}
 use Rattle.reading.proofs.FileBytes.{element-there}
 use Rattle.reading.proofs.Marks.{Looked, found, missed, mark-looked}
-use Rattle.reading.specs.Layout.{channelOf, restartDue, restartCode}
-use Rattle.reading.specs.Scan.{Plan, noPredictors, restart}
+use Rattle.reading.specs.Layout.{channelOf, mcuOf, opensMcu, dueBefore, restartBefore}
+use Rattle.reading.specs.Scan.{Plan, noPredictors, ahead}
 use Rattle.reading.specs.Block.{Ask, end, skip, value, wrong, asked, predictable, first, zeros, answered, rest, block}
 use Rattle.reading.proofs.Reasons.{blocks}
 
@@ -168,13 +168,17 @@ pub blocks-inside : (s : List ℕ) (p : Plan) (n k : ℕ) (ps : List ℤ) → Ke
 unfolding file
 blocks-inside s p zero k ps = keeps-give (Inside s) []
 blocks-inside s p (suc n) k ps =
-    keeps-then (Inside s) (restart (file s) p k ps) _ restarts
+    keeps-then (Inside s) (ahead (file s) p k ps) _ restarts
     (λ qs. keeps-then (Inside s) (block (one s) (p .channels (channelOf (p .shape) k) .dc) (p .channels (channelOf (p .shape) k) .ac) (getD qs (channelOf (p .shape) k) (pos 0))) _
     (block-inside s (p .channels (channelOf (p .shape) k) .dc) (p .channels (channelOf (p .shape) k) .ac) (getD qs (channelOf (p .shape) k) (pos 0)))
     (λ l. keeps-then (Inside s) (blocks (file s) p n (suc k) (set qs (channelOf (p .shape) k) (getD l 0 (pos 0)))) _ (blocks-inside s p n (suc k) (set qs (channelOf (p .shape) k) (getD l 0 (pos 0)))) (λ ls. keeps-give (Inside s) (l ∷ ls))))
   where
-    restarts : Keeps (Inside s) (restart (file s) p k ps)
+    restarts : Keeps (Inside s) (ahead (file s) p k ps)
     restarts =
-        keeps-cond (Inside s) (restartDue (p .shape) (p .interval) k) _ _
-        (keeps-then (Inside s) (mark s (restartCode (p .shape) (p .interval) k)) (λ _. give noPredictors) (mark-inside s (restartCode (p .shape) (p .interval) k)) (λ _. keeps-give (Inside s) noPredictors))
+        let m = mcuOf (p .shape) k in
+        let code = restartBefore (p .interval) m in
+        keeps-cond (Inside s) (opensMcu (p .shape) k) _ _
+        (keeps-cond (Inside s) (dueBefore (p .interval) m) _ _
+        (keeps-then (Inside s) (mark s code) (λ _. give noPredictors) (mark-inside s code) (λ _. keeps-give (Inside s) noPredictors))
+        (keeps-give (Inside s) ps))
         (keeps-give (Inside s) ps)

@@ -95,18 +95,18 @@ paid-twice b m n = ap (λ k. record { left = k }) (less (b .left))
 
 pub not-large : (l : Limits) (r : Record) → tooLarge l r ≡ false → Within l r
 not-large l r e =
-    let e1 = or-right (ltb (l .side) (r .width)) _ e in
-    let e2 = or-right (ltb (l .side) (r .height)) _ e1 in
+    let e1 = or-right (ltb (l .side) (r .frame .width)) _ e in
+    let e2 = or-right (ltb (l .side) (r .frame .height)) _ e1 in
     record {
-      width = ltb-false (l .side) (r .width) (or-left (ltb (l .side) (r .width)) _ e);
-      height = ltb-false (l .side) (r .height) (or-left (ltb (l .side) (r .height)) _ e1);
+      width = ltb-false (l .side) (r .frame .width) (or-left (ltb (l .side) (r .frame .width)) _ e);
+      height = ltb-false (l .side) (r .frame .height) (or-left (ltb (l .side) (r .frame .height)) _ e1);
       scratch = ltb-false (l .output) (r .scratch) (or-left (ltb (l .output) (r .scratch)) _ e2);
       output = ltb-false (l .output) (r .output) (or-right (ltb (l .output) (r .scratch)) _ e2);
     }
 
 pub small-enough : (l : Limits) (r : Record) → Within l r → tooLarge l r ≡ false
 small-enough l r w =
-    rw (le-ltb (l .side) (r .width) (w .width), le-ltb (l .side) (r .height) (w .height), le-ltb (l .output) (r .scratch) (w .scratch), le-ltb (l .output) (r .output) (w .output)) refl
+    rw (le-ltb (l .side) (r .frame .width) (w .width), le-ltb (l .side) (r .frame .height) (w .height), le-ltb (l .output) (r .scratch) (w .scratch), le-ltb (l .output) (r .output) (w .output)) refl
 
 -- the work of a record within the limits: 3136 for each 64 bytes of scratch, and the output
 pub work-most : (colour : Bool) (l : Limits) (r : Record) → accepted.Accepted colour r → Within l r → r .work ≤ 50 * l .output

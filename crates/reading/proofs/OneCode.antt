@@ -17,7 +17,7 @@ use Rattle.reading.specs.Huffman.{Table, tableAt, sum, bitsOf, codeFrom,
 use Rattle.reading.specs.declared.Record.{Record}
 use Rattle.reading.specs.Block.{dcTaken, acTaken}
 use Rattle.reading.specs.Layout.{channelOf}
-use Rattle.reading.specs.Tables.{shapeIn}
+use Rattle.reading.specs.Tables.{shapeOf}
 use Rattle.reading.specs.Header.{done, byte, countsOf, symbolsOf, listable, tableFits, header}
 use Rattle.reading.specs.Scan.{planOf}
 use Rattle.reading.specs.Words.{AllBits, nextIn, IsCode, Careful}
@@ -212,7 +212,7 @@ module _ {class : ℕ} (s : List ℕ) (m x : ℕ) (h : m ≤ length s) (t : Tabl
 
 pub careful-channel :
     (s : List ℕ) (colour : Bool) (r : Record) → header s colour ≡ done r
-    → (k : ℕ) → (let ch = planOf s r .channels (channelOf (shapeIn r) k) in Careful dcTaken (ch .dc) × Careful acTaken (ch .ac))
+    → (k : ℕ) → (let ch = planOf s r .channels (channelOf (shapeOf (r .frame)) k) in Careful dcTaken (ch .dc) × Careful acTaken (ch .ac))
 careful-channel s colour r e k =
     let in-file = header-within s colour r e in
     let stands = tables-stand s colour r e k in

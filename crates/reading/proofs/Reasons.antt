@@ -13,14 +13,14 @@ use Rattle.reading.specs.Bits.{Source, file, firstBit}
 use Rattle.reading.specs.Block.{block}
 use Rattle.reading.specs.Layout.{channelOf}
 use Rattle.reading.specs.Scan as rules
-use Rattle.reading.specs.Scan.{Plan, planOf, restart, closed, noPredictors, Turn, Cursor, Scanned, whole, broke, here, onwards, readOn, started, ended, levels}
+use Rattle.reading.specs.Scan.{Plan, planOf, ahead, closed, noPredictors, Turn, Cursor, Scanned, whole, broke, here, onwards, readOn, started, ended, levels}
 use Rattle.reading.proofs.Readings.{got-val, got-at, no-fault}
 
 -- n more blocks from block k on, in the order of the scan
 abbrev pub blocks : {S : Type 0} → Source S → Plan → ℕ → ℕ → List ℤ → Reader S (List (List ℤ))
 blocks src p zero k ps = give []
 blocks src p (suc n) k ps =
-    restart src p k ps >>= λ qs. let c = channelOf (p .shape) k in
+    ahead src p k ps >>= λ qs. let c = channelOf (p .shape) k in
     let ch = p .channels c in
     block (src .next) (ch .dc) (ch .ac) (getD qs c (pos 0)) >>= λ l. blocks src p n (suc k) (set qs c (getD l 0 (pos 0))) >>= λ ls. give (l ∷ ls)
 
@@ -45,7 +45,7 @@ forget-here src q (fault f) = refl
 module _ {S : Type 0} (src : Source S) (p : Plan) where
   pub blocks-forget : (n : ℕ) (q : Cursor S) → forgetOn (readOn src p n q) ≡ blocks src p n (q .done) (q .predictors) (q .bits)
   blocks-forget zero q = refl
-  blocks-forget (suc n) q = by-restart (restart src p (q .done) (q .predictors) (q .bits)) (blocks-forget n)
+  blocks-forget (suc n) q = by-ahead (ahead src p (q .done) (q .predictors) (q .bits)) (blocks-forget n)
     where
       c : ℕ
       c = channelOf (p .shape) (q .done)
@@ -69,13 +69,13 @@ module _ {S : Type 0} (src : Source S) (p : Plan) where
           by-rest l (readOn src p n (record { bits = s; predictors = set qs c (getD l 0 (pos 0)); done = suc (q .done) })) (blocks src p n (suc (q .done)) (set qs c (getD l 0 (pos 0))) s)
           (ih (record { bits = s; predictors = set qs c (getD l 0 (pos 0)); done = suc (q .done) }))
 
-      by-restart : (r : Read S (List ℤ)) → ((x : Cursor S) → forgetOn (readOn src p n x) ≡ blocks src p n (x .done) (x .predictors) (x .bits))
+      by-ahead : (r : Read S (List ℤ)) → ((x : Cursor S) → forgetOn (readOn src p n x) ≡ blocks src p n (x .done) (x .predictors) (x .bits))
           → forgetOn (onwards (here src q (onward r (λ qs.
           block (src .next) (p .channels c .dc) (p .channels c .ac) (getD qs c (pos 0)) >>= λ l. give (record { levels = l; predictors = set qs c (getD l 0 (pos 0)) })))) later)
           ≡ onward r (λ qs.
           block (src .next) (p .channels c .dc) (p .channels c .ac) (getD qs c (pos 0)) >>= λ l. blocks src p n (suc (q .done)) (set qs c (getD l 0 (pos 0))) >>= λ ls. give (l ∷ ls))
-      by-restart (fault f) ih = refl
-      by-restart (got qs s) ih = by-block qs (block (src .next) (p .channels c .dc) (p .channels c .ac) (getD qs c (pos 0)) s) ih
+      by-ahead (fault f) ih = refl
+      by-ahead (got qs s) ih = by-block qs (block (src .next) (p .channels c .dc) (p .channels c .ac) (getD qs c (pos 0)) s) ih
 
   pub scan-forget : (n : ℕ) (s : S) → forget (rules.scan src p n s) ≡ scan src p n s
   scan-forget n s = go (readOn src p n (started s)) (blocks-forget n (started s))

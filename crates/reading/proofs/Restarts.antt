@@ -1,17 +1,20 @@
--- Padding, a byte at a place, and the restart before an MCU: one law for each way through their tests.
+-- Padding, a byte at a place, what is read before a block, and the restart before an MCU: one law for each way through their tests.
 use mathlib.Core.List.{List}
-use mathlib.Core.Path.{_≡_, sym, ap}
-use mathlib.Core.Bool.{false}
+use mathlib.Core.Path.{_≡_, refl, sym, ap}
+use mathlib.Core.Bool.{Bool, true, false, cond}
 use Prim.Native.Nat.{ℕ, _+_, _-_, _/_, _%_, _^_, _<_, _≤_}
 use native.Mathlib.Nat.{mod-eq-of-lt, div-eq-of-lt, div-zero, le-div-iff-mul-le}
 use native.Mathlib.Omega.{arith}
 use lib.Pow.{pow-mono}
 use lib.Dec.{eqb}
 use lib.ListN.{length, getD}
+use lib.IntN.{ℤ}
 use borrow.Author.Tests.{lt-ltb, le-ltb, ne-eqb}
-use Rattle.reading.specs.Tests.{isAt}
-use Rattle.reading.specs.Bits.{padded}
-use Rattle.reading.specs.Layout.{dueBefore, restartBefore}
+use Rattle.reading.specs.Tests.{_and_, isAt}
+use Rattle.reading.specs.Bits.{Source, padded}
+use Rattle.reading.specs.Reader.{_>>_, give}
+use Rattle.reading.specs.Layout.{mcuOf, opensMcu, dueBefore, restartBefore, restartDue, restartCode}
+use Rattle.reading.specs.Scan.{Plan, noPredictors, restart, ahead}
 use Rattle.reading.proofs.FileBytes.{element-in, element-out}
 
 -- ---- padding
@@ -33,6 +36,21 @@ is-at s i x h = rw (element-in s i h)
 
 pub is-out : (s : List ℕ) (i x : ℕ) → length s ≤ i → isAt s i x ≡ false
 is-out s i x h = rw (element-out s i h)
+
+-- ---- what is read before a block
+
+-- a restart, where the block opens an MCU with one due before it
+pub ahead-is : {S : Type 0} (src : Source S) (p : Plan) (k : ℕ) (ps : List ℤ)
+    → ahead src p k ps
+    ≡ cond (restartDue (p .shape) (p .interval) k) (src .marker (restartCode (p .shape) (p .interval) k) >> give noPredictors) (give ps)
+unfolding restartDue
+ahead-is src p k ps = go (opensMcu (p .shape) k)
+  where
+    go : (b : Bool)
+        → cond b (restart src (p .interval) (mcuOf (p .shape) k) ps) (give ps)
+        ≡ cond (b and dueBefore (p .interval) (mcuOf (p .shape) k)) (src .marker (restartCode (p .shape) (p .interval) k) >> give noPredictors) (give ps)
+    go true = refl
+    go false = refl
 
 -- ---- the restart before MCU m
 

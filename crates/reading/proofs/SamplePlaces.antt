@@ -2,11 +2,11 @@
 -- is in its block at (x mod 8, y mod 8), chroma is at ((x mod 8hs)/hs, (y mod 8vs)/vs), rounded down; and each place is one of
 -- the block samples'.
 use Prim.Native.Nat.{ℕ, zero, suc, _+_, _*_, _-_, _/_, _%_, _<_, _≤_}
-use mathlib.Core.Path.{_≡_, ap, ap₂, _∙_}
+use mathlib.Core.Path.{_≡_, refl, ap, ap₂, _∙_}
 use native.Mathlib.Omega.{arith}
 use native.Mathlib.Nat.{dvd-mul-right, mod-lt, mod-mod-of-dvd, mul-div-cancel, mul-one, div-add-mod', div-lt-iff-lt-mul, mul-le-mul-right, not-suc-le-zero}
-use lib.ListN.{replicate}
-use Rattle.reading.specs.Layout.{oneByOne, factorsOf, ceiling, perMcu, blockCount, scaled, placeIn, placeOfChannel, sampleAt}
+use lib.ListN.{getD, take, replicate}
+use Rattle.reading.specs.Layout.{Shape, Factors, oneByOne, ceiling, areas, perMcu, blockCount, factorsAt, before, scaled, sampleAt}
 use Rattle.reading.proofs.Places.{shape, per-is, widest-is, highest-is, count-is}
 
 -- ---- one channel's place in an MCU
@@ -28,13 +28,16 @@ block-below place factor h =
     let below : place % (8 * factor) < 8 * factor = mod-lt place (omega arith) in
     omega arith
 
--- behind the blocks of the channels before it, one each
-ones-place : (n h v x y c : ℕ) → c < n → 0 < h → 0 < v
-    → placeOfChannel (replicate n oneByOne) h v x y c ≡ 64 * c + (8 * (y % (8 * v) / v) + x % (8 * h) / h)
-ones-place zero h v x y c l p q = absurd (not-suc-le-zero l)
-ones-place (suc n) h v x y zero l p q =
-    rw (scaled-one x h, scaled-one y v) (omega (arith, chroma-below x h p, chroma-below y v q))
-ones-place (suc n) h v x y (suc c) l p q = omega (arith, ones-place n h v x y c (omega arith) p q)
+-- the channels behind the first have one block each
+ones-at : (n c : ℕ) → c < n → getD (replicate n oneByOne) c oneByOne ≡ oneByOne
+ones-at zero c l = refl
+ones-at (suc n) zero l = refl
+ones-at (suc n) (suc c) l = ones-at n c (omega arith)
+
+ones-before : (n c : ℕ) → c < n → areas (take c (replicate n oneByOne)) ≡ c
+ones-before n zero l = refl
+ones-before zero (suc c) l = absurd (not-suc-le-zero l)
+ones-before (suc n) (suc c) l = omega (arith, ones-before n c (omega arith))
 
 -- ---- the instance
 
@@ -51,30 +54,50 @@ module _ (w h hs vs ch : ℕ) (hp : 0 < hs) (vp : 0 < vs) where
   mcu : ℕ → ℕ → ℕ
   mcu x y = y / (8 * vs) * ceiling w (8 * hs) + x / (8 * hs)
 
+  -- the place of a sample of a channel with the factors f, behind n blocks of its MCU
+  placed : Factors → ℕ → ℕ → ℕ → ℕ → ℕ → ℕ
+  placed f n a b x y =
+      let u = scaled x (f .across) a in
+      let v = scaled y (f .down) b in
+      64 * (mcu x y * (hs * vs + (ch - 1)) + (n + (v / 8 * f .across + u / 8))) + (8 * (v % 8) + u % 8)
+
   sample-is : (x y c : ℕ)
-      → sampleAt (shape w h hs vs ch) x y c ≡ 64 * (mcu x y * (hs * vs + (ch - 1))) + placeOfChannel (factorsOf hs vs ch) hs vs x y c
-  unfolding sampleAt mcu
+      → sampleAt (shape w h hs vs ch) x y c ≡ placed (factorsAt (shape w h hs vs ch) c) (before (shape w h hs vs ch) c) hs vs x y
+  unfolding sampleAt mcu placed
   sample-is x y c =
-      ap₂ (λ a b. 64 * ((y / (8 * b) * ceiling w (8 * a) + x / (8 * a)) * perMcu (shape w h hs vs ch)) + placeOfChannel (factorsOf hs vs ch) a b x y c)
+      let p : Shape = shape w h hs vs ch in
+      let f : Factors = factorsAt p c in
+      let n : ℕ = before p c in
+      ap₂ (λ a b.
+      let u = scaled x (f .across) a in
+      let v = scaled y (f .down) b in
+      64 * ((y / (8 * b) * ceiling w (8 * a) + x / (8 * a)) * perMcu p + (n + (v / 8 * f .across + u / 8))) + (8 * (v % 8) + u % 8))
       (widest-is w h hs vs ch hp) (highest-is w h hs vs ch vp)
-      ∙ ap (λ k. 64 * (mcu x y * k) + placeOfChannel (factorsOf hs vs ch) hs vs x y c) (per-is w h hs vs ch)
+      ∙ ap (λ k.
+      let u = scaled x (f .across) hs in
+      let v = scaled y (f .down) vs in
+      64 * (mcu x y * k + (n + (v / 8 * f .across + u / 8))) + (8 * (v % 8) + u % 8)) (per-is w h hs vs ch)
 
   pub first-channel-place : (x y : ℕ)
       → sampleAt (shape w h hs vs ch) x y 0
       ≡ 64 * ((y / (8 * vs) * ceiling w (8 * hs) + x / (8 * hs)) * (hs * vs + (ch - 1)) + (y % (8 * vs) / 8 * hs + x % (8 * hs) / 8))
       + (8 * (y % 8) + x % 8)
-  unfolding mcu
+  unfolding mcu placed
   first-channel-place x y =
       sample-is x y 0
-      ∙ ap₂ (λ u v. 64 * (mcu x y * (hs * vs + (ch - 1))) + placeIn (record { across = hs; down = vs }) u v) (scaled-largest x hs hp) (scaled-largest y vs vp)
+      ∙ ap₂ (λ u v. 64 * (mcu x y * (hs * vs + (ch - 1)) + (0 + (v / 8 * hs + u / 8))) + (8 * (v % 8) + u % 8)) (scaled-largest x hs hp) (scaled-largest y vs vp)
       ∙ omega (arith, mod-eight x hs, mod-eight y vs)
 
   pub chroma-place : (x y d : ℕ) → d < ch - 1
       → sampleAt (shape w h hs vs ch) x y (suc d)
       ≡ 64 * ((y / (8 * vs) * ceiling w (8 * hs) + x / (8 * hs)) * (hs * vs + (ch - 1)) + (hs * vs + d))
       + (8 * (y % (8 * vs) / vs) + x % (8 * hs) / hs)
-  unfolding mcu
-  chroma-place x y d l = sample-is x y (suc d) ∙ omega (arith, ones-place (ch - 1) hs vs x y d l hp vp)
+  unfolding mcu placed
+  chroma-place x y d l =
+      sample-is x y (suc d)
+      ∙ ap₂ (λ f n. placed f (hs * vs + n) hs vs x y) (ones-at (ch - 1) d l) (ones-before (ch - 1) d l)
+      ∙ ap₂ (λ u v. 64 * (mcu x y * (hs * vs + (ch - 1)) + (hs * vs + d + (v / 8 * 1 + u / 8))) + (8 * (v % 8) + u % 8)) (scaled-one x hs) (scaled-one y vs)
+      ∙ omega (arith, chroma-below x hs hp, chroma-below y vs vp)
 
   -- the samples of a pixel's MCU are among all
   pub mcu-below : (x y : ℕ) → x < w → y < h

@@ -8,10 +8,10 @@ use lib.IntN.{ℤ}
 use borrow.Author.Tests.{lt-ltb, le-ltb}
 use Rattle.reading.specs.declared.Bits.{Bits}
 use Rattle.reading.specs.declared.Break.{Break}
-use Rattle.reading.specs.declared.Record.{Record}
 use Rattle.reading.specs.declared.ScanRead.{ScanRead}
 use Rattle.reading.specs.declared.ScanRead.the-variants.{Done, Stop}
 use Rattle.reading.specs.Tests.{over}
+use Rattle.reading.specs.Layout.{Shape}
 use Rattle.reading.specs.Scan.{Scanned, whole, broke}
 use Rattle.reading.specs.Code.Answers.{scanRead}
 use Rattle.reading.specs.Reading.{allSamples}
@@ -46,15 +46,15 @@ refused (broke g) e h = cc
 
 -- ---- what a scan is said to leave in the scratch
 
-module _ (s : List ℕ) (r : Record) (old : List ℕ) {o : Scanned Bits (List (List ℤ))} where
-  pub drawn-stop : {w : Break} → o ≡ broke w → old ≡ drawn s r o old
+module _ (p : Shape) (quant : ℕ → List ℕ) (n : ℕ) (old : List ℕ) {o : Scanned Bits (List (List ℤ))} where
+  pub drawn-stop : {w : Break} → o ≡ broke w → old ≡ drawn p quant n o old
   unfolding drawn
   drawn-stop e = rw e
 
-  pub drawn-short : Accepted o → length old < 64 * r .blocks → old ≡ drawn s r o old
+  pub drawn-short : Accepted o → length old < 64 * n → old ≡ drawn p quant n o old
   unfolding drawn
-  drawn-short a h = rw (a .is, lt-ltb (length old) (64 * r .blocks) h)
+  drawn-short a h = rw (a .is, lt-ltb (length old) (64 * n) h)
 
-  pub drawn-all : (a : Accepted o) → 64 * r .blocks ≤ length old → over (allSamples s r (a .blocks-read)) old ≡ drawn s r o old
+  pub drawn-all : (a : Accepted o) → 64 * n ≤ length old → over (allSamples p quant (a .blocks-read)) old ≡ drawn p quant n o old
   unfolding drawn
-  drawn-all a h = rw (a .is, le-ltb (length old) (64 * r .blocks) h)
+  drawn-all a h = rw (a .is, le-ltb (length old) (64 * n) h)

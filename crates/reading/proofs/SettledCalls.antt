@@ -23,7 +23,7 @@ use Rattle.reading.specs.declared.Refusal.the-variants.{ShortRoom, NoEnd
 use Rattle.reading.specs.declared.Verdict.{Verdict}
 use Rattle.reading.specs.declared.Verdict.the-variants.{Accepted, Refused}
 use Rattle.reading.specs.Tests.{_or_, over}
-use Rattle.reading.specs.Reading.{accepted, reading, picture}
+use Rattle.reading.specs.Reading.{accepted, reading, pictureOf}
 use Rattle.reading.specs.Settled.{settledFile}
 use Rattle.reading.specs.Judging.{Judged, accepts, refuses, Judging, onward, give-or, remaining}
 use Rattle.reading.specs.Calls.{faultNumber, number, headerPrice, ReadFile, judgement, inspection, inspect, Decoded, decode, Rewritten, unsettled, rewritten, settle}
@@ -202,7 +202,7 @@ settled-decodes s t h r out scratch budget budget′ v p =
     let same = samples-of s t h (r .colour) r (d .blocks) (d .read) in
     record {
       verdict = ap (λ (d : Decoded). d .answer .verdict) w;
-      output = ap (λ (d : Decoded). d .output) w ∙ ap (λ x. over (picture r x) out) same ∙ sym (d .picture-is);
+      output = ap (λ (d : Decoded). d .output) w ∙ ap (λ x. over (pictureOf r x) out) same ∙ sym (d .picture-is);
       scratch = ap (λ (d : Decoded). d .scratch) w ∙ ap (λ x. over x scratch) same ∙ sym (d .samples-are);
     }
 

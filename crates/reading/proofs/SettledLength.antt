@@ -19,6 +19,7 @@ use Rattle.reading.specs.Bits.{one, file, mark, fieldFrom, field, amplit
 use Rattle.reading.specs.Huffman.{Table, tableAt, bitsOf, codeFrom, symbol, codeAt, codeAtPlace, codeOf}
 use Rattle.reading.specs.Block.{Ask, end, skip, value, wrong, asked, answered, zeros, rest, first, block, predictable}
 use Rattle.reading.specs.Layout.{channelOf, restartDue, restartCode}
+use Rattle.reading.proofs.Restarts.{ahead-is}
 use Rattle.reading.specs.Scan.{Channel, Plan, planOf, closed, whole, levels, noPredictors}
 use Rattle.reading.specs.Settled.{Written, _then_, size, sizeFrom, fieldOf, valueBits, skips, levelBits, restBits, firstBits, blockBits, stuffed, padding, packNext, packFrom, packed, Coded, bytesOf, onto, cut, predictors, written, scanBytes, settledScan}
 use Rattle.reading.specs.Tables.{dcAt, acAt}
@@ -473,7 +474,9 @@ module _ (s : List ℕ) (p : Plan) (g : TabledPlan p) where
   blocks-weigh : (n k : ℕ) (ps : List ℤ) → After n k ps
   unfolding file
   blocks-weigh zero k ps b = omega arith
-  blocks-weigh (suc n) k ps b = go (restartDue (p .shape) (p .interval) k) refl (from-weighs n k (blocks-weigh n (suc k)) ps)
+  blocks-weigh (suc n) k ps b =
+      subst⁻¹ (λ m. Gives Q (onward (m b) (from (file s) p n k))) (ahead-is (file s) p k ps)
+      (go (restartDue (p .shape) (p .interval) k) refl (from-weighs n k (blocks-weigh n (suc k)) ps))
     where
       code : ℕ
       code = restartCode (p .shape) (p .interval) k

@@ -73,7 +73,7 @@ header-readable s y colour r e =
     let f = header-fits s colour y r e in
     rw (
       le-leb (r .start) (length s) (f .within),
-      within-yes 1 4 (r .hs) (f .accepted .frame .across .0) (f .accepted .frame .across .1),
-      within-yes 1 4 (r .vs) (f .accepted .frame .down .0) (f .accepted .frame .down .1),
-      within-yes 1 3 (r .channels) (f .accepted .frame .few .0) (f .accepted .frame .few .1),
+      within-yes 1 4 (r .frame .hs) (f .accepted .frame .across .0) (f .accepted .frame .across .1),
+      within-yes 1 4 (r .frame .vs) (f .accepted .frame .down .0) (f .accepted .frame .down .1),
+      within-yes 1 3 (r .frame .channels) (f .accepted .frame .few .0) (f .accepted .frame .few .1),
     ) refl

@@ -30,9 +30,9 @@ use Rattle.reading.specs.Settled.{settledScan}
 use Rattle.reading.specs.Huffman.{tableAt}
 use Rattle.reading.specs.Block.{dcTaken, acTaken}
 use Rattle.reading.specs.Layout.{channelOf}
-use Rattle.reading.specs.Tables.{shapeIn}
+use Rattle.reading.specs.Tables.{shapeOf}
 use Rattle.reading.specs.Header.{done, byte, listable, tableFits, header}
-use Rattle.reading.specs.Reading.{accepted, refused, reading, allSamples, picture}
+use Rattle.reading.specs.Reading.{accepted, refused, reading, samplesOf, pictureOf}
 use Rattle.reading.specs.Calls.{headerPrice, inspect, Decoded, decode, Rewritten, settle}
 use Rattle.reading.specs.Comments.{comments, commentPart, comment, hasComment}
 use Rattle.reading.specs.Prices.{filePrice, decodePrice}
@@ -155,7 +155,7 @@ table-careful b t = O.read-careful b t
 pub tables-careful :
     (s : List ℕ) (colour : Bool) (r : Record) (k : ℕ)
     → header s colour ≡ done r
-    → Careful dcTaken (planOf s r .channels (channelOf (shapeIn r) k) .dc) × Careful acTaken (planOf s r .channels (channelOf (shapeIn r) k) .ac)
+    → Careful dcTaken (planOf s r .channels (channelOf (shapeOf (r .frame)) k) .dc) × Careful acTaken (planOf s r .channels (channelOf (shapeOf (r .frame)) k) .ac)
 tables-careful s colour r k e = O.careful-channel s colour r e k
 
 -- ---- Inspect (`Judgement`, `Refusals`)
@@ -238,8 +238,8 @@ module _ (s : List ℕ) (r : Record) (out scratch : List ℕ) (budget : Budget) 
       (ls : List (List ℤ))
       → reading s (r .colour) ≡ accepted r ls
       → decode s r out scratch budget .answer .verdict ≡ Accepted
-      → (decode s r out scratch budget .scratch ≡ over (allSamples s r ls) scratch)
-      × (decode s r out scratch budget .output ≡ over (picture r (allSamples s r ls)) out)
+      → (decode s r out scratch budget .scratch ≡ over (samplesOf s r ls) scratch)
+      × (decode s r out scratch budget .output ≡ over (pictureOf r (samplesOf s r ls)) out)
   decode-draws ls e v = D.decode-draws s r out scratch budget ls e v
 
   -- a refusal leaves both as they came

@@ -12,7 +12,7 @@ use lib.ListN.{length, take, drop, length-take}
 use Rattle.reading.specs.declared.Record.{Record}
 use Rattle.reading.specs.Bits.{fulls}
 use Rattle.reading.specs.Scan.{planOf}
-use Rattle.reading.specs.Reading.{Reading, accepted, refused, reading, dequantized, blockSamples, allSamples, picture}
+use Rattle.reading.specs.Reading.{Reading, accepted, refused, reading, coefficientsOf, blockSamples, samplesOf, pictureOf}
 use Rattle.reading.specs.Settled.{settledFile, someLacksEnd}
 use Rattle.reading.specs.Files.{if-accepted, headIn, coefficientsIn, samplesIn, pictureIn, settledIn, lacksEndIn}
 use Rattle.reading.proofs.Written.{absurd-some, some-list}
@@ -63,14 +63,14 @@ module _ (s t : List ℕ) (h : settledIn s ≡ some t) where
     chosen : (q : Reading) (colour : Bool) → reading s false ≡ q → reading s colour ≡ reread colour q
     chosen q colour e = reading-choice colour false s ∙ ap (reread colour) e
 
-    samples-so : allSamples t r ls ≡ allSamples s r ls
+    samples-so : samplesOf t r ls ≡ samplesOf s r ls
     samples-so = ap blockSamples (D.settled-coefficients s r ls t z)
 
     picture-so : (colour : Bool) → pictureIn t colour ≡ pictureIn s colour
     picture-so colour =
-        ap (if-accepted (λ r ls. some (picture r (allSamples t r ls))) none) (reads-so colour ∙ chosen (accepted r ls) colour (z .taken))
-        ∙ ap (λ x. some (picture (recolour colour r) x)) samples-so
-        ∙ sym (ap (if-accepted (λ r ls. some (picture r (allSamples s r ls))) none) (chosen (accepted r ls) colour (z .taken)))
+        ap (if-accepted (λ r ls. some (pictureOf r (samplesOf t r ls))) none) (reads-so colour ∙ chosen (accepted r ls) colour (z .taken))
+        ∙ ap (λ x. some (pictureOf (recolour colour r) x)) samples-so
+        ∙ sym (ap (if-accepted (λ r ls. some (pictureOf r (samplesOf s r ls))) none) (chosen (accepted r ls) colour (z .taken)))
 
   -- the settled file reads as the file does, with the same record
   pub reads-alike : (colour : Bool) → reading t colour ≡ reading s colour
@@ -81,17 +81,17 @@ module _ (s t : List ℕ) (h : settledIn s ≡ some t) where
 
   pub coefficients-alike : coefficientsIn t ≡ coefficientsIn s
   coefficients-alike =
-      alike (a .found) (a .blocks) (a .does) (λ r ls. some (dequantized (planOf t r) 0 ls)) (λ r ls. some (dequantized (planOf s r) 0 ls)) none
+      alike (a .found) (a .blocks) (a .does) (λ r ls. some (coefficientsOf t r ls)) (λ r ls. some (coefficientsOf s r ls)) none
       (ap some (D.settled-coefficients s (a .found) (a .blocks) t (a .does)))
 
   pub samples-alike : samplesIn t ≡ samplesIn s
-  samples-alike = alike (a .found) (a .blocks) (a .does) (λ r ls. some (allSamples t r ls)) (λ r ls. some (allSamples s r ls)) none (ap some (samples-so (a .found) (a .blocks) (a .does)))
+  samples-alike = alike (a .found) (a .blocks) (a .does) (λ r ls. some (samplesOf t r ls)) (λ r ls. some (samplesOf s r ls)) none (ap some (samples-so (a .found) (a .blocks) (a .does)))
 
   pub picture-alike : (colour : Bool) → pictureIn t colour ≡ pictureIn s colour
   picture-alike = picture-so (a .found) (a .blocks) (a .does)
 
   -- the samples of one reading, in both files
-  pub samples-of : (colour : Bool) (r : Record) (ls : List (List ℤ)) → reading s colour ≡ accepted r ls → allSamples t r ls ≡ allSamples s r ls
+  pub samples-of : (colour : Bool) (r : Record) (ls : List (List ℤ)) → reading s colour ≡ accepted r ls → samplesOf t r ls ≡ samplesOf s r ls
   samples-of colour r ls e = samples-so (recolour false r) ls (record { taken = plain; written = kept })
     where
       plain : reading s false ≡ accepted (recolour false r) ls
@@ -130,8 +130,8 @@ module _ (s s′ t t′ : List ℕ) (h : settledIn s ≡ some t) (h′ : settled
   headOf : (s t : List ℕ) (a : Apart s t) → headIn s ≡ some (take (a .found .start) s)
   headOf s t a = accepted-so (λ r ls. some (take (r .start) s)) none s false (a .found) (a .blocks) (a .does .taken)
 
-  coefficients-in : (s t : List ℕ) (a : Apart s t) → coefficientsIn s ≡ some (dequantized (planOf s (a .found)) 0 (a .blocks))
-  coefficients-in s t a = accepted-so (λ r ls. some (dequantized (planOf s r) 0 ls)) none s false (a .found) (a .blocks) (a .does .taken)
+  coefficients-in : (s t : List ℕ) (a : Apart s t) → coefficientsIn s ≡ some (coefficientsOf s (a .found) (a .blocks))
+  coefficients-in s t a = accepted-so (λ r ls. some (coefficientsOf s r ls)) none s false (a .found) (a .blocks) (a .does .taken)
 
   one-head : take (first .found .start) s ≡ take (second .found .start) s′
   one-head = some-list (sym (headOf s t first) ∙ e ∙ headOf s′ t′ second)

@@ -168,8 +168,10 @@ flat d = samples (d ∷ zeros 63)
 -- the record, field by field
 abbrev pub numbers : Record → List ℕ
 numbers r =
-    r .width ∷ r .height ∷ r .channels ∷ r .hs ∷ r .vs
-    ∷ r .ids ++ r .qids ++ r .dcids ++ r .acids ++ r .quants ++ r .dcs ++ r .acs
+    let f = r .frame in
+    let t = r .tables in
+    f .width ∷ f .height ∷ f .channels ∷ f .hs ∷ f .vs
+    ∷ f .ids ++ f .qids ++ r .dcids ++ r .acids ++ t .quants ++ t .dcs ++ t .acs
     ++ r .interval ∷ r .start ∷ r .blocks ∷ r .scratch ∷ r .output ∷ r .work ∷ flag (r .colour) ∷ []
 
 -- ---- the table

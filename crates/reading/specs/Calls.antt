@@ -10,6 +10,8 @@ use Rattle.reading.specs.declared.Fault.the-variants.{RanOut, Bare, NoCo
 use Rattle.reading.specs.declared.Named.{Named}
 use Rattle.reading.specs.declared.Refusal.{Refusal}
 use Rattle.reading.specs.declared.Refusal.the-variants.{TooLong, OverBudget, CutShort, Malformed, Unsupported, TooLarge, WorkOverBudget, ShortRoom, NotItsRecord, NoEndCode, Scan}
+use Rattle.reading.specs.declared.Frame.{Frame}
+use Rattle.reading.specs.declared.Tables.{Tables}
 use Rattle.reading.specs.declared.Record.{Record}
 use Rattle.reading.specs.declared.Limits.{Limits}
 use Rattle.reading.specs.declared.Budget.{Budget}
@@ -22,11 +24,11 @@ use Rattle.reading.specs.Tests.{_and_, _or_, over}
 use Rattle.reading.specs.Judging.{Judged, accepts, refuses, Judging, _>>=_, _>>_, give, refuse, refuse-if, pay, give-or, unbroken}
 use Rattle.reading.specs.Header.{ending, header, noRecord}
 use Rattle.whole.specs.Lists.{from}
-use Rattle.reading.specs.Layout.{channelOf, sampleAt}
+use Rattle.reading.specs.Layout.{outputLength, channelOf, sampleAt}
 use Rattle.reading.specs.Transform.{coefficients, samples}
 use Rattle.reading.specs.Colour.{red, green, blue}
 use Rattle.reading.specs.Scan.{levels}
-use Rattle.reading.specs.Reading.{Reading, accepted, refused, reading, allSamples, picture}
+use Rattle.reading.specs.Reading.{Reading, accepted, refused, reading, samplesOf, pictureOf}
 use Rattle.reading.specs.Settled.{settledFile, settledScan}
 
 -- why a scan broke: bytes ran out (3), a 255 followed by neither 0 nor the end (10), sixteen bits matching no code (11). Other scan
@@ -90,7 +92,7 @@ tooLong s l = ltb (l .input) (length s) or leb (2 ^ 64) (headerPrice s)
 -- number 6: width or height above the side limit, or 64 x blocks or output bytes above the output limit
 abbrev pub tooLarge : Limits → Record → Bool
 tooLarge l r =
-    ltb (l .side) (r .width) or ltb (l .side) (r .height) or ltb (l .output) (r .scratch) or ltb (l .output) (r .output)
+    ltb (l .side) (r .frame .width) or ltb (l .side) (r .frame .height) or ltb (l .output) (r .scratch) or ltb (l .output) (r .output)
 
 -- the header's record, or its refusal
 abbrev pub heading : List ℕ → Bool → Judging Record
@@ -156,26 +158,28 @@ eqBool true b = b
 eqBool false true = false
 eqBool false false = true
 
--- two records are equal in every field: the frame's numbers, the ids, the places of tables, and what follows from them
-abbrev pub sameFrame : Record → Record → Bool
+-- two records are equal in every field: the frame, the places of tables, what the scan says, and what follows from them
+abbrev pub sameFrame : Frame → Frame → Bool
 sameFrame a b =
     eqb (a .width) (b .width) and eqb (a .height) (b .height) and eqb (a .channels) (b .channels) and eqb (a .hs) (b .hs)
-    and eqb (a .vs) (b .vs)
+    and eqb (a .vs) (b .vs) and eqList (a .ids) (b .ids) and eqList (a .qids) (b .qids)
 
-abbrev pub sameIds : Record → Record → Bool
-sameIds a b =
-    eqList (a .ids) (b .ids) and eqList (a .qids) (b .qids) and eqList (a .dcids) (b .dcids) and eqList (a .acids) (b .acids)
-
-abbrev pub sameTables : Record → Record → Bool
+abbrev pub sameTables : Tables → Tables → Bool
 sameTables a b = eqList (a .quants) (b .quants) and eqList (a .dcs) (b .dcs) and eqList (a .acs) (b .acs)
+
+-- the scan's own: the ids of its tables, the interval and its first coded byte
+abbrev pub sameScan : Record → Record → Bool
+sameScan a b =
+    eqList (a .dcids) (b .dcids) and eqList (a .acids) (b .acids) and eqb (a .interval) (b .interval) and eqb (a .start) (b .start)
 
 abbrev pub sameSizes : Record → Record → Bool
 sameSizes a b =
-    eqb (a .interval) (b .interval) and eqb (a .start) (b .start) and eqb (a .blocks) (b .blocks) and eqb (a .scratch) (b .scratch)
-    and eqb (a .output) (b .output) and eqb (a .work) (b .work) and eqBool (a .colour) (b .colour)
+    eqb (a .blocks) (b .blocks) and eqb (a .scratch) (b .scratch) and eqb (a .output) (b .output) and eqb (a .work) (b .work)
+    and eqBool (a .colour) (b .colour)
 
 unfoldable pub same : Record → Record → Bool
-same a b = sameFrame a b and sameIds a b and sameTables a b and sameSizes a b
+same a b =
+    sameFrame (a .frame) (b .frame) and sameTables (a .tables) (b .tables) and sameScan a b and sameSizes a b
 
 -- number 7 of decode: output or scratch too short, by the record's length fields
 abbrev pub shortRoom : Record → List ℕ → List ℕ → Bool
@@ -206,16 +210,16 @@ abbrev pub decodedWith : Record → List ℕ → List ℕ → Budget → List �
 decodedWith r out scratch left t =
     record {
       answer = record { verdict = Accepted; budget = left };
-      output = over (picture r t) out;
+      output = over (pictureOf r t) out;
       scratch = over t scratch;
     }
 
 abbrev pub decoded : List ℕ → Record → List ℕ → List ℕ → Judged (List (List ℤ)) → Decoded
-decoded s r out scratch (accepts ls left) = decodedWith r out scratch left (allSamples s r ls)
+decoded s r out scratch (accepts ls left) = decodedWith r out scratch left (samplesOf s r ls)
 decoded s r out scratch (refuses x left) = undecoded x left out scratch
 
 unfoldable pub decode : List ℕ → Record → List ℕ → List ℕ → Budget → Decoded
-unfolding header levels same channelOf coefficients samples from sampleAt red green blue
+unfolding header levels same outputLength channelOf coefficients samples from sampleAt red green blue
 decode s r out scratch budget = decoded s r out scratch (decoding s r out scratch budget)
 
 -- ---- settle

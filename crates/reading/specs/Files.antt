@@ -7,7 +7,7 @@ use lib.IntN.{ℤ}
 use lib.ListN.{take}
 use Rattle.reading.specs.declared.Record.{Record}
 use Rattle.reading.specs.Scan.{planOf}
-use Rattle.reading.specs.Reading.{Reading, accepted, refused, reading, dequantized, allSamples, picture}
+use Rattle.reading.specs.Reading.{Reading, accepted, refused, reading, coefficientsOf, samplesOf, pictureOf}
 use Rattle.reading.specs.Settled.{settledFile, someLacksEnd}
 
 -- of an accepted reading f of its record and levels, else the other
@@ -21,14 +21,14 @@ headIn s = if-accepted (λ r ls. some (take (r .start) s)) none (reading s false
 
 -- the coefficients of the blocks, in natural order
 abbrev pub coefficientsIn : List ℕ → Option (List (List ℤ))
-coefficientsIn s = if-accepted (λ r ls. some (dequantized (planOf s r) 0 ls)) none (reading s false)
+coefficientsIn s = if-accepted (λ r ls. some (coefficientsOf s r ls)) none (reading s false)
 
 -- the samples of the blocks, and the picture by a colour choice
 abbrev pub samplesIn : List ℕ → Option (List ℕ)
-samplesIn s = if-accepted (λ r ls. some (allSamples s r ls)) none (reading s false)
+samplesIn s = if-accepted (λ r ls. some (samplesOf s r ls)) none (reading s false)
 
 abbrev pub pictureIn : List ℕ → Bool → Option (List ℕ)
-pictureIn s colour = if-accepted (λ r ls. some (picture r (allSamples s r ls))) none (reading s colour)
+pictureIn s colour = if-accepted (λ r ls. some (pictureOf r (samplesOf s r ls))) none (reading s colour)
 
 -- the settled file; none for want of a code too
 abbrev pub settledIn : List ℕ → Option (List ℕ)

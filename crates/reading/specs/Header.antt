@@ -11,13 +11,14 @@ use Rattle.reading.specs.declared.Case.the-variants.{Marker, Quantizers,
 use Rattle.reading.specs.declared.Kind.{Kind}
 use Rattle.reading.specs.declared.Kind.the-variants.{Quants, Tables, Frames, Scans, Intervals, Skips, Others}
 use Rattle.reading.specs.declared.Frame.{Frame}
+use Rattle.reading.specs.declared.Tables as tables
 use Rattle.reading.specs.declared.Header.{Header}
 use Rattle.reading.specs.declared.Record.{Record}
 use Rattle.reading.specs.Tests.{_and_, _or_, within, apart, all, allFrom}
 use Rattle.reading.specs.Huffman.{sum, codesFit}
 use Rattle.reading.specs.Block.{dcTaken, acTaken}
-use Rattle.reading.specs.Tables.{quantAt, dcAt, acAt}
-use Rattle.reading.specs.Layout.{Shape, factorsOf, blockCount, outputLength, workOf}
+use Rattle.reading.specs.Tables.{shapeOf, quantAt, dcAt, acAt}
+use Rattle.reading.specs.Layout.{blockCount, outputLength, workOf}
 
 -- where the header stands: more to read, the scan with its record, or a refusal
 pub data Stage : Type 0 where
@@ -39,7 +40,7 @@ word s p = 256 * byte s p + byte s (p + 1)
 
 abbrev pub moved : Header → ℕ → Case → Header
 moved h at c =
-    record { at = at; case = c; quants = h .quants; dcs = h .dcs; acs = h .acs; frame = h .frame; interval = h .interval }
+    record { at = at; case = c; tables = h .tables; frame = h .frame; interval = h .interval }
 
 -- the bytes from a to e: a segment's body, or what is left of it. Every rule below reads such a list, never the file
 abbrev pub window : List ℕ → ℕ → ℕ → List ℕ
@@ -49,9 +50,19 @@ window s a e = take (e - a) (drop a s)
 abbrev pub quantizerFits : List ℕ → Bool
 quantizerFits b = leb 65 (length b) and leb (byte b 0) 3 and all (ltb 0) (take 64 (drop 1 b))
 
+-- the tables with a later quantizer in place of an earlier one of its id
+abbrev pub withQuant : tables.Tables → ℕ → ℕ → tables.Tables
+withQuant t id place = record { quants = set (t .quants) id place; dcs = t .dcs; acs = t .acs }
+
 abbrev pub withQuantizer : List ℕ → Header → Header
 withQuantizer b h =
-    record { at = h .at + 65; case = h .case; quants = set (h .quants) (byte b 0) (h .at + 1); dcs = h .dcs; acs = h .acs; frame = h .frame; interval = h .interval }
+    record {
+      at = h .at + 65;
+      case = h .case;
+      tables = withQuant (h .tables) (byte b 0) (h .at + 1);
+      frame = h .frame;
+      interval = h .interval;
+    }
 
 abbrev pub quantizer : List ℕ → Header → ℕ → Stage
 quantizer b h e =
@@ -82,14 +93,17 @@ abbrev pub put : Bool → List ℕ → ℕ → ℕ → List ℕ
 put true l i x = set l i x
 put false l i x = l
 
+-- the tables with a later Huffman table in place of an earlier one of its class and id
+abbrev pub withHuffman : tables.Tables → ℕ → ℕ → ℕ → tables.Tables
+withHuffman t class id place =
+    record { quants = t .quants; dcs = put (eqb class 0) (t .dcs) id place; acs = put (eqb class 1) (t .acs) id place }
+
 abbrev pub withTable : List ℕ → Header → Header
 withTable b h =
     record {
       at = h .at + (17 + sum (countsOf b));
       case = h .case;
-      quants = h .quants;
-      dcs = put (eqb (byte b 0 / 16) 0) (h .dcs) (byte b 0 % 16) (h .at + 1);
-      acs = put (eqb (byte b 0 / 16) 1) (h .acs) (byte b 0 % 16) (h .at + 1);
+      tables = withHuffman (h .tables) (byte b 0 / 16) (byte b 0 % 16) (h .at + 1);
       frame = h .frame;
       interval = h .interval;
     }
@@ -98,9 +112,18 @@ abbrev pub huffman : List ℕ → Header → ℕ → Stage
 huffman b h e =
     cond (eqb (h .at) e) (more (moved h e Marker)) (stop-if (not (tableFits b)) Malformed (more (withTable b h)))
 
+-- n numbers from channel c on: f of it below the count of channels, 0 behind the last
+abbrev pub eachFrom : ℕ → ℕ → ℕ → (ℕ → ℕ) → List ℕ
+eachFrom zero c ch f = []
+eachFrom (suc n) c ch f = cond (ltb c ch) (f c) 0 ∷ eachFrom n (suc c) ch f
+
 -- for each of three channels, f of it; 0 behind the last channel
 abbrev pub each : ℕ → (ℕ → ℕ) → List ℕ
-each ch f = cond (ltb 0 ch) (f 0) 0 ∷ cond (ltb 1 ch) (f 1) 0 ∷ cond (ltb 2 ch) (f 2) 0 ∷ []
+each ch f = eachFrom 3 0 ch f
+
+-- a property of each channel
+abbrev pub eachChannel : ℕ → (ℕ → Bool) → Bool
+eachChannel ch p = allFrom ch 0 p
 
 -- the first channel's sampling, across and down
 abbrev pub acrossOf : List ℕ → ℕ
@@ -126,15 +149,11 @@ frameOf b =
 -- in three channels: a sampling product up to 4, ids apart, chroma 17
 abbrev pub threeFit : List ℕ → Frame → Bool
 threeFit b f =
-    leb (acrossOf b * downOf b) 4
-    and not (eqb (getD (f .ids) 0 0) (getD (f .ids) 1 0))
-    and not (eqb (getD (f .ids) 0 0) (getD (f .ids) 2 0))
-    and not (eqb (getD (f .ids) 1 0) (getD (f .ids) 2 0))
-    and eqb (byte b 10) 17 and eqb (byte b 13) 17
+    leb (acrossOf b * downOf b) 4 and apart (take (f .channels) (f .ids)) and eqb (byte b 10) 17 and eqb (byte b 13) 17
 
 -- quantizer ids 0..3
 abbrev pub quantsFit : Frame → Bool
-quantsFit f = leb (getD (f .qids) 0 0) 3 and leb (getD (f .qids) 1 0) 3 and leb (getD (f .qids) 2 0) 3
+quantsFit f = eachChannel (f .channels) (λ c. leb (getD (f .qids) c 0) 3)
 
 -- the frame is one that is read: no zero side, sampling 1..4, quantizer ids 0..3, and what three channels ask
 abbrev pub frameFits : List ℕ → Frame → Bool
@@ -151,7 +170,7 @@ hasFrame h = ltb 0 (h .frame .channels)
 
 abbrev pub withFrame : Header → ℕ → Frame → Header
 withFrame h e f =
-    record { at = e; case = Marker; quants = h .quants; dcs = h .dcs; acs = h .acs; frame = f; interval = h .interval }
+    record { at = e; case = Marker; tables = h .tables; frame = f; interval = h .interval }
 
 abbrev pub frame : List ℕ → Header → ℕ → Stage
 frame b h e =
@@ -163,13 +182,10 @@ frame b h e =
 
 abbrev pub withInterval : Header → ℕ → ℕ → Header
 withInterval h e n =
-    record { at = e; case = Marker; quants = h .quants; dcs = h .dcs; acs = h .acs; frame = h .frame; interval = n }
+    record { at = e; case = Marker; tables = h .tables; frame = h .frame; interval = n }
 
 abbrev pub interval : List ℕ → Header → ℕ → Stage
 interval b h e = stop-if (not (eqb (length b) 2)) Malformed (more (withInterval h e (word b 0)))
-
-abbrev pub shapeOf : Frame → Shape
-shapeOf f = record { width = f .width; height = f .height; factors = factorsOf (f .hs) (f .vs) (f .channels) }
 
 -- the DC and AC table ids of channel c in a scan's body
 abbrev pub dcId : List ℕ → ℕ → ℕ
@@ -180,21 +196,12 @@ acId b c = byte b (2 + 2 * c) % 16
 
 abbrev pub recordOf : List ℕ → Bool → Header → ℕ → Record
 recordOf b colour h e =
-    let f = h .frame in
-    let sh = shapeOf f in
+    let sh = shapeOf (h .frame) in
     record {
-      width = f .width;
-      height = f .height;
-      channels = f .channels;
-      hs = f .hs;
-      vs = f .vs;
-      ids = f .ids;
-      qids = f .qids;
-      dcids = each (f .channels) (dcId b);
-      acids = each (f .channels) (acId b);
-      quants = h .quants;
-      dcs = h .dcs;
-      acs = h .acs;
+      frame = h .frame;
+      tables = h .tables;
+      dcids = each (h .frame .channels) (dcId b);
+      acids = each (h .frame .channels) (acId b);
       interval = h .interval;
       start = e;
       blocks = blockCount sh;
@@ -204,14 +211,10 @@ recordOf b colour h e =
       colour = colour;
     }
 
--- a property of each channel
-abbrev pub eachChannel : ℕ → (ℕ → Bool) → Bool
-eachChannel ch p = allFrom ch 0 p
-
 -- every channel has its quantizer and its two Huffman tables
 abbrev pub complete : Record → Bool
 complete r =
-    eachChannel (r .channels) (λ c. ltb 0 (quantAt r c) and ltb 0 (dcAt r c) and ltb 0 (acAt r c))
+    eachChannel (r .frame .channels) (λ c. ltb 0 (quantAt r c) and ltb 0 (dcAt r c) and ltb 0 (acAt r c))
 
 -- the scan's last three bytes are 0 63 0
 abbrev pub sequential : List ℕ → ℕ → Bool
@@ -291,9 +294,12 @@ steps s colour (suc n) (stop x) = stop x
 abbrev pub noFrame : Frame
 noFrame = record { width = 0; height = 0; channels = 0; hs = 0; vs = 0; ids = replicate 3 0; qids = replicate 3 0 }
 
+abbrev pub noTables : tables.Tables
+noTables = record { quants = replicate 4 0; dcs = replicate 4 0; acs = replicate 4 0 }
+
 abbrev pub opening : Header
 opening =
-    record { at = 2; case = Marker; quants = replicate 4 0; dcs = replicate 4 0; acs = replicate 4 0; frame = noFrame; interval = 0 }
+    record { at = 2; case = Marker; tables = noTables; frame = noFrame; interval = 0 }
 
 -- the file opens 255 216
 abbrev pub opens : List ℕ → Bool
@@ -310,18 +316,10 @@ header s colour = steps s colour (2 * length s + 1) (started s)
 abbrev pub noRecord : Record
 noRecord =
     record {
-      width = 0;
-      height = 0;
-      channels = 0;
-      hs = 0;
-      vs = 0;
-      ids = replicate 3 0;
-      qids = replicate 3 0;
+      frame = noFrame;
+      tables = noTables;
       dcids = replicate 3 0;
       acids = replicate 3 0;
-      quants = replicate 4 0;
-      dcs = replicate 4 0;
-      acs = replicate 4 0;
       interval = 0;
       start = 0;
       blocks = 0;

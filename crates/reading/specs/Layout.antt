@@ -5,7 +5,7 @@ use Prim.Native.Nat.{ℕ, zero, suc, _+_, _*_, _-_, _/_, _%_, max}
 use mathlib.Core.Bool.{Bool, cond}
 use mathlib.Core.List.{List, [], _∷_}
 use lib.Dec.{ltb, eqb}
-use lib.ListN.{replicate, length}
+use lib.ListN.{replicate, length, getD, take}
 use Rattle.reading.specs.Tests.{_and_}
 
 -- how many blocks of a channel stand side by side in an MCU, and how many one below the other
@@ -62,9 +62,13 @@ unfoldable pub blockCount : Shape → ℕ
 unfolding perMcu
 blockCount p = mcusAcross p * mcusDown p * perMcu p
 
+-- how many channels the picture has
+abbrev pub channelsIn : Shape → ℕ
+channelsIn p = length (p .factors)
+
 -- the bytes of the picture: one for each channel of each pixel
 unfoldable pub outputLength : Shape → ℕ
-outputLength p = p .width * p .height * length (p .factors)
+outputLength p = p .width * p .height * channelsIn p
 
 -- work = 3136 x blocks + output bytes
 unfoldable pub workOf : Shape → ℕ
@@ -85,14 +89,31 @@ channelOf p k = channelIn (p .factors) (k % perMcu p)
 abbrev pub mcuOf : Shape → ℕ → ℕ
 mcuOf p k = k / perMcu p
 
+-- the factors of channel c
+abbrev pub factorsAt : Shape → ℕ → Factors
+factorsAt p c = getD (p .factors) c oneByOne
+
+-- the blocks of an MCU that stand before those of channel c: those of the channels before it
+abbrev pub before : Shape → ℕ → ℕ
+before p c = areas (take c (p .factors))
+
+-- the place of channel c's block j in MCU m among all blocks
+abbrev pub blockIn : Shape → ℕ → ℕ → ℕ → ℕ
+blockIn p m c j = m * perMcu p + (before p c + j)
+
 -- a restart is due before MCU m > 0 with m a multiple of the interval; 0 is none
 abbrev pub dueBefore : ℕ → ℕ → Bool
 dueBefore interval m = ltb 0 m and ltb 0 interval and eqb (m % interval) 0
 
+-- block k opens an MCU: it is its first one
+unfoldable pub opensMcu : Shape → ℕ → Bool
+unfolding perMcu
+opensMcu p k = eqb (k % perMcu p) 0
+
 -- a restart is due before block k: it opens such an MCU
 unfoldable pub restartDue : Shape → ℕ → ℕ → Bool
-unfolding perMcu
-restartDue p interval k = eqb (k % perMcu p) 0 and dueBefore interval (mcuOf p k)
+unfolding opensMcu
+restartDue p interval k = opensMcu p k and dueBefore interval (mcuOf p k)
 
 -- the code of the restart marker before MCU m
 abbrev pub restartBefore : ℕ → ℕ → ℕ
@@ -109,19 +130,11 @@ mcuAt p x y = y / (8 * highest (p .factors)) * mcusAcross p + x / (8 * widest (p
 abbrev pub scaled : ℕ → ℕ → ℕ → ℕ
 scaled place factor largest = place % (8 * largest) * factor / largest
 
--- where sample (x, y) of the channel with the factors f stands among that channel's samples in an MCU: its block, row by row,
--- and its place in the block
-abbrev pub placeIn : Factors → ℕ → ℕ → ℕ
-placeIn f u v = 64 * (v / 8 * f .across + u / 8) + (8 * (v % 8) + u % 8)
-
--- the same for channel c, behind the channels before it
-abbrev pub placeOfChannel : List Factors → ℕ → ℕ → ℕ → ℕ → ℕ → ℕ
-placeOfChannel [] h v x y c = 0
-placeOfChannel (f ∷ fs) h v x y zero = placeIn f (scaled x (f .across) h) (scaled y (f .down) v)
-placeOfChannel (f ∷ fs) h v x y (suc c) = 64 * area f + placeOfChannel fs h v x y c
-
--- the place of sample (x, y) of channel c among all block samples
+-- the place of sample (x, y) of channel c among all block samples: its block of the channel, row by row, and its place in the block
 unfoldable pub sampleAt : Shape → ℕ → ℕ → ℕ → ℕ
 unfolding perMcu
 sampleAt p x y c =
-    64 * (mcuAt p x y * perMcu p) + placeOfChannel (p .factors) (widest (p .factors)) (highest (p .factors)) x y c
+    let f = factorsAt p c in
+    let u = scaled x (f .across) (widest (p .factors)) in
+    let v = scaled y (f .down) (highest (p .factors)) in
+    64 * blockIn p (mcuAt p x y) c (v / 8 * f .across + u / 8) + (8 * (v % 8) + u % 8)

@@ -11,12 +11,12 @@ use Rattle.reading.specs.declared.Record.{Record}
 use Rattle.reading.specs.declared.Bits.{Bits}
 use Rattle.whole.specs.Lists.{listOf}
 use Rattle.reading.specs.Tests.{_and_}
+use Rattle.reading.specs.Tables.{shapeOf, quantizersOf}
 use Rattle.reading.specs.Header.{Stage, ending, header}
-use Rattle.reading.specs.Layout.{channelOf, sampleAt}
+use Rattle.reading.specs.Layout.{Shape, channelsIn, outputLength, channelOf, sampleAt}
 use Rattle.reading.specs.Transform.{coefficients, samples}
 use Rattle.reading.specs.Colour.{colourOf}
-use Rattle.reading.specs.Scan.{Plan, planOf, Scanned, whole, broke, levels}
-use Rattle.reading.specs.Tables.{shapeIn}
+use Rattle.reading.specs.Scan.{Scanned, whole, broke, levels}
 
 -- a file is accepted with its record and its levels, or refused
 pub data Reading : Type 0 where
@@ -34,29 +34,38 @@ readFrom s st = ending (λ r. scanned r (levels s r)) refused st
 abbrev pub reading : List ℕ → Bool → Reading
 reading s colour = readFrom s (header s colour)
 
--- the coefficients of block k and those behind it, in natural order
-abbrev pub dequantized : Plan → ℕ → List (List ℤ) → List (List ℤ)
-dequantized p k [] = []
-dequantized p k (l ∷ ls) =
-    coefficients (p .channels (channelOf (p .shape) k) .quant) l ∷ dequantized p (suc k) ls
+-- the coefficients of block k and those behind it, in natural order, by the quantizer of each channel
+abbrev pub dequantized : Shape → (ℕ → List ℕ) → ℕ → List (List ℤ) → List (List ℤ)
+dequantized p quant k [] = []
+dequantized p quant k (l ∷ ls) = coefficients (quant (channelOf p k)) l ∷ dequantized p quant (suc k) ls
 
 -- the samples of the blocks, one block after another
 abbrev pub blockSamples : List (List ℤ) → List ℕ
 blockSamples [] = []
 blockSamples (c ∷ cs) = samples c ++ blockSamples cs
 
-abbrev pub allSamples : List ℕ → Record → List (List ℤ) → List ℕ
-allSamples s r ls = blockSamples (dequantized (planOf s r) 0 ls)
+abbrev pub allSamples : Shape → (ℕ → List ℕ) → List (List ℤ) → List ℕ
+allSamples p quant ls = blockSamples (dequantized p quant 0 ls)
 
--- channel c of pixel (x, y)
-abbrev pub pixel : Record → List ℕ → ℕ → ℕ → ℕ → ℕ
-pixel r t x y c =
-    let f = shapeIn r in
-    let v : ℕ → ℕ = λ d. getD t (sampleAt f x y d) 0 in
-    cond (r .colour and eqb (r .channels) 3) (colourOf c (v 0) (v 1) (v 2)) (v c)
+-- the coefficients and the samples of a file's levels, by its record
+abbrev pub coefficientsOf : List ℕ → Record → List (List ℤ) → List (List ℤ)
+coefficientsOf s r ls = dequantized (shapeOf (r .frame)) (quantizersOf s r) 0 ls
+
+abbrev pub samplesOf : List ℕ → Record → List (List ℤ) → List ℕ
+samplesOf s r ls = allSamples (shapeOf (r .frame)) (quantizersOf s r) ls
+
+-- channel c of pixel (x, y), in colour where it is chosen and there are three channels
+abbrev pub pixel : Shape → Bool → List ℕ → ℕ → ℕ → ℕ → ℕ
+pixel p colour t x y c =
+    let v : ℕ → ℕ = λ d. getD t (sampleAt p x y d) 0 in
+    cond (colour and eqb (channelsIn p) 3) (colourOf c (v 0) (v 1) (v 2)) (v c)
 
 -- the picture, row by row, channels interleaved
-abbrev pub picture : Record → List ℕ → List ℕ
-picture r t =
-    listOf (r .output)
-    (λ k. pixel r t (k / r .channels % r .width) (k / r .channels / r .width) (k % r .channels))
+abbrev pub picture : Shape → Bool → List ℕ → List ℕ
+picture p colour t =
+    let ch = channelsIn p in
+    listOf (outputLength p) (λ k. pixel p colour t (k / ch % p .width) (k / ch / p .width) (k % ch))
+
+-- the picture of a record, from the samples of its blocks
+abbrev pub pictureOf : Record → List ℕ → List ℕ
+pictureOf r t = picture (shapeOf (r .frame)) (r .colour) t

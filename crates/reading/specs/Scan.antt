@@ -2,7 +2,7 @@
 use Prim.Native.Nat.{ℕ, zero, suc}
 use mathlib.Core.Bool.{cond}
 use mathlib.Core.List.{List, [], _∷_}
-use lib.ListN.{getD, take, drop, set}
+use lib.ListN.{getD, take, set}
 use lib.IntN.{ℤ, pos}
 use Rattle.reading.specs.declared.Bits.{Bits}
 use Rattle.reading.specs.declared.Break.{Break}
@@ -11,22 +11,17 @@ use Rattle.reading.specs.Reader.{Read, got, fault, Reader, _>>=_, _>>_, 
 use Rattle.reading.specs.Bits.{Source, file, firstBit}
 use Rattle.reading.specs.Huffman.{Table, tableAt}
 use Rattle.reading.specs.Block.{block, zeros}
-use Rattle.reading.specs.Layout.{Shape, channelOf, restartDue, restartCode}
-use Rattle.reading.specs.Tables.{shapeIn, quantAt, dcAt, acAt}
+use Rattle.reading.specs.Layout.{Shape, channelOf, mcuOf, opensMcu, dueBefore, restartBefore}
+use Rattle.reading.specs.Tables.{shapeOf, dcAt, acAt}
 
--- a channel's tables
+-- a channel's Huffman tables
 pub record Channel : Type 0 where
   pub dc : Table
   pub ac : Table
-  pub quant : List ℕ
 
 abbrev pub channelAt : List ℕ → Record → ℕ → Channel
 channelAt s r c =
-    record {
-      dc = tableAt s (dcAt r c);
-      ac = tableAt s (acAt r c);
-      quant = take 64 (drop (quantAt r c) s);
-    }
+    record { dc = tableAt s (dcAt r c); ac = tableAt s (acAt r c) }
 
 -- what a scan is read by: the picture's shape, the restart interval and the tables of each channel
 pub record Plan : Type 0 where
@@ -38,17 +33,19 @@ pub record Plan : Type 0 where
 abbrev pub planOf : List ℕ → Record → Plan
 planOf s r =
     let head = take (r .start) s in
-    record { shape = shapeIn r; interval = r .interval; channels = channelAt head r }
+    record { shape = shapeOf (r .frame); interval = r .interval; channels = channelAt head r }
 
 abbrev pub noPredictors : List ℤ
 noPredictors = zeros 3
 
--- before block k: where a restart is due, its marker, and the predictors become 0
-abbrev pub restart : {S : Type 0} → Source S → Plan → ℕ → List ℤ → Reader S (List ℤ)
-restart src p k ps =
-    cond (restartDue (p .shape) (p .interval) k)
-    (src .marker (restartCode (p .shape) (p .interval) k) >> give noPredictors)
-    (give ps)
+-- before MCU m: where a restart is due, its marker, and the predictors become 0
+abbrev pub restart : {S : Type 0} → Source S → ℕ → ℕ → List ℤ → Reader S (List ℤ)
+restart src interval m ps =
+    cond (dueBefore interval m) (src .marker (restartBefore interval m) >> give noPredictors) (give ps)
+
+-- before block k: the restart of the MCU that it opens
+abbrev pub ahead : {S : Type 0} → Source S → Plan → ℕ → List ℤ → Reader S (List ℤ)
+ahead src p k ps = cond (opensMcu (p .shape) k) (restart src (p .interval) (mcuOf (p .shape) k) ps) (give ps)
 
 -- what a block's turn gives: its 64 levels in zigzag order, and the predictors behind it
 pub record Turn : Type 0 where
@@ -58,7 +55,7 @@ pub record Turn : Type 0 where
 -- the turn of block k: the restart before it, where one is due, then the block. Its first level predicts its channel's next one
 abbrev pub turn : {S : Type 0} → Source S → Plan → ℕ → List ℤ → Reader S Turn
 turn src p k ps =
-    restart src p k ps >>= λ qs. let c = channelOf (p .shape) k in
+    ahead src p k ps >>= λ qs. let c = channelOf (p .shape) k in
     let ch = p .channels c in
     block (src .next) (ch .dc) (ch .ac) (getD qs c (pos 0)) >>= λ l. give (record { levels = l; predictors = set qs c (getD l 0 (pos 0)) })
 
@@ -113,5 +110,5 @@ scan src p n s = onwards (readOn src p n (started s)) (ended src)
 
 -- the levels of a file's scan
 unfoldable pub levels : List ℕ → Record → Scanned Bits (List (List ℤ))
-unfolding block file channelOf restartDue
+unfolding block file channelOf opensMcu
 levels s r = scan (file s) (planOf s r) (r .blocks) (firstBit (r .start))

@@ -1,22 +1,28 @@
--- Where the tables of a channel stand: the record has each channel's ids and, by id, the place of each table.
+-- What a frame's shape is, and where the tables of a channel stand: the record has each channel's ids and, by id, the place of each table.
 use Prim.Native.Nat.{ℕ}
 use mathlib.Core.List.{List}
-use lib.ListN.{getD}
+use lib.ListN.{getD, take, drop}
+use Rattle.reading.specs.declared.Frame.{Frame}
 use Rattle.reading.specs.declared.Record.{Record}
 use Rattle.reading.specs.Layout.{Shape, factorsOf}
 
-abbrev pub shapeIn : Record → Shape
-shapeIn r = record { width = r .width; height = r .height; factors = factorsOf (r .hs) (r .vs) (r .channels) }
+-- the sides of a frame and the factors of its channels
+abbrev pub shapeOf : Frame → Shape
+shapeOf f = record { width = f .width; height = f .height; factors = factorsOf (f .hs) (f .vs) (f .channels) }
 
 -- the place that a list of places has for channel c, by the channel's id
 abbrev pub chosen : List ℕ → List ℕ → ℕ → ℕ
 chosen places ids c = getD places (getD ids c 0) 0
 
 abbrev pub quantAt : Record → ℕ → ℕ
-quantAt r c = chosen (r .quants) (r .qids) c
+quantAt r c = chosen (r .tables .quants) (r .frame .qids) c
 
 abbrev pub dcAt : Record → ℕ → ℕ
-dcAt r c = chosen (r .dcs) (r .dcids) c
+dcAt r c = chosen (r .tables .dcs) (r .dcids) c
 
 abbrev pub acAt : Record → ℕ → ℕ
-acAt r c = chosen (r .acs) (r .acids) c
+acAt r c = chosen (r .tables .acs) (r .acids) c
+
+-- the quantizer of each channel: like all tables it stands before the first coded byte, so it is read from the bytes before it
+abbrev pub quantizersOf : List ℕ → Record → ℕ → List ℕ
+quantizersOf s r c = take 64 (drop (quantAt r c) (take (r .start) s))

@@ -26,7 +26,7 @@ use Rattle.reading.specs.Reader.{Read, Reader, got, fault}
 use Rattle.reading.specs.Bits.{file, firstBit}
 use Rattle.reading.specs.Huffman.{Table, symbol, codeOf}
 use Rattle.reading.specs.Header.{done, stop, header}
-use Rattle.reading.specs.Scan.{Plan, planOf, restart, Turn, turn, Cursor, broke, started, levels}
+use Rattle.reading.specs.Scan.{Plan, planOf, ahead, Turn, turn, Cursor, broke, started, levels}
 use Rattle.reading.specs.Reading.{Reading, accepted, refused, reading}
 use Rattle.reading.specs.Calls.{headerPrice, inspect, Decoded}
 use Rattle.reading.specs.Files.{settledIn}
@@ -89,18 +89,10 @@ ReadsAs s colour r = (ls : List (List ℤ)) × (reading s colour ≡ accepted r 
 abbrev pub recolour : Bool → Record → Record
 recolour c r =
     record {
-      width = r .width;
-      height = r .height;
-      channels = r .channels;
-      hs = r .hs;
-      vs = r .vs;
-      ids = r .ids;
-      qids = r .qids;
+      frame = r .frame;
+      tables = r .tables;
       dcids = r .dcids;
       acids = r .acids;
-      quants = r .quants;
-      dcs = r .dcs;
-      acs = r .acs;
       interval = r .interval;
       start = r .start;
       blocks = r .blocks;
@@ -139,7 +131,7 @@ unfoldable pub cutFrom : List ℕ → Plan → ℕ → ℕ → Cursor Bits → B
 unfolding file
 cutFrom s p c zero q = brokenAt Broken q
 cutFrom s p c (suc n) q =
-    cutTurn c q (restart (file s) p (q .done) (q .predictors) (q .bits)) (turn (file s) p (q .done) (q .predictors) (q .bits))
+    cutTurn c q (ahead (file s) p (q .done) (q .predictors) (q .bits)) (turn (file s) p (q .done) (q .predictors) (q .bits))
     (λ t e. cutFrom s p c n (record { bits = e; predictors = t .predictors; done = suc (q .done) }))
 
 -- why and where the prefix breaks
@@ -161,8 +153,8 @@ pub record Begun (s : List ℕ) (l : Limits) (budget : Budget) : Type 0 where
 
 -- not number 6: a record within the limits
 pub record Within (l : Limits) (r : Record) : Type 0 where
-  pub width : r .width ≤ l .side
-  pub height : r .height ≤ l .side
+  pub width : r .frame .width ≤ l .side
+  pub height : r .frame .height ≤ l .side
   pub scratch : r .scratch ≤ l .output
   pub output : r .output ≤ l .output
 

@@ -7,7 +7,7 @@ ghost use lib.Dec.{leb};
 ghost use lib.ListN.{getD};
 ghost use Rattle.reading.specs.Tests.{within};
 ghost use Rattle.reading.specs.Code.Mcus.{mcusOf, blocksOf};
-ghost use Rattle.reading.specs.Header.{noFrame, opening, moved, withFrame, withInterval, noRecord, stop};
+ghost use Rattle.reading.specs.Header.{noFrame, noTables, opening, moved, withFrame, withInterval, noRecord, stop};
 ghost use Rattle.reading.specs.Code.Heads.{headed};
 ghost use Rattle.reading.specs.Bits.{firstBit};
 ghost use Rattle.reading.specs.Code.Scans.{atStart, brokeAt, nowhere};
@@ -220,32 +220,29 @@ pub struct Frame {
     pub qids: [usize; 3],
 }
 
-// The header's state: the next byte, the case, where each table starts (0: absent), the frame and the restart interval.
-pub struct Header {
-    pub at: usize,
-    pub case: Case,
+// Where each table starts, by its id: quantizers, DC and AC tables. 0 where there is none.
+pub struct Tables {
     pub quants: [usize; 4],
     pub dcs: [usize; 4],
     pub acs: [usize; 4],
+}
+
+// The header's state: the next byte, the case, the tables, the frame and the restart interval.
+pub struct Header {
+    pub at: usize,
+    pub case: Case,
+    pub tables: Tables,
     pub frame: Frame,
     pub interval: usize,
 }
 
-// What inspect finds. For each channel its id and the ids of its tables (0 behind the last channel); by id the place of each table
-// that stands when the scan is met (absent is 0); the first coded byte; the sizes and the work that follow from the frame.
+// What inspect finds: the frame; the tables that stand when the scan is met; for each channel the ids of its Huffman tables (0 behind
+// the last channel); the first coded byte; the sizes and the work that follow from the frame.
 pub struct Record {
-    pub width: usize,
-    pub height: usize,
-    pub channels: usize,
-    pub hs: usize,
-    pub vs: usize,
-    pub ids: [usize; 3],
-    pub qids: [usize; 3],
+    pub frame: Frame,
+    pub tables: Tables,
     pub dcids: [usize; 3],
     pub acids: [usize; 3],
-    pub quants: [usize; 4],
-    pub dcs: [usize; 4],
-    pub acs: [usize; 4],
     pub interval: usize,
     pub start: usize,
     pub blocks: usize,
@@ -272,38 +269,32 @@ impl Frame {
     }
 }
 
+impl Tables {
+    // no table yet
+    pub fn none() -> Self
+        ensures { λ r. ⌜ r ≡ noTables ⌝ }
+    {
+        Self {
+            quants: [0; 4],
+            dcs: [0; 4],
+            acs: [0; 4],
+        }
+    }
+}
+
 impl Header {
     // the state behind the file's first two bytes
     pub fn fresh() -> Self
         ensures { λ r. ⌜ r ≡ opening ⌝ }
     {
+        let tables = Tables::none();
         let frame = Frame::none();
         Self {
             at: 2,
             case: Case::Marker,
-            quants: [0; 4],
-            dcs: [0; 4],
-            acs: [0; 4],
+            tables: tables,
             frame: frame,
             interval: 0,
-        }
-    }
-
-    // the same tables at another place
-    fn tables_at(self, at: usize, c: Case, frame: Frame, interval: usize) -> Self
-        ensures { λ r. ⌜ r ≡ record { at = at; case = c; quants = self .quants; dcs = self .dcs; acs = self .acs; frame = frame; interval = interval } ⌝ }
-    {
-        let quants = self.quants;
-        let dcs = self.dcs;
-        let acs = self.acs;
-        Self {
-            at: at,
-            case: c,
-            quants: quants,
-            dcs: dcs,
-            acs: acs,
-            frame: frame,
-            interval: interval,
         }
     }
 
@@ -311,21 +302,44 @@ impl Header {
     pub fn moved(self, at: usize, c: Case) -> Self
         ensures { λ r. ⌜ r ≡ moved self at c ⌝ }
     {
-        self.tables_at(at, c, self.frame, self.interval)
+        let tables = self.tables;
+        let frame = self.frame;
+        Self {
+            at: at,
+            case: c,
+            tables: tables,
+            frame: frame,
+            interval: self.interval,
+        }
     }
 
     // behind a frame's segment
     pub fn with_frame(self, at: usize, frame: Frame) -> Self
         ensures { λ r. ⌜ r ≡ withFrame self at frame ⌝ }
     {
-        self.tables_at(at, Case::Marker, frame, self.interval)
+        let tables = self.tables;
+        Self {
+            at: at,
+            case: Case::Marker,
+            tables: tables,
+            frame: frame,
+            interval: self.interval,
+        }
     }
 
     // behind a segment that sets the restart interval
     pub fn with_interval(self, at: usize, interval: usize) -> Self
         ensures { λ r. ⌜ r ≡ withInterval self at interval ⌝ }
     {
-        self.tables_at(at, Case::Marker, self.frame, interval)
+        let tables = self.tables;
+        let frame = self.frame;
+        Self {
+            at: at,
+            case: Case::Marker,
+            tables: tables,
+            frame: frame,
+            interval: interval,
+        }
     }
 }
 
@@ -334,19 +348,13 @@ impl Record {
     pub fn none() -> Self
         ensures { λ r. ⌜ r ≡ noRecord ⌝ }
     {
+        let frame = Frame::none();
+        let tables = Tables::none();
         Self {
-            width: 0,
-            height: 0,
-            channels: 0,
-            hs: 0,
-            vs: 0,
-            ids: [0; 3],
-            qids: [0; 3],
+            frame: frame,
+            tables: tables,
             dcids: [0; 3],
             acids: [0; 3],
-            quants: [0; 4],
-            dcs: [0; 4],
-            acs: [0; 4],
             interval: 0,
             start: 0,
             blocks: 0,

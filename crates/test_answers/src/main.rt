@@ -6,9 +6,11 @@ use libc::STDIN_FILENO;
 use libc::STDOUT_FILENO;
 use reading::Budget;
 use reading::Decoding;
+use reading::Frame;
 use reading::Limits;
 use reading::Record;
 use reading::Settling;
+use reading::Tables;
 use reading::Verdict;
 
 // ---- numbers of a case
@@ -62,16 +64,11 @@ fn four(list: &[u8], k: usize) -> [usize; 4]
     [a, b, c, d]
 }
 
-// A record from its 36 numbers.
-fn record(list: &[u8]) -> Record {
+// The frame of a record, from the record's 36 numbers.
+fn frame(list: &[u8]) -> Frame {
     let ids = three(list, 5);
     let qids = three(list, 8);
-    let dcids = three(list, 11);
-    let acids = three(list, 14);
-    let quants = four(list, 17);
-    let dcs = four(list, 21);
-    let acs = four(list, 25);
-    Record {
+    Frame {
         width: size(list, 0),
         height: size(list, 1),
         channels: size(list, 2),
@@ -79,11 +76,32 @@ fn record(list: &[u8]) -> Record {
         vs: size(list, 4),
         ids: ids,
         qids: qids,
-        dcids: dcids,
-        acids: acids,
+    }
+}
+
+// The places of its tables.
+fn tables(list: &[u8]) -> Tables {
+    let quants = four(list, 17);
+    let dcs = four(list, 21);
+    let acs = four(list, 25);
+    Tables {
         quants: quants,
         dcs: dcs,
         acs: acs,
+    }
+}
+
+// A record from its 36 numbers.
+fn record(list: &[u8]) -> Record {
+    let frame = frame(list);
+    let tables = tables(list);
+    let dcids = three(list, 11);
+    let acids = three(list, 14);
+    Record {
+        frame: frame,
+        tables: tables,
+        dcids: dcids,
+        acids: acids,
         interval: size(list, 29),
         start: size(list, 30),
         blocks: size(list, 31),

@@ -30,7 +30,9 @@ kindOf channels = 80 ∷ cond (eqb channels 1) 53 54 ∷ 10 ∷ []
 
 -- the kind, then the width, a blank, the height and a newline, then `255` and a newline
 unfoldable pub pictureHead : Record → List ℕ
-pictureHead r = kindOf (r .channels) ++ decimal (r .width) ++ 32 ∷ [] ++ decimal (r .height) ++ 10 ∷ 50 ∷ 53 ∷ 53 ∷ 10 ∷ []
+pictureHead r =
+    let f = r .frame in
+    kindOf (f .channels) ++ decimal (f .width) ++ 32 ∷ [] ++ decimal (f .height) ++ 10 ∷ 50 ∷ 53 ∷ 53 ∷ 10 ∷ []
 
 -- `0`, `10` and `65535`
 pub numbers : (decimal 0 ≡ 48 ∷ []) × (decimal 10 ≡ 49 ∷ 48 ∷ []) × (decimal 65535 ≡ 54 ∷ 53 ∷ 53 ∷ 51 ∷ 53 ∷ [])
@@ -43,7 +45,7 @@ unfolding digitsIn refused
 fourth = refl
 
 -- 8 x 8 in one channel: `P5`, `8 8`, `255`
-pub square : (r : Record) → r .channels ≡ 1 → r .width ≡ 8 → r .height ≡ 8
+pub square : (r : Record) → r .frame .channels ≡ 1 → r .frame .width ≡ 8 → r .frame .height ≡ 8
     → pictureHead r ≡ 80 ∷ 53 ∷ 10 ∷ 56 ∷ 32 ∷ 56 ∷ 10 ∷ 50 ∷ 53 ∷ 53 ∷ 10 ∷ []
 unfolding digitsIn pictureHead
 square r one wide high = rw (one, wide, high) refl

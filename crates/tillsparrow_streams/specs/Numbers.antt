@@ -21,7 +21,9 @@ fourAt l at e = set (threeAt l at e) (at + 3) (getD e 3 0)
 -- the frame's numbers, the channels' ids, the places of the tables, the scan's numbers, and 1 where colour is chosen, else 0
 unfoldable pub numbersOf : Record → List ℕ
 numbersOf r =
-    (r .width ∷ r .height ∷ r .channels ∷ r .hs ∷ r .vs ∷ [])
-    ++ three (r .ids) ++ three (r .qids) ++ three (r .dcids) ++ three (r .acids)
-    ++ four (r .quants) ++ four (r .dcs) ++ four (r .acs)
+    let f = r .frame in
+    let t = r .tables in
+    (f .width ∷ f .height ∷ f .channels ∷ f .hs ∷ f .vs ∷ [])
+    ++ three (f .ids) ++ three (f .qids) ++ three (r .dcids) ++ three (r .acids)
+    ++ four (t .quants) ++ four (t .dcs) ++ four (t .acs)
     ++ (r .interval ∷ r .start ∷ r .blocks ∷ r .scratch ∷ r .output ∷ r .work ∷ cond (r .colour) 1 0 ∷ [])

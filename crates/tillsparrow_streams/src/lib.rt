@@ -139,8 +139,9 @@ fn kind(channels: usize) -> Line
 pub fn picture_head(found: Record) -> Line
     ensures { λ r. ⌜ r ≡ lineOf (pictureHead found) ⌝ }
 {
-    let wide = kind(found.channels).with_number(found.width as u64);
-    let high = wide.with_text(b" ").with_number(found.height as u64);
+    let frame = found.frame;
+    let wide = kind(frame.channels).with_number(frame.width as u64);
+    let high = wide.with_text(b" ").with_number(frame.height as u64);
     high.with_text(b"\n255\n")
 }
 
@@ -229,19 +230,21 @@ fn four(list: &mut [usize; 36], at: usize, entries: [usize; 4])
 pub fn numbers(found: Record) -> [usize; 36]
     ensures { λ r. ⌜ r ≡ numbersOf found ⌝ }
 {
+    let frame = found.frame;
+    let tables = found.tables;
     let mut list = [0usize; 36];
-    list[0] = found.width;
-    list[1] = found.height;
-    list[2] = found.channels;
-    list[3] = found.hs;
-    list[4] = found.vs;
-    three(&mut list, 5, found.ids);
-    three(&mut list, 8, found.qids);
+    list[0] = frame.width;
+    list[1] = frame.height;
+    list[2] = frame.channels;
+    list[3] = frame.hs;
+    list[4] = frame.vs;
+    three(&mut list, 5, frame.ids);
+    three(&mut list, 8, frame.qids);
     three(&mut list, 11, found.dcids);
     three(&mut list, 14, found.acids);
-    four(&mut list, 17, found.quants);
-    four(&mut list, 21, found.dcs);
-    four(&mut list, 25, found.acs);
+    four(&mut list, 17, tables.quants);
+    four(&mut list, 21, tables.dcs);
+    four(&mut list, 25, tables.acs);
     list[29] = found.interval;
     list[30] = found.start;
     list[31] = found.blocks;

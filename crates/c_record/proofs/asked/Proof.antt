@@ -8,7 +8,7 @@ record-of-requires : tie.Need-record-of-requires
 record-of-requires c κs = search needs
 
 returns : tie.Need-returns
-returns c = rw (c .before .before .record-of .ensures) (sym (asked-none _ (c .if1 .taken)))
+returns c = rw (c .before .before .before .record-of .ensures) (sym (asked-none _ (c .before .if1 .taken)))
 
 returns-2 : tie.Need-returns-2
 returns-2 c = c .before .before .record-of .ensures ∙ sym (asked-so _ (c .if1 .left))

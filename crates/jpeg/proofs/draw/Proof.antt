@@ -32,7 +32,14 @@ slice-reshare-prefix-picture : tie.Need-slice-reshare-prefix-picture
 slice-reshare-prefix-picture c = search needs
 
 slice-aggregate-picture : tie.Need-slice-aggregate-picture
-slice-aggregate-picture c = draws-part (c .before .before .before .before .before .before .before .before .before .before .before .before .args .s .now) (all-bytes (c .before .before .before .before .before .before .before .before .before .before .before .before .args .s .now) (λ i. omega (arith, c .before .before .before .before .before .before .before .before .before .before .before .shared-slice-known .given i))) (c .before .before .before .before .before .before .before .before .before .before .before .before .args .read) (c .before .before .before .before .before .before .before .before .before .before .before .before .args .found) (c .before .before .before .before .before .before .before .before .before .before .before .before .args .out .now) (c .before .before .before .before .before .before .before .before .before .before .before .before .args .scratch .now) (c .before .before .before .before .before .before .before .before .before .before .before .before .args .rest) (c .before .before .before .before .before .before .before .before .before .before .before .before .pre) _ (c .before .before .before .before .before .before .before .before .same .ensures) (not-false _ (c .before .before .before .before .before .before .before .if1 .left)) _ (c .before .before .before .before .before .draw .ensures .0) _ (c .before .before .before .before .before .draw .ensures .1) (c .before .enum-told2 .given .1)
+slice-aggregate-picture c =
+    let start = c .before .before .before .before .before .before .before .before .before .before .before .before .before in
+    let a = start .args in
+    let bytes = all-bytes (a .s .now) (λ i. omega (arith, c .before .before .before .before .before .before .before .before .before .before .before .before .shared-slice-known .given i)) in
+    let compared = c .before .before .before .before .before .before .before .before .before in
+    let drew = c .before .before .before .before .before .before in
+    draws-part (a .s .now) bytes (a .read) (a .found) (a .out .now) (a .scratch .now) (a .rest) (start .pre) _ (compared .same .ensures)
+    (not-false _ (c .before .before .before .before .before .before .before .before .if1 .left)) _ (drew .draw .ensures .0) _ (drew .draw .ensures .1) (c .before .before .enum-told2 .given .1)
 
 picture-requires : tie.Need-picture-requires
 picture-requires c κs = tt
@@ -41,7 +48,15 @@ same-length : tie.Need-same-length
 same-length c = search needs
 
 returns-2 : tie.Need-returns-2
-returns-2 c = draws-stop (c .before .before .before .before .before .before .before .before .before .before .before .before .args .s .now) (all-bytes (c .before .before .before .before .before .before .before .before .before .before .before .before .args .s .now) (λ i. omega (arith, c .before .before .before .before .before .before .before .before .before .before .before .shared-slice-known .given i))) (c .before .before .before .before .before .before .before .before .before .before .before .before .args .read) (c .before .before .before .before .before .before .before .before .before .before .before .before .args .found) (c .before .before .before .before .before .before .before .before .before .before .before .before .args .out .now) (c .before .before .before .before .before .before .before .before .before .before .before .before .args .scratch .now) (c .before .before .before .before .before .before .before .before .before .before .before .before .args .rest) (c .before .before .before .before .before .before .before .before .before .before .before .before .pre) _ (c .before .before .before .before .before .before .before .before .same .ensures) (not-false _ (c .before .before .before .before .before .before .before .if1 .left)) _ (c .before .before .before .before .before .draw .ensures .0) _ (c .before .before .before .before .before .draw .ensures .1) (c .undecoded2 .ensures) _ (c .before .enum-told .given .1)
+returns-2 c =
+    let start = c .before .before .before .before .before .before .before .before .before .before .before .before in
+    let a = start .args in
+    let bytes = all-bytes (a .s .now) (λ i. omega (arith, c .before .before .before .before .before .before .before .before .before .before .before .shared-slice-known .given i)) in
+    let compared = c .before .before .before .before .before .before .before .before in
+    let drew = c .before .before .before .before .before in
+    draws-stop (a .s .now) bytes (a .read) (a .found) (a .out .now) (a .scratch .now) (a .rest) (start .pre) _ (compared .same .ensures)
+    (not-false _ (c .before .before .before .before .before .before .before .if1 .left)) _ (drew .draw .ensures .0) _ (drew .draw .ensures .1) (c .undecoded2 .ensures) _
+    (c .before .enum-told .given .1)
 
 same-length-2 : tie.Need-same-length-2
 same-length-2 c = search needs
@@ -50,7 +65,15 @@ same-length-3 : tie.Need-same-length-3
 same-length-3 c = search needs
 
 returns-3 : tie.Need-returns-3
-returns-3 c = draws-done (c .before .before .before .before .before .before .before .before .before .before .before .before .before .before .before .before .args .s .now) (all-bytes (c .before .before .before .before .before .before .before .before .before .before .before .before .before .before .before .before .args .s .now) (λ i. omega (arith, c .before .before .before .before .before .before .before .before .before .before .before .before .before .before .before .shared-slice-known .given i))) (c .before .before .before .before .before .before .before .before .before .before .before .before .before .before .before .before .args .read) (c .before .before .before .before .before .before .before .before .before .before .before .before .before .before .before .before .args .found) (c .before .before .before .before .before .before .before .before .before .before .before .before .before .before .before .before .args .out .now) (c .before .before .before .before .before .before .before .before .before .before .before .before .before .before .before .before .args .scratch .now) (c .before .before .before .before .before .before .before .before .before .before .before .before .before .before .before .before .args .rest) (c .before .before .before .before .before .before .before .before .before .before .before .before .before .before .before .before .pre) _ (c .before .before .before .before .before .before .before .before .before .before .before .before .same .ensures) (not-false _ (c .before .before .before .before .before .before .before .before .before .before .before .if1 .left)) _ (c .before .before .before .before .before .before .before .before .before .draw .ensures .0) _ (c .before .before .before .before .before .before .before .before .before .draw .ensures .1) (c .before .before .before .before .before .enum-told2 .given .1) refl (c .before .before .picture .ensures)
+returns-3 c =
+    let start = c .before .before .before .before .before .before .before .before .before .before .before .before .before .before .before .before .before in
+    let a = start .args in
+    let bytes = all-bytes (a .s .now) (λ i. omega (arith, c .before .before .before .before .before .before .before .before .before .before .before .before .before .before .before .before .shared-slice-known .given i)) in
+    let compared = c .before .before .before .before .before .before .before .before .before .before .before .before .before in
+    let drew = c .before .before .before .before .before .before .before .before .before .before in
+    draws-done (a .s .now) bytes (a .read) (a .found) (a .out .now) (a .scratch .now) (a .rest) (start .pre) _ (compared .same .ensures)
+    (not-false _ (c .before .before .before .before .before .before .before .before .before .before .before .before .if1 .left)) _ (drew .draw .ensures .0) _ (drew .draw .ensures .1)
+    (c .before .before .before .before .before .before .enum-told2 .given .1) refl (c .before .before .picture .ensures)
 
 pub draw-spec : {M : Type 1} → statement M
 draw-spec =

@@ -1,11 +1,12 @@
-use Prim.Native.Nat.{_/_, _%_}
-use mathlib.Core.Path.{ap, _∙_}
+use Prim.Native.Nat.{_+_, _*_, _/_, _%_, _<_, _^_}
+use mathlib.Core.Path.{refl, ap, _∙_}
+use mathlib.Core.List.{map}
 use native.Mathlib.Omega.{arith}
-use Rattle.reading.specs.Header.{dcId, acId}
-use Rattle.reading.proofs.Fits.{each-made}
+use Rattle.reading.specs.Header.{byte}
 use Rattle.reading.proofs.Accepted.{blocks-are, count-small, bytes-are, output-small}
-use Rattle.jpeg_header_state.proofs.Rules.{record-made}
 use Rattle.reading.proofs.Frames.{FrameOk}
+use Rattle.jpeg_header_rules.proofs.Channels.{map-each}
+use Rattle.jpeg_header_state.proofs.Rules.{record-made}
 use Rattle.jpeg_header_state.proofs.Numbers.{alike, alike-ok}
 use Rattle.jpeg_header_state.proofs.record_of.Statement.{statement}
 use Rattle.jpeg_header_state.proofs.record_of.Tie as tie
@@ -13,54 +14,63 @@ use Rattle.jpeg_header_state.proofs.record_of.Tie as tie
 ok : (c : tie.Start) → FrameOk (alike (c .args .state .frame))
 ok c = alike-ok (c .args .state .frame) (c .pre)
 
-byte-at-requires : tie.Need-byte-at-requires
-byte-at-requires c κs = tt
+-- how large the two sizes can be
+few-blocks : (c : tie.After-block-count) → c .block-count .result < 2 ^ 29
+few-blocks c =
+    let start = c .before .before .before .before .before .before .before in
+    let f = alike (start .args .state .frame) in
+    omega (arith, c .block-count .ensures, blocks-are f (ok start), count-small f (ok start))
 
-byte-at-requires-2 : tie.Need-byte-at-requires-2
-byte-at-requires-2 c κs = tt
-
-byte-at-requires-3 : tie.Need-byte-at-requires-3
-byte-at-requires-3 c κs = tt
+few-bytes : (c : tie.After-output-length) → c .output-length .result < 2 ^ 34
+few-bytes c =
+    let start = c .before .before .before .before .before .before .before .before in
+    let f = alike (start .args .state .frame) in
+    omega (arith, c .output-length .ensures, bytes-are f (ok start), output-small f (ok start))
 
 each-requires : tie.Need-each-requires
 each-requires c κs = tt
 
-each-requires-2 : tie.Need-each-requires-2
-each-requires-2 c κs = tt
+high-halves-requires : tie.Need-high-halves-requires
+high-halves-requires c κs = tt
+
+low-halves-requires : tie.Need-low-halves-requires
+low-halves-requires c κs = tt
 
 block-count-requires : tie.Need-block-count-requires
-block-count-requires c κs = c .before .before .before .before .before .before .before .pre
+block-count-requires c κs = c .before .before .before .before .before .before .pre
 
 output-length-requires : tie.Need-output-length-requires
-output-length-requires c κs = c .before .before .before .before .before .before .before .before .pre
+output-length-requires c κs = c .before .before .before .before .before .before .before .pre
 
-mul-t19 : tie.Need-mul-t19
-mul-t19 c = omega (arith, c .before .before .before .before .before .before .block-count .ensures, blocks-are (alike (c .before .before .before .before .before .before .before .before .before .before .before .before .before .before .args .state .frame)) (ok (c .before .before .before .before .before .before .before .before .before .before .before .before .before .before)), count-small (alike (c .before .before .before .before .before .before .before .before .before .before .before .before .before .before .args .state .frame)) (ok (c .before .before .before .before .before .before .before .before .before .before .before .before .before .before)))
+mul-t12 : tie.Need-mul-t12
+mul-t12 c = omega (arith, few-blocks (c .before))
 
-mul-t23 : tie.Need-mul-t23
-mul-t23 c = omega (arith, c .before .before .before .before .before .before .block-count .ensures, blocks-are (alike (c .before .before .before .before .before .before .before .before .before .before .before .before .before .before .args .state .frame)) (ok (c .before .before .before .before .before .before .before .before .before .before .before .before .before .before)), count-small (alike (c .before .before .before .before .before .before .before .before .before .before .before .before .before .before .args .state .frame)) (ok (c .before .before .before .before .before .before .before .before .before .before .before .before .before .before)))
+mul-t14 : tie.Need-mul-t14
+mul-t14 c = omega (arith, few-blocks (c .before))
 
-add-t25 : tie.Need-add-t25
-add-t25 c = omega (arith, c .before .before .before .before .before .before .block-count .ensures, blocks-are (alike (c .before .before .before .before .before .before .before .before .before .before .before .before .before .before .args .state .frame)) (ok (c .before .before .before .before .before .before .before .before .before .before .before .before .before .before)), count-small (alike (c .before .before .before .before .before .before .before .before .before .before .before .before .before .before .args .state .frame)) (ok (c .before .before .before .before .before .before .before .before .before .before .before .before .before .before)), c .before .before .before .before .before .output-length .ensures, bytes-are (alike (c .before .before .before .before .before .before .before .before .before .before .before .before .before .before .args .state .frame)) (ok (c .before .before .before .before .before .before .before .before .before .before .before .before .before .before)), output-small (alike (c .before .before .before .before .before .before .before .before .before .before .before .before .before .before .args .state .frame)) (ok (c .before .before .before .before .before .before .before .before .before .before .before .before .before .before)))
+add-t16 : tie.Need-add-t16
+add-t16 c = omega (arith, few-blocks (c .before), few-bytes c)
 
 returns : tie.Need-returns
-returns c = record-made (c .before .before .before .before .before .before .before .before .before .before .before .before .before .before .args .body .now) (c .before .before .before .before .before .before .before .before .before .before .before .before .before .before .args .colour) (c .before .before .before .before .before .before .before .before .before .before .before .before .before .before .args .state) (c .before .before .before .before .before .before .before .before .before .before .before .before .before .before .args .end) _ _ _ _
-    (c .before .before .before .before .before .before .before .before .each .ensures ∙ each-made (c .before .before .before .before .before .before .before .before .before .before .before .before .before .before .args .state .frame .channels) _ _ _ (dcId (c .before .before .before .before .before .before .before .before .before .before .before .before .before .before .args .body .now)) (ap (λ x. x / 16) (c .before .before .before .before .before .before .before .before .before .before .before .byte-at .ensures)) (ap (λ x. x / 16) (c .before .before .before .before .before .before .before .before .before .before .byte-at2 .ensures)) (ap (λ x. x / 16) (c .before .before .before .before .before .before .before .before .before .byte-at3 .ensures)))
-    (c .before .before .before .before .before .before .before .each2 .ensures ∙ each-made (c .before .before .before .before .before .before .before .before .before .before .before .before .before .before .args .state .frame .channels) _ _ _ (acId (c .before .before .before .before .before .before .before .before .before .before .before .before .before .before .args .body .now)) (ap (λ x. x % 16) (c .before .before .before .before .before .before .before .before .before .before .before .byte-at .ensures)) (ap (λ x. x % 16) (c .before .before .before .before .before .before .before .before .before .before .byte-at2 .ensures)) (ap (λ x. x % 16) (c .before .before .before .before .before .before .before .before .before .byte-at3 .ensures)))
-    (c .before .before .before .before .before .before .block-count .ensures) (c .before .before .before .before .before .output-length .ensures)
+returns c =
+    let start = c .before .before .before .before .before .before .before .before .args in
+    let ch = start .state .frame .channels in
+    let ids = c .before .before .before .before .each .ensures in
+    record-made (start .body .now) (start .colour) (start .state) (start .end) _ _ _ _
+    (c .before .before .before .high-halves .ensures ∙ ap (map (λ x. x / 16)) ids ∙ map-each (λ x. x / 16) refl ch (λ k. byte (start .body .now) (2 + 2 * k)))
+    (c .before .before .low-halves .ensures ∙ ap (map (λ x. x % 16)) ids ∙ map-each (λ x. x % 16) refl ch (λ k. byte (start .body .now) (2 + 2 * k)))
+    (c .before .block-count .ensures) (c .output-length .ensures)
 
 pub record-of-spec : {M : Type 1} → statement M
 record-of-spec =
     tie.close
     (tie.spec
-    byte-at-requires
-    byte-at-requires-2
-    byte-at-requires-3
     each-requires
-    each-requires-2
+    high-halves-requires
+    low-halves-requires
     block-count-requires
     output-length-requires
-    mul-t19
-    mul-t23
-    add-t25
+    mul-t12
+    mul-t14
+    add-t16
     returns)

@@ -1,3 +1,4 @@
+-- `same_sizes`: number by number, then the colour choice. In each proof p1, p2, .. are the places behind the tests that were passed.
 use mathlib.Core.Path.{_≡_, refl}
 use mathlib.Core.Bool.{Bool, true, false, not}
 use borrow.Author.Tests.{eq-eqb, ne-eqb}
@@ -19,27 +20,38 @@ returns : tie.Need-returns
 returns c = rw (ne-eqb _ _ (c .if1 .taken)) refl
 
 returns-2 : tie.Need-returns-2
-returns-2 c = rw (eq-eqb _ _ (c .before .before .before .if1 .left), ne-eqb _ _ (c .if2 .taken)) refl
+returns-2 c =
+    let p1 = c .before .before .before in
+    rw (eq-eqb _ _ (p1 .if1 .left), ne-eqb _ _ (c .if2 .taken)) refl
 
 returns-3 : tie.Need-returns-3
-returns-3 c = rw (eq-eqb _ _ (c .before .before .before .before .before .before .if1 .left), eq-eqb _ _ (c .before .before .before .if2 .left), ne-eqb _ _ (c .if3 .taken)) refl
+returns-3 c =
+    let p2 = c .before .before .before in
+    let p1 = p2 .before .before .before in
+    rw (eq-eqb _ _ (p1 .if1 .left), eq-eqb _ _ (p2 .if2 .left), ne-eqb _ _ (c .if3 .taken)) refl
 
 returns-4 : tie.Need-returns-4
-returns-4 c = rw (eq-eqb _ _ (c .before .before .before .before .before .before .before .before .before .if1 .left), eq-eqb _ _ (c .before .before .before .before .before .before .if2 .left), eq-eqb _ _ (c .before .before .before .if3 .left), ne-eqb _ _ (c .if4 .taken)) refl
+returns-4 c =
+    let p3 = c .before .before .before in
+    let p2 = p3 .before .before .before in
+    let p1 = p2 .before .before .before in
+    rw (eq-eqb _ _ (p1 .if1 .left), eq-eqb _ _ (p2 .if2 .left), eq-eqb _ _ (p3 .if3 .left), ne-eqb _ _ (c .if4 .taken)) refl
 
 returns-5 : tie.Need-returns-5
-returns-5 c = rw (eq-eqb _ _ (c .before .before .before .before .before .before .before .before .before .before .before .before .if1 .left), eq-eqb _ _ (c .before .before .before .before .before .before .before .before .before .if2 .left), eq-eqb _ _ (c .before .before .before .before .before .before .if3 .left), eq-eqb _ _ (c .before .before .before .if4 .left), ne-eqb _ _ (c .if5 .taken)) refl
+returns-5 c =
+    let p4 = c .before in
+    let p3 = p4 .before .before .before in
+    let p2 = p3 .before .before .before in
+    let p1 = p2 .before .before .before in
+    rw (eq-eqb _ _ (p1 .if1 .left), eq-eqb _ _ (p2 .if2 .left), eq-eqb _ _ (p3 .if3 .left), eq-eqb _ _ (p4 .if4 .left)) (when-set _ _ (c .if5 .taken))
 
 returns-6 : tie.Need-returns-6
-returns-6 c = rw (eq-eqb _ _ (c .before .before .before .before .before .before .before .before .before .before .before .before .before .before .before .if1 .left), eq-eqb _ _ (c .before .before .before .before .before .before .before .before .before .before .before .before .if2 .left), eq-eqb _ _ (c .before .before .before .before .before .before .before .before .before .if3 .left), eq-eqb _ _ (c .before .before .before .before .before .before .if4 .left), eq-eqb _ _ (c .before .before .before .if5 .left), ne-eqb _ _ (c .if6 .taken)) refl
-
-returns-7 : tie.Need-returns-7
-returns-7 c = rw (eq-eqb _ _ (c .before .before .before .before .before .before .before .before .before .before .before .before .before .before .before .before .if1 .left), eq-eqb _ _ (c .before .before .before .before .before .before .before .before .before .before .before .before .before .if2 .left), eq-eqb _ _ (c .before .before .before .before .before .before .before .before .before .before .if3 .left), eq-eqb _ _ (c .before .before .before .before .before .before .before .if4 .left), eq-eqb _ _ (c .before .before .before .before .if5 .left), eq-eqb _ _ (c .before .if6 .left)) (when-set _ _ (c .if7 .taken))
-
-returns-8 : tie.Need-returns-8
-returns-8 c = rw (eq-eqb _ _ (c .before .before .before .before .before .before .before .before .before .before .before .before .before .before .before .before .before .if1 .left), eq-eqb _ _ (c .before .before .before .before .before .before .before .before .before .before .before .before .before .before .if2 .left), eq-eqb _ _ (c .before .before .before .before .before .before .before .before .before .before .before .if3 .left), eq-eqb _ _ (c .before .before .before .before .before .before .before .before .if4 .left), eq-eqb _ _ (c .before .before .before .before .before .if5 .left), eq-eqb _ _ (c .before .before .if6 .left)) (when-clear _ _ (c .before .if7 .left))
+returns-6 c =
+    let p4 = c .before .before in
+    let p3 = p4 .before .before .before in
+    let p2 = p3 .before .before .before in
+    let p1 = p2 .before .before .before in
+    rw (eq-eqb _ _ (p1 .if1 .left), eq-eqb _ _ (p2 .if2 .left), eq-eqb _ _ (p3 .if3 .left), eq-eqb _ _ (p4 .if4 .left)) (when-clear _ _ (c .before .if5 .left))
 
 pub same-sizes-spec : {M : Type 1} → statement M
-same-sizes-spec =
-    tie.close
-    (tie.spec returns returns-2 returns-3 returns-4 returns-5 returns-6 returns-7 returns-8)
+same-sizes-spec = tie.close (tie.spec returns returns-2 returns-3 returns-4 returns-5 returns-6)

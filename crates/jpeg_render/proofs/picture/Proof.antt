@@ -15,10 +15,12 @@ same-length : tie.Need-same-length
 same-length c = search needs
 
 returns : tie.Need-returns
-returns c = rendered-fit _ _ _ (sym (c .before .before .before .before .before .fits2 .ensures) ∙ c .before .before .before .before .if1 .taken) (c .before .before .picture .ensures)
+returns c =
+    let test = c .before .before .before .before in
+    rendered-fit _ _ _ _ (sym (test .before .fits2 .ensures) ∙ test .if1 .taken) (c .before .before .picture .ensures)
 
 returns-2 : tie.Need-returns-2
-returns-2 c = rendered-unfit _ _ _ (sym (c .before .fits2 .ensures) ∙ c .if1 .left)
+returns-2 c = rendered-unfit _ _ _ _ (sym (c .before .fits2 .ensures) ∙ c .if1 .left)
 
 pub picture-spec : {M : Type 1} → statement M
 picture-spec = tie.close (tie.spec fits-requires picture-requires same-length returns returns-2)

@@ -87,7 +87,7 @@ enum-told-2 : tie.Need-enum-told-2 Inv-mcus μ-mcus
 enum-told-2 c = search needs
 
 limit : (c : tie.Start Inv-mcus μ-mcus) → c .args .found .blocks < 2 ^ 64
-limit c = omega (arith, c .good .1 .0 .1 .1 .1 .1 .1 .1 .1 .1 .1 .1 .1 .1 .1 .1 .0)
+limit c = omega (arith, c .good .1 .0 .1 .1 .1 .1 .1 .1 .0)
 
 add-m : tie.Need-add-m Inv-mcus μ-mcus
 add-m c =
@@ -122,7 +122,7 @@ returns-2 c =
     let w = (c .before .before .before .before) .mcus .inv in
     let u = set-up (c .before .before .before .before .before .before) in
     let e = scan-done (a .s .now) (a .found) (u .readable-is) (from-start (c .before .before .before .before .before) (all-read w _ (u .numbers) (c .before .before .if2 .taken))) (sym (c .before .at-end .ensures) ∙ c .if3 .taken) in
-    (answer-done e, left-done (a .s .now) (a .found) (a .write) _ e (w .on _ (u .numbers) .here))
+    (answer-done e, left-done (a .s .now) (a .found) (a .write) _ e (w .on _ (u .numbers) .here _ (u .quantizers)))
 
 same-length-2 : tie.Need-same-length-2 Inv-mcus μ-mcus
 same-length-2 c = c .before .before .before .before .before .mcus .inv .size

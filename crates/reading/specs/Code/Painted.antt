@@ -7,12 +7,11 @@ use mathlib.Core.List.{List}
 use lib.Dec.{ltb}
 use lib.ListN.{take, length}
 use lib.IntN.{ℤ}
-use Rattle.reading.specs.declared.Record.{Record}
 use Rattle.reading.specs.declared.Bits.{Bits}
 use Rattle.reading.specs.Tests.{over}
 use Rattle.reading.specs.Scan.{Scanned, whole, broke}
 use Rattle.reading.specs.Transform.{coefficients, samples}
-use Rattle.reading.specs.Layout.{channelOf}
+use Rattle.reading.specs.Layout.{Shape, channelOf}
 use Rattle.reading.specs.Reading.{allSamples}
 
 -- the samples that a block's first n levels make, the others taken as 0, by a quantizer
@@ -25,9 +24,9 @@ unfoldable pub painted : List ℕ → List ℤ → ℕ → List ℕ → List ℕ
 unfolding samplesTo
 painted q l n out = cond (ltb (length out) 64) out (over (samplesTo q l n) out)
 
--- what a scan leaves in the scratch: the samples of its blocks, then the old tail; the scratch as it was on a fault, or where
+-- what a scan of n blocks leaves in the scratch: the samples of its blocks, then the old tail; the scratch as it was on a fault, or where
 -- it has no room for all blocks
-unfoldable pub drawn : List ℕ → Record → Scanned Bits (List (List ℤ)) → List ℕ → List ℕ
+unfoldable pub drawn : Shape → (ℕ → List ℕ) → ℕ → Scanned Bits (List (List ℤ)) → List ℕ → List ℕ
 unfolding channelOf coefficients samples
-drawn s r (whole ls b) old = cond (ltb (length old) (64 * r .blocks)) old (over (allSamples s r ls) old)
-drawn s r (broke w) old = old
+drawn p quant n (whole ls b) old = cond (ltb (length old) (64 * n)) old (over (allSamples p quant ls) old)
+drawn p quant n (broke w) old = old

@@ -40,7 +40,9 @@ nowhere = record { fault = Broken; block = 0; place = 0 }
 
 -- a record's numbers by which a scan can be read: the first coded byte lies within the file, factors 1 to 4, 1 to 3 channels
 unfoldable pub readable : List ℕ → Record → Bool
-readable s r = leb (r .start) (length s) and within 1 4 (r .hs) and within 1 4 (r .vs) and within 1 3 (r .channels)
+readable s r =
+    leb (r .start) (length s) and within 1 4 (r .frame .hs) and within 1 4 (r .frame .vs)
+    and within 1 3 (r .frame .channels)
 
 -- the scan as the code reads it: a record with other numbers, which no header gives, is Broken
 unfoldable pub scanOf : List ℕ → Record → Scanned Bits (List (List ℤ))

@@ -29,16 +29,19 @@ slice-aggregate-with-text-2 c = search needs
 with-text-requires-2 : tie.Need-with-text-requires-2
 with-text-requires-2 c κs = search needs
 
+-- the sides fit 64 bits, as every `usize` does: what the language knows of a parameter is `good`
 returns : tie.Need-returns
 unfolding pictureHead
 returns c =
-    let r = c .before .before .before .before .before .before .before .args .found in
-    let wide : r .width < 18446744073709551616 = search needs in
-    let high : r .height < 18446744073709551616 = search needs in
-    let kind : Holds (c .before .before .before .before .before .before .kind .result) (kindOf (r .channels)) 3 = record { is = c .before .before .before .before .before .before .kind .ensures; short = omega arith } in
-    let across = on kind (decimal (r .width)) 20 (decimal-short _ wide) (omega arith) (c .before .before .before .before .before .with-number .ensures) in
+    let named = c .before .before .before .before .before .before in
+    let start = named .before .before in
+    let f = start .args .found .frame in
+    let wide : f .width < 18446744073709551616 = omega (arith, start .good .0 .1 .1 .0 .1 .1 .0) in
+    let high : f .height < 18446744073709551616 = omega (arith, start .good .0 .1 .1 .0 .1 .1 .1 .0) in
+    let kind : Holds (named .kind .result) (kindOf (f .channels)) 3 = record { is = named .kind .ensures; short = omega arith } in
+    let across = on kind (decimal (f .width)) 20 (decimal-short _ wide) (omega arith) (c .before .before .before .before .before .with-number .ensures) in
     let gap = on across (32 ∷ []) 1 (omega arith) (omega arith) (c .before .before .before .with-text .ensures) in
-    let down = on gap (decimal (r .height)) 20 (decimal-short _ high) (omega arith) (c .before .before .with-number2 .ensures) in
+    let down = on gap (decimal (f .height)) 20 (decimal-short _ high) (omega arith) (c .before .before .with-number2 .ensures) in
     on down (10 ∷ 50 ∷ 53 ∷ 53 ∷ 10 ∷ []) 5 (omega arith) (omega arith) (c .with-text2 .ensures) .is
 
 pub picture-head-spec : {M : Type 1} → statement M

@@ -3,7 +3,7 @@ use Prim.Native.Nat.{ℕ, _*_}
 use mathlib.Core.Path.{_≡_, sym, ap, ap₂, _∙_}
 use native.Mathlib.Omega.{arith}
 use borrow.Author.Needs.{needs}
-use Rattle.reading.specs.declared.Record.{Record}
+use Rattle.reading.specs.declared.Frame.{Frame}
 use Rattle.reading.specs.Layout.{ceiling}
 use Rattle.jpeg_render.specs.Rows.{perOf}
 use Rattle.jpeg_render.proofs.Fitting.{blocks-are}
@@ -12,19 +12,19 @@ use Rattle.jpeg_render.proofs.layout.all_samples.Statement.{statement}
 use Rattle.jpeg_render.proofs.layout.all_samples.Tie as tie
 
 -- the MCUs of a picture, and its blocks, in the rules' words
-abbrev mcusIn : Record → ℕ
+abbrev mcusIn : Frame → ℕ
 mcusIn r = ceiling (r .width) (8 * r .hs) * ceiling (r .height) (8 * r .vs)
 
-abbrev blocksIn : Record → ℕ
+abbrev blocksIn : Frame → ℕ
 blocksIn r = mcusIn r * perOf r
 
-mcus-are : (c : tie.After-mcus2) → c .before .mcus .result * c .mcus2 .result ≡ mcusIn (c .before .before .args .found)
+mcus-are : (c : tie.After-mcus2) → c .before .mcus .result * c .mcus2 .result ≡ mcusIn (c .before .before .args .frame)
 mcus-are c =
     let across = c .before in
     let start = across .before in
     ap₂ (λ (x y : ℕ). x * y) (across-asked _ (start .pre) (across .mcus .ensures)) (down-asked _ (start .pre) (c .mcus2 .ensures))
 
-product-is : (c : tie.After-mcu-blocks) → c .before .before .mcus .result * c .before .mcus2 .result * c .mcu-blocks .result ≡ blocksIn (c .before .before .before .args .found)
+product-is : (c : tie.After-mcu-blocks) → c .before .before .mcus .result * c .before .mcus2 .result * c .mcu-blocks .result ≡ blocksIn (c .before .before .before .args .frame)
 product-is c =
     let down = c .before in
     let start = down .before .before in

@@ -9,10 +9,10 @@ use Rattle.jpeg_render.proofs.RowPlaces.{across-asked, per-asked, strip
 use Rattle.jpeg_render.proofs.layout.blocks_above.Statement.{statement}
 use Rattle.jpeg_render.proofs.layout.blocks_above.Tie as tie
 
-across-is : (c : tie.After-mcus) → c .mcus .result ≡ ceiling (c .before .args .found .width) (8 * c .before .args .found .hs)
+across-is : (c : tie.After-mcus) → c .mcus .result ≡ ceiling (c .before .args .frame .width) (8 * c .before .args .frame .hs)
 across-is c = across-asked _ (c .before .pre .0) (c .mcus .ensures)
 
-per-is : (c : tie.After-mcu-blocks) → c .mcu-blocks .result ≡ perOf (c .before .before .args .found)
+per-is : (c : tie.After-mcu-blocks) → c .mcu-blocks .result ≡ perOf (c .before .before .args .frame)
 per-is c = per-asked _ (c .before .before .pre .0) (c .mcu-blocks .ensures)
 
 mcus-requires : tie.Need-mcus-requires

@@ -12,12 +12,12 @@ use Rattle.jpeg_render.proofs.render.row.Statement.{statement}
 use Rattle.jpeg_render.proofs.render.row.Tie as tie
 
 abbrev Inv-loop : tie.InvT-loop
-Inv-loop found y samples out₀ start step luma₀ chroma₀ x₀ out luma chroma x = RowTo found y samples out₀ luma chroma x out
+Inv-loop frame colour y samples out₀ start step luma₀ chroma₀ x₀ out luma chroma x = RowTo frame colour y samples out₀ luma chroma x out
 
 abbrev μ-loop : tie.MeasureT-loop
-μ-loop found y samples out₀ start step luma₀ chroma₀ x₀ out luma chroma x = found .width - x
+μ-loop frame colour y samples out₀ start step luma₀ chroma₀ x₀ out luma chroma x = frame .width - x
 
-pixels-most : (c : tie.Start Inv-loop μ-loop) → c .args .found .width * c .args .found .channels ≤ 196605
+pixels-most : (c : tie.Start Inv-loop μ-loop) → c .args .frame .width * c .args .frame .channels ≤ 196605
 pixels-most c = mul-le-mul (c .pre .0 .sized .width-most) (channels-in _ (c .pre .0 .sized) .1)
 
 mul-start : tie.Need-mul-start Inv-loop μ-loop
@@ -29,7 +29,7 @@ mul-start-2 c = omega (arith, row-room _ _ _ (c .before .before .before .pre .0)
 mcu-blocks-requires : tie.Need-mcu-blocks-requires Inv-loop μ-loop
 mcu-blocks-requires c κs = tt
 
-per-is : (c : tie.After-mcu-blocks Inv-loop μ-loop) → c .mcu-blocks .result ≡ perOf (c .before .before .before .before .args .found)
+per-is : (c : tie.After-mcu-blocks Inv-loop μ-loop) → c .mcu-blocks .result ≡ perOf (c .before .before .before .before .args .frame)
 per-is c = let start = c .before .before .before .before in per-asked _ (start .pre .0 .sized) (c .mcu-blocks .ensures)
 
 mul-step : tie.Need-mul-step Inv-loop μ-loop
@@ -42,7 +42,9 @@ chroma-of-row-requires : tie.Need-chroma-of-row-requires Inv-loop μ-loop
 chroma-of-row-requires c κs = (c .before .before .before .before .before .pre .0 .sized, c .before .before .before .before .before .pre .1)
 
 loop-holds : tie.Need-loop-holds Inv-loop μ-loop
-loop-holds c = row-none _ _ _ (c .before .before .before .before .before .before .pre .0) _ (c .before .before .before .before .before .before .pre .1) (c .before .luma-of-row .ensures) (c .chroma-of-row .ensures)
+loop-holds c =
+    let start = c .before .before .before .before .before .before in
+    row-none _ _ _ _ (start .pre .0) _ (start .pre .1) (c .before .luma-of-row .ensures) (c .chroma-of-row .ensures)
 
 sub-least : tie.Need-sub-least Inv-loop μ-loop
 sub-least c = omega (arith, c .before .if1 .taken)
@@ -54,13 +56,28 @@ least-requires : tie.Need-least-requires Inv-loop μ-loop
 least-requires c κs = tt
 
 mul-mcu : tie.Need-mul-mcu Inv-loop μ-loop
-mul-mcu c = omega (arith, pixels-most (c .before .before .before .before .before .before .before .before .before .before .before .before .before .before), mul-le-mul-right (c .before .before .before .before .before .before .before .before .before .before .before .before .before .before .args .found .channels) (c .before .before .before .before .before .before .before .loop .inv .drawn .within))
+mul-mcu c =
+    let here = c .before .before .before .before .before .before .before in
+    let start = here .before .before .before .before .before .before .before in
+    omega (arith, pixels-most start, mul-le-mul-right (start .args .frame .channels) (here .loop .inv .drawn .within))
 
 add-mcu : tie.Need-add-mcu Inv-loop μ-loop
-add-mcu c = omega (arith, row-room _ _ _ (c .before .before .before .before .before .before .before .before .before .before .before .before .before .before .pre .0) _ (c .before .before .before .before .before .before .before .before .before .before .before .before .before .before .pre .1), mul-le-mul-right (c .before .before .before .before .before .before .before .before .before .before .before .before .before .before .args .found .channels) (c .before .before .before .before .before .before .before .loop .inv .drawn .within), c .before .before .before .before .before .before .before .before .before .before .before .before .before .before .good)
+add-mcu c =
+    let here = c .before .before .before .before .before .before .before in
+    let start = here .before .before .before .before .before .before .before in
+    omega (
+      arith,
+      row-room _ _ _ (start .pre .0) _ (start .pre .1),
+      mul-le-mul-right (start .args .frame .channels) (here .loop .inv .drawn .within),
+      start .good,
+    )
 
 mcu-requires : tie.Need-mcu-requires Inv-loop μ-loop
-mcu-requires c κs = next-fits _ _ _ (c .before .before .before .before .before .before .before .before .before .before .before .before .before .before .pre .0) _ (c .before .before .before .before .before .before .before .before .before .before .before .before .before .before .pre .1) (c .before .before .before .before .before .before .before .loop .inv) (c .before .before .before .before .before .if1 .taken) _ (c .before .before .least .ensures) (omega arith)
+mcu-requires c κs =
+    let test = c .before .before .before .before .before in
+    let here = test .before .before in
+    let start = here .before .before .before .before .before .before .before in
+    next-fits _ _ _ _ (start .pre .0) _ (start .pre .1) (here .loop .inv) (test .if1 .taken) _ (c .before .before .least .ensures) (omega arith)
 
 add-luma : tie.Need-add-luma Inv-loop μ-loop
 add-luma c =
@@ -70,7 +87,7 @@ add-luma c =
     let start = per .before .before .before .before in
     omega (
       arith,
-      luma-most _ _ _ (start .pre .0) _ (start .pre .1) (here .loop .inv) (test .if1 .taken),
+      luma-most _ _ _ _ (start .pre .0) _ (start .pre .1) (here .loop .inv) (test .if1 .taken),
       per-is per,
       per-most _ (start .pre .0 .sized),
       start .good,
@@ -84,7 +101,7 @@ add-chroma c =
     let start = per .before .before .before .before in
     omega (
       arith,
-      chroma-counted _ _ _ (start .pre .0) _ (start .pre .1) (here .loop .inv) (test .if1 .taken),
+      chroma-counted _ _ _ _ (start .pre .0) _ (start .pre .1) (here .loop .inv) (test .if1 .taken),
       per-is per,
       per-most _ (start .pre .0 .sized),
       start .good,
@@ -105,6 +122,7 @@ loop-again c =
     let per = here .before .before .before in
     let start = per .before .before .before .before in
     row-next
+    _
     _
     _
     _

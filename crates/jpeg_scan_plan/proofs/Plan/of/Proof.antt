@@ -32,7 +32,7 @@ chosen-requires-3 : tie.Need-chosen-requires-3
 chosen-requires-3 c κs = search needs
 
 mul-lumas : tie.Need-mul-lumas
-mul-lumas c = omega (arith, lumas-few (fit (c .before .before .before .before .before .before .before .before .before .before)))
+mul-lumas c = omega (arith, lumas-few (fit (c .before .before .before .before .before .before .before .before .before .before .before .before)))
 
 mcu-blocks-requires : tie.Need-mcu-blocks-requires
 mcu-blocks-requires c κs = search needs
@@ -43,7 +43,7 @@ returns-2 c =
     let thirds = c .before .before in
     let seconds = thirds .before in
     let firsts = seconds .before in
-    let tested = firsts .before .before .before .before .before .before .before in
+    let tested = firsts .before .before .before .before .before .before .before .before .before in
     let f = fit tested in
     rw (
       firsts .chosen .ensures,

@@ -1,0 +1,15 @@
+-- `Record::none`: no frame and no table.
+use Rattle.reading.proofs.Record.none.Statement.{statement}
+use Rattle.reading.proofs.Record.none.Tie as tie
+
+none-requires : tie.Need-none-requires
+none-requires c κs = tt
+
+none-requires-2 : tie.Need-none-requires-2
+none-requires-2 c κs = tt
+
+returns : tie.Need-returns
+returns c = rw (c .before .none .ensures, c .none2 .ensures)
+
+pub none-spec : {M : Type 1} → statement M
+none-spec = tie.close (tie.spec none-requires none-requires-2 returns)
