@@ -7,7 +7,7 @@
 #include <stdlib.h>
 #include <string.h>
 
-enum { MOST = 262144, HEAD = 9, NUMBERS = 36 };
+enum { MOST = 262144, HEAD = 9, NUMBERS = 46 };
 
 struct request {
     uint64_t job, colour, input, side, output, budget, room, scratch_room, length;

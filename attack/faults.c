@@ -20,6 +20,13 @@ static void misname(uint64_t *number, uint64_t *block, uint64_t *place) {
     *block -= FAULT == 26 && *number == 4 && *block > 0;
 }
 
+static bool ten_blocks(const tillsparrow_record *found) {
+    uint64_t blocks = 0;
+    for (int i = 0; i < 4; i++)
+        blocks += found->across[i] * found->down[i];
+    return blocks == 10;
+}
+
 tillsparrow_inspected tillsparrow_inspect(const uint8_t *bytes, size_t length, bool colour, size_t input, size_t side, size_t output,
                                           uint64_t budget) {
     if (FAULT == 1 && length > 300)
@@ -29,6 +36,12 @@ tillsparrow_inspected tillsparrow_inspect(const uint8_t *bytes, size_t length, b
     tillsparrow_inspected seen = REAL(inspect)(bytes, length, colour, input, side, output, budget);
     seen.left -= FAULT == 3 && seen.number == 6;
     seen.found.width += FAULT == 4 && seen.number == 4;
+    seen.found.down[3] += FAULT == 27 && seen.number == 0 && seen.found.channels == 4;
+    if (FAULT == 28 && seen.number == 0 && ten_blocks(&seen.found)) {
+        seen.left += seen.found.work; /* as many blocks as an MCU may have, refused */
+        seen.number = 5;
+        seen.found = (tillsparrow_record){0};
+    }
     seen.found.quants[2] += FAULT == 5 && seen.number == 0 && seen.found.interval > 0;
     if (FAULT == 6 && seen.number == 2 && budget == 2 * (uint64_t)length + seen.left)
         seen.number = 1;
@@ -49,12 +62,16 @@ tillsparrow_decoded tillsparrow_decode(const uint8_t *bytes, size_t length, till
         output[output_length - 1] ^= 1; /* a refusal that writes */
     if (FAULT == 8 && drawn.number == 0 && scratch_length > found.scratch)
         scratch[found.scratch] ^= 1; /* the tail */
-    if (FAULT == 9 && drawn.number == 0 && found.channels == 3 && found.hs == 4)
+    if (FAULT == 9 && drawn.number == 0 && found.channels == 3 && found.across[0] == 4)
         output[found.output - 1] ^= 1; /* a sample, the same wrong one each time */
     if (FAULT == 10 && drawn.number == 0)
         output[output_length] = 7; /* writes one past the end */
     if (FAULT == 11 && drawn.number == 8 && found.dcs[3] == 1)
         drawn.number = 0; /* a changed record is let through */
+    if (FAULT == 29 && drawn.number == 0 && found.channels == 2 && found.across[0] != found.across[1])
+        output[1] ^= 1; /* a sample of the second channel */
+    if (FAULT == 30 && drawn.number == 8 && found.channels < 4 && found.across[3] == 1)
+        drawn.number = 0; /* a factor behind the last channel is not looked at */
     return drawn;
 }
 

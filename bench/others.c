@@ -12,13 +12,20 @@
 size_t crate_with_vectors(const uint8_t *bytes, size_t length, uint8_t *output, size_t room);
 size_t crate_without_vectors(const uint8_t *bytes, size_t length, uint8_t *output, size_t room);
 
-/* Both have a buffer of their own, which is copied only for the comparison. */
+/* Both have a buffer of their own, which is copied only for the comparison. The crate turns four channels over, as printers do: for
+ * the comparison they are turned back. */
+static size_t compared(const struct picture *p, size_t length) {
+    for (size_t i = 0; p->keep && p->found.channels == 4 && i < p->found.output; i++)
+        p->theirs[i] = (uint8_t)(255 - p->theirs[i]);
+    return length;
+}
+
 size_t rust_with_vectors(const struct picture *p) {
-    return crate_with_vectors(p->bytes, p->length, p->theirs, p->keep ? p->found.output : 0);
+    return compared(p, crate_with_vectors(p->bytes, p->length, p->theirs, p->keep ? p->found.output : 0));
 }
 
 size_t rust_without_vectors(const struct picture *p) {
-    return crate_without_vectors(p->bytes, p->length, p->theirs, p->keep ? p->found.output : 0);
+    return compared(p, crate_without_vectors(p->bytes, p->length, p->theirs, p->keep ? p->found.output : 0));
 }
 
 size_t stb_decode(const struct picture *p) {

@@ -1,5 +1,5 @@
-"""The pictures that are timed: photographs of the distribution at 1280 x 960, a noisy picture from a fixed seed, and one photograph
-cut and laid out as tiles for pictures of 1, 4, 16 and 64 times the blocks."""
+"""The pictures that are timed: photographs of the distribution at 1280 x 960, one of them in several samplings and as four channels, a
+noisy picture from a fixed seed, and one photograph cut and laid out as tiles for pictures of 1, 4, 16 and 64 times the blocks."""
 import os
 import random
 import subprocess
@@ -20,6 +20,14 @@ def encode(place, name, pnm, options):
     path = os.path.join(place, name + ".jpg")
     with open(path, "wb") as out:
         out.write(run(["cjpeg", "-quality", "85", *options], pnm))
+    return path
+
+
+def encode_four(place, coder, name, pnm):
+    """As four channels, by bench/four.c."""
+    path = os.path.join(place, name + ".jpg")
+    with open(path, "wb") as out:
+        out.write(run([coder], pnm))
     return path
 
 
@@ -58,14 +66,23 @@ def tiled(pnm, times):
     return header(width * times, height * times) + b"".join(rows) * times
 
 
-def make(place, scaler, brief):
-    """Paths by class: twelve photographs (one in brief) 4:2:0, one 4:4:4 and one grey, the noisy one, and the growing ones."""
+# the same blocks and the same bytes of picture: drawn in the way that most files take, and in the one that takes any factors
+WAYS = {"2x1, chroma 1x1": "2x1,1x1,1x1", "1x1, chroma 2x1 and 1x1": "1x1,2x1,1x1"}
+
+
+def make(place, scaler, coder, brief):
+    """Paths by class: twelve photographs (one in brief) 4:2:0, and one of them 4:4:4, grey, 4:4:0, with a luma of 2x2 beside a chroma of
+    1x2, and as four channels; the noisy one; then the growing ones, and one photograph for each way of drawing."""
     names = NAMES if not brief else [ONE]
     photographs = {name: photograph(scaler, name) for name in names}
     one = photographs[ONE]
     classes = {"4:2:0": [encode(place, name, pnm, ["-sample", "2x2"]) for name, pnm in photographs.items()]}
     classes["4:4:4"] = [encode(place, ONE + "-444", one, ["-sample", "1x1"])]
     classes["grey"] = [encode(place, ONE + "-grey", one, ["-grayscale"])]
+    classes["4:4:0"] = [encode(place, ONE + "-440", one, ["-sample", "1x2"])]
+    classes["2x2, chroma 1x2"] = [encode(place, ONE + "-22-12", one, ["-sample", "2x2,1x2,1x2"])]
+    classes["four channels"] = [encode_four(place, coder, ONE + "-four", one)]
     classes["noisy 4:2:0"] = [encode(place, "noisy", noisy(), ["-sample", "2x2"])]
     growing = [encode(place, f"growth-{times * times:02}", tiled(one, times), ["-sample", "2x2"]) for times in (1, 2, 4, 8)]
-    return classes, growing
+    ways = {way: encode(place, "way-" + sampling.replace(",", "-"), one, ["-sample", sampling]) for way, sampling in WAYS.items()}
+    return classes, growing, ways

@@ -22,18 +22,20 @@ again and writes the part below that is its processor's; a machine on which noth
 
 Ours is the proved archive as `./library` builds it for that processor (no vector code by hand). `decode` is given the record and both
 buffers, and does what its contract says: it reads the whole scan, writes nothing, and then reads it again and writes. `inspect` reads
-the scan once. `settle` has a buffer of four times the file. Times of the others are of a whole decoding from the file's bytes to RGB or
-grey:
+the scan once. `settle` has a buffer of four times the file. Times of the others are of a whole decoding from the file's bytes to RGB, to
+grey, or to four channels as they are coded:
 
 - libjpeg-turbo as the distribution builds it, accurate integer transform, chroma not smoothed: nearest to what ours does. Without
   SIMD is the same library with `JSIMD_FORCENONE=1`.
 - jpeg-decoder, the Rust crate, with one worker (its source is changed in that one word); on x86-64 with its SSSE3 code and without, on
   others without, since its code for them wants a compiler that is no stable one.
-- stb_image, on x86-64 with its SSE2 code. It and jpeg-decoder smooth chroma, which costs them time and cannot be turned off.
+- stb_image, on x86-64 with its SSE2 code. It and jpeg-decoder smooth chroma, which costs them time and cannot be turned off. Of four
+  channels stb_image makes three, so it is not timed on them.
 
 All are in one process and take turns; a time is processor time, the best of all turns, and of that the median over programs in which
 the parts are linked in another order and with other padding, since the place of the code alone moves a time by some per cent. Before
-anything is timed the pictures are compared: libjpeg-turbo's differ from ours by at most 3 in a colour and by at most 1 in grey.
+anything is timed the pictures are compared: libjpeg-turbo's differ from ours by at most 3 in a colour, and by at most 1 in grey and in
+four channels.
 
 A ratio is the other's time by ours: our speed as a part of theirs, so that more is better for us.
 """
@@ -50,7 +52,9 @@ def median_over(found, which, path, name):
 
 
 def spread(values, digits):
-    """A value, or the median and the range of several."""
+    """A value, or the median and the range of several; a dash for none."""
+    if not values:
+        return "-"
     if len(values) == 1:
         return f"{values[0]:.{digits}f}"
     return f"{statistics.median(values):.{digits}f} ({min(values):.{digits}f} to {max(values):.{digits}f})"
@@ -84,9 +88,10 @@ def machine():
 
 
 def times(classes, found):
-    """By class and decoder the milliseconds of each picture."""
+    """By class and decoder the milliseconds of each picture; none where a decoder does not take the class."""
     names = OURS + [name for name, _ in OTHERS]
-    return {kind: {name: [median_over(found, 0, path, name) for path in paths] for name in names} for kind, paths in classes.items()}
+    return {kind: {name: [median_over(found, 0, path, name) for path in paths if (path, name) in found[0][0]] for name in names}
+            for kind, paths in classes.items()}
 
 
 def kind_label(kind, paths):
@@ -140,6 +145,30 @@ def growth_table(growing, found):
     return lines
 
 
+WAYS = """Ways of drawing: one photograph in two samplings, with the same number of blocks and of bytes of picture. The first is drawn in
+the way that most files take (a luma as wide as the MCU, beside two chroma channels of one block across), the second in the one that
+takes any factors and one to four channels. Milliseconds; the last column is `decode` without its two readings of the scan, of which
+`inspect` is one:"""
+
+
+def ways_table(ways, found):
+    lines = [WAYS, "", row(["sampling", *OURS, "decode less twice inspect"]), rule(2 + len(OURS))]
+    for way, path in ways.items():
+        taken = {name: median_over(found, 1, path, name) for name in OURS}
+        lines.append(row([way, *(f"{taken[name]:.2f}" for name in OURS), f"{taken['decode'] - 2 * taken['inspect']:.2f}"]))
+    return lines
+
+
+def each_table(classes, found):
+    lines = ["Nanoseconds of `decode` for each block and for each byte of the picture:", "",
+             row(["picture", "for each block", "for each byte"]), rule(3)]
+    for kind, paths in classes.items():
+        seen = [(median_over(found, 0, path, "decode") * 1e6, *found[0][0][path, "decode"][1:]) for path in paths]
+        by_block, by_byte = [time / blocks for time, blocks, _ in seen], [time / output for time, _, output in seen]
+        lines.append(row([kind, spread(by_block, 1), spread(by_byte, 2)]))
+    return lines
+
+
 def check(classes, taken):
     """Without SIMD must be slower than with it, else the one was timed twice."""
     for kind in classes:
@@ -147,12 +176,13 @@ def check(classes, taken):
             off(f"libjpeg-turbo is as fast without SIMD as with it on {kind}: JSIMD_FORCENONE had no effect")
 
 
-def table(classes, growing, found, turns, orders, brief):
+def table(classes, growing, ways, found, turns, orders, brief):
     taken = times(classes, found)
     if not brief:
         check(classes, taken)  # a few turns beside other work say too little for it
     parts = [machine(), [f"Best of {turns} turns; median over {orders} order{'s' if orders > 1 else ''} of linking."],
-             time_table(classes, taken), ratio_table(classes, taken), target_lines(taken), growth_table(growing, found)]
+             time_table(classes, taken), ratio_table(classes, taken), target_lines(taken), each_table(classes, found),
+             ways_table(ways, found), growth_table(growing, found)]
     return "\n\n".join("\n".join(part) for part in parts)
 
 

@@ -34,17 +34,17 @@ enum tillsparrow_number {
     TILLSPARROW_NO_CODE = 11        /* in a block of the scan, sixteen bits that are no code of its table */
 };
 
-/* What inspect finds: 36 numbers of 64 bits, in this order. */
+/* What inspect finds: 46 numbers of 64 bits, in this order. */
 typedef struct tillsparrow_record {
     uint64_t width;
     uint64_t height;
-    uint64_t channels;   /* 1 or 3 */
-    uint64_t hs;         /* the first channel's sampling, across */
-    uint64_t vs;         /* and down */
-    uint64_t ids[3];     /* for each channel its id; 0 behind the last channel, here and in the next three */
-    uint64_t qids[3];    /* the id of its quantizer */
-    uint64_t dcids[3];   /* the id of its DC table */
-    uint64_t acids[3];   /* the id of its AC table */
+    uint64_t channels;   /* 1 to 4 */
+    uint64_t across[4];  /* for each channel its blocks across in an MCU; 0 behind the last channel, here and in the next five */
+    uint64_t down[4];    /* its blocks down in an MCU; a single channel has 1 across and 1 down */
+    uint64_t ids[4];     /* its id */
+    uint64_t qids[4];    /* the id of its quantizer */
+    uint64_t dcids[4];   /* the id of its DC table */
+    uint64_t acids[4];   /* the id of its AC table */
     uint64_t quants[4];  /* by id, the place of each quantizer in the file; 0 where there is none, here and in the next two */
     uint64_t dcs[4];     /* of each DC table */
     uint64_t acs[4];     /* of each AC table */
@@ -54,7 +54,7 @@ typedef struct tillsparrow_record {
     uint64_t scratch;    /* the bytes that decode needs for the samples of all blocks */
     uint64_t output;     /* the bytes of the picture */
     uint64_t work;       /* the price of the scan */
-    uint64_t colour;     /* 1: the picture of three channels is red, green, blue; 0: the channels as they are coded; no other */
+    uint64_t colour;     /* 0 or 1; with 1 a picture of three channels is red, green, blue; every other has its channels as they are coded */
 } tillsparrow_record;
 
 /* number is 0 where accepted, else that of the refusal; left is what is left of the budget. Where a scan broke, which is 3, 4, 10 or 11,

@@ -53,6 +53,14 @@ def samples_of(jpeg, colour=True):
     return Picture(record.width, record.height, record.channels, bytes(library().decode(jpeg, record).output))
 
 
+def shown(picture):
+    """The picture as it is written and shown: of two and four channels each in grey, beside the one before it."""
+    if picture.channels in (1, 3):
+        return picture
+    laid = files.side_by_side(picture.samples, picture.width, picture.channels)
+    return Picture(picture.width * picture.channels, picture.height, 1, laid)
+
+
 def refusal_of(jpeg):
     """The refusal of the file, or None."""
     try:
@@ -161,7 +169,7 @@ def tile(picture, count, source):
     """The bytes of so many MCUs that end with a whole byte and with the levels that they began from, so that they may be repeated."""
     order = picture.per_mcu()
     while True:
-        coder, prediction = unsettled.Coder(unsettled.plain), [0, 0, 0]
+        coder, prediction = unsettled.Coder(unsettled.plain), [0] * picture.channels
         for mcu, c in itertools.product(range(count), order):
             levels = unsettled.block(source, (0, 1, 5))
             levels[0] = 0 if mcu == count - 1 else levels[0] // 3

@@ -1,7 +1,8 @@
 """Files of one picture in more than one form, made from nothing: a bit writer, tables and blocks of our own, written from the rules
 alone. A block may have runs of 16 zeros before its end code, or up to its last place instead of one, and fill bytes may stand before the
 markers of the scan (`filled`); nothing else is free, since a table has one code for a symbol. `plain` takes no such choice: it is the form
-that settling must give. `careless` makes files whose tables are refused, and `stray` files with a 255 too many in the scan.
+that settling must give. `careless` makes files whose tables are refused, `unread` files whose frame is, and `stray` files with a 255 too
+many in the scan.
 """
 import random
 import re
@@ -104,23 +105,47 @@ class Coder:
             self.symbol(ac, END)
 
 
+def shape_of(sampling, channels):
+    """Across and down of each channel: those given, or those of the first channel, beside which the others are 1 x 1."""
+    return list(sampling) if isinstance(sampling[0], tuple) else [sampling, *[(1, 1)] * (channels - 1)]
+
+
 class Picture:
-    """Levels of blocks in the order of the scan, and the tables that they are written by."""
+    """Levels of blocks in the order of the scan, and the tables that they are written by. `sampling` is a pair for each channel, across
+    and down, or the first channel's alone."""
 
     def __init__(self, width, height, sampling, channels, interval, tables, levels):
-        self.width, self.height, self.sampling, self.channels = width, height, sampling, channels
+        self.width, self.height, self.sampling, self.channels = width, height, shape_of(sampling, channels), channels
         self.interval, self.tables, self.levels = interval, tables, levels
+        # a single channel counts as 1 x 1, whatever its frame says
+        self.shape = self.sampling if channels > 1 else [(1, 1)]
 
     def per_mcu(self):
-        across, down = self.sampling
-        return [0] * (across * down) + [1, 2] if self.channels == 3 else [0]
+        """The channel of each block of an MCU."""
+        return [c for c, (across, down) in enumerate(self.shape) for _ in range(across * down)]
+
+    def largest(self):
+        """The largest factors, across and down."""
+        return tuple(map(max, zip(*self.shape)))
+
+    def mcus(self):
+        """How many there are across and down."""
+        across, down = self.largest()
+        return -(-self.width // (8 * across)), -(-self.height // (8 * down))
+
+    def blocks(self):
+        across, down = self.mcus()
+        return across * down * len(self.per_mcu())
+
+    def pair(self, c):
+        """The tables of a channel: its own, or the last."""
+        return self.tables[min(c, len(self.tables) - 1)]
 
     def head(self):
-        across, down = self.sampling
         frame = bytes([8]) + self.height.to_bytes(2, "big") + self.width.to_bytes(2, "big") + bytes([self.channels])
         scan = bytes([self.channels])
-        for c in range(self.channels):
-            frame += bytes([c + 1, 16 * across + down if c == 0 and self.channels == 3 else 17, 0])
+        for c, (across, down) in enumerate(self.sampling):
+            frame += bytes([c + 1, 16 * across + down, 0])
             scan += bytes([c + 1, 17 * min(c, len(self.tables) - 1)])
         out = b"\xff\xd8\xff\xdb\x00\x43\x00" + bytes([1 + k % 3 for k in range(64)])
         out += b"\xff\xc0" + (len(frame) + 2).to_bytes(2, "big") + frame
@@ -132,17 +157,23 @@ class Picture:
         return out + b"\xff\xda" + (len(scan) + 2).to_bytes(2, "big") + scan
 
     def form(self, choose):
-        coder, order, prediction = Coder(choose), self.per_mcu(), [0, 0, 0]
+        coder, order, prediction = Coder(choose), self.per_mcu(), [0] * self.channels
         for k, levels in enumerate(self.levels):
             mcu, c = k // len(order), order[k % len(order)]
             if self.interval and k % len(order) == 0 and mcu and mcu % self.interval == 0:
                 coder.writer.marker(208 + (mcu // self.interval - 1) % 8)
-                prediction = [0, 0, 0]
-            dc, ac = self.tables[min(c, len(self.tables) - 1)]
-            coder.block(dc, ac, prediction[c], levels)
+                prediction = [0] * self.channels
+            coder.block(*self.pair(c), prediction[c], levels)
             prediction[c] = levels[0]
         coder.writer.marker(217)
         return self.head() + bytes(coder.writer.bytes)
+
+    def plane(self, c):
+        """The blocks of one channel as a picture of their own, with tables for any levels: row by row, where here they come MCU by MCU."""
+        (across, down), (wide, high), order = self.shape[c], self.mcus(), self.per_mcu()
+        levels = [self.levels[(row // down * wide + column // across) * len(order) + order.index(c) + row % down * across + column % across]
+                  for row in range(high * down) for column in range(wide * across)]
+        return Picture(8 * wide * across, 8 * high * down, (1, 1), 1, 0, [tables(random.Random(c))], levels)
 
 
 def tables(source):
@@ -171,10 +202,24 @@ def block(source, last):
 
 def made(seed, width, height, sampling=(1, 1), channels=1, interval=0, pairs=1, last=(0, 1, 5, 15, 31, 47, 60, 63)):
     source = random.Random(seed)
-    across, down = sampling
-    mcus = -(-width // (8 * across)) * -(-height // (8 * down))
     picture = Picture(width, height, sampling, channels, interval, [tables(source) for _ in range(pairs)], [])
-    picture.levels = [block(source, last) for _ in range(mcus * len(picture.per_mcu()))]
+    picture.levels = [block(source, last) for _ in range(picture.blocks())]
+    return picture
+
+
+def soft_block(source):
+    """A block with few and small levels: no sample lies so far outside 0 to 255 that decoders differ in it."""
+    levels = [source.randrange(-600, 600)] + [0] * 63
+    for k in range(1, 9):
+        levels[k] = source.choice((0, source.randrange(-40, 41)))
+    return levels
+
+
+def soft(seed, width, height, *shape, interval=0):
+    """A picture of such blocks with these factors, a pair for each channel, which has tables of its own."""
+    source = random.Random(seed)
+    picture = Picture(width, height, shape, len(shape), interval, [tables(source) for _ in shape], [])
+    picture.levels = [soft_block(source) for _ in range(picture.blocks())]
     return picture
 
 
@@ -196,6 +241,35 @@ def careless():
     yield "an AC table lists a symbol twice", flat(ac=(END, END))
     yield "a DC table lists the symbol 12", flat(dc=(0, 12))
     yield "an AC table lists the symbol 16", flat(ac=(END, 16))
+
+
+def with_frame(*shape):
+    """Blocks of zeros, one MCU of them, with these factors."""
+    pair = Table({1: [0]}), Table({1: [END]})
+    picture = Picture(8, 8, shape, len(shape), 0, [pair], [])
+    picture.levels = [[0] * 64] * sum(across * down for across, down in picture.shape)
+    return picture.form(plain)
+
+
+def in_frame(jpeg, place, value):
+    """The file with another byte at this place of its frame's body."""
+    at = jpeg.index(b"\xff\xc0") + 4 + place
+    return jpeg[:at] + bytes([value]) + jpeg[at + 1:]
+
+
+def unread():
+    """A name and a file each, refused 5 for the frame alone."""
+    two, four = with_frame((1, 1), (1, 1)), with_frame(*[(1, 1)] * 4)
+    yield "five channels", with_frame(*[(1, 1)] * 5)
+    yield "eleven blocks in an MCU", with_frame((4, 2), (1, 2), (1, 1))
+    yield "32 blocks in an MCU", with_frame((4, 4), (4, 4))
+    yield "a factor of 5", with_frame((1, 1), (5, 1), (1, 1))
+    yield "a factor of 5 down in the last channel", with_frame((1, 1), (1, 1), (1, 1), (1, 5))
+    yield "a factor of 5 in grey", in_frame(flat(), 7, 0x51)
+    yield "a factor of 0", in_frame(two, 10, 0x01)
+    yield "a factor of 0 down in the last channel", in_frame(four, 16, 0x10)
+    yield "two channels of one id", in_frame(two, 9, 1)
+    yield "four channels, the last with the id of the first", in_frame(four, 15, 1)
 
 
 # ---- fill bytes in the scan

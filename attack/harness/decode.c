@@ -85,7 +85,7 @@ static void chosen_record(const struct input *in, const struct room *file, const
     MUST(drawn.answer.left == want.left, "decode takes another price");
     if (want.number == 0 && record.colour == truth->found.colour)
         same_picture(&drawn, &record);
-    feedback(DECODE_NUMBER, 10 * (in->record_choice % 4) + want.number);
+    feedback(DECODE_NUMBER, 10 * (in->record_choice % RECORD_CHOICES) + want.number);
     leave(&drawn);
 }
 

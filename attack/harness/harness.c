@@ -6,17 +6,18 @@
 #include <stdlib.h>
 #include <string.h>
 
-/* How many files came how far, and whose scans broke by which number; printed at the end, for the word on how deep the run went. */
-static uint64_t executions, heads, accepted, compared, broken[12];
+/* How many files came how far, how many channels those have that were accepted, and whose scans broke by which number; printed at the
+ * end, for the word on how deep the run went. */
+static uint64_t executions, heads, accepted, compared, of_channels[CHANNELS + 1], broken[12];
 
 #define COUNT(n) ((unsigned long long)(n))
 
 static void report(void) {
     fprintf(stderr,
-            "harness: %llu executions, head read in %llu, accepted %llu, scan broken by 3 in %llu, by 4 in %llu, by 10 in %llu, "
-            "by 11 in %llu, compared with the reference %llu\n",
-            COUNT(executions), COUNT(heads), COUNT(accepted), COUNT(broken[3]), COUNT(broken[4]), COUNT(broken[10]), COUNT(broken[11]),
-            COUNT(compared));
+            "harness: %llu executions, head read in %llu, accepted %llu, of them with one channel %llu, with two %llu, with three %llu, "
+            "with four %llu, scan broken by 3 in %llu, by 4 in %llu, by 10 in %llu, by 11 in %llu, compared with the reference %llu\n",
+            COUNT(executions), COUNT(heads), COUNT(accepted), COUNT(of_channels[1]), COUNT(of_channels[2]), COUNT(of_channels[3]),
+            COUNT(of_channels[4]), COUNT(broken[3]), COUNT(broken[4]), COUNT(broken[10]), COUNT(broken[11]), COUNT(compared));
 }
 
 int LLVMFuzzerInitialize(int *count, char ***words) {
@@ -36,6 +37,9 @@ static bool to_be_compared(const struct input *in) {
     return each || (sum ^ sum >> 32) % 8 == 0;
 }
 
+/* A slot for each number of channels and of blocks in an MCU. */
+static uint64_t shape_of(const struct head *head) { return head->channels == 1 ? 0 : 9 * (head->channels - 2) + head->per - 1; }
+
 static void kind_of_file(const struct truth *truth) {
     const struct head *head = &truth->head;
     executions++;
@@ -44,9 +48,12 @@ static void kind_of_file(const struct truth *truth) {
     if (truth->header != 0)
         return;
     broken[truth->scan.number]++;
+    of_channels[head->channels] += truth->accepted;
     uint64_t scan = truth->accepted ? 32 : 0;
     feedback(BLOCKS, scan + size_class(head->blocks));
-    feedback(SAMPLING, scan + (head->channels == 1 ? 0 : 4 * (head->hs - 1) + head->vs));
+    feedback(SHAPE, scan + shape_of(head));
+    for (size_t i = 0; truth->accepted && i < head->channels; i++)
+        feedback(FACTORS, 16 * i + 4 * (head->across[i] - 1) + head->down[i] - 1);
     feedback(COMMENT_COUNT, scan + (head->comments < 31 ? head->comments : 31));
     feedback(INTERVAL, scan + size_class(head->interval));
 }

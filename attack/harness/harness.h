@@ -6,7 +6,7 @@
 #include "tillsparrow.h"
 
 /* The first bytes of an input choose colour, limits, budget, rooms and record; the rest is the file. */
-enum { CONTROL = 32, ROOM_MOST = 1 << 20, FILE_MOST = 1 << 16, COMMENTS_KEPT = 64, NUMBERS = 36 };
+enum { CONTROL = 32, ROOM_MOST = 1 << 20, FILE_MOST = 1 << 16, COMMENTS_KEPT = 64, NUMBERS = 46, CHANNELS = 4 };
 
 /* Where a lent buffer lies: against a page that faults, behind it or before it, or in a block of the allocator of its own size. */
 enum placing { GUARD_BEHIND, GUARD_BEFORE, ALLOCATED, PLACINGS };
@@ -28,6 +28,8 @@ struct input input_read(const uint8_t *data, size_t size);
 uint64_t input_near(uint8_t choice, uint64_t exact, uint64_t any);
 /* The same for a buffer, which cannot be longer than there is memory for. */
 size_t input_room(uint8_t choice, uint64_t exact, uint64_t any);
+/* The right record, or one that is changed, as chosen. */
+enum { RECORD_CHOICES = 6 };
 tillsparrow_record input_record(const struct input *in, const tillsparrow_record *right);
 
 enum arena { FILE_ARENA, OUTPUT_ARENA, SCRATCH_ARENA, SETTLED_ARENA, AGAIN_ARENA, FLIPPED_ARENA, CUT_ARENA, ARENAS };
@@ -51,9 +53,11 @@ struct part {
     size_t at, length;
 };
 
-/* A head that was accepted, read by the harness itself; `per` is the blocks of an MCU. */
+/* A head that was accepted, read by the harness itself; what is by channel is 0 behind the last; `per` is the blocks of an MCU. */
 struct head {
-    uint64_t width, height, channels, hs, vs, interval, start, per, blocks, output, work;
+    uint64_t width, height, channels;
+    uint64_t across[CHANNELS], down[CHANNELS], ids[CHANNELS], qids[CHANNELS], dcids[CHANNELS], acids[CHANNELS];
+    uint64_t interval, start, per, blocks, output, work;
     size_t comments;
     struct part comment[COMMENTS_KEPT];
 };
@@ -67,7 +71,8 @@ enum kind {
     PRESENCE_NUMBER,
     FLIPPED_NUMBER,
     BLOCKS,
-    SAMPLING,
+    SHAPE,
+    FACTORS,
     COMMENT_COUNT,
     INTERVAL,
     SETTLED_LENGTH,
@@ -113,6 +118,7 @@ struct limits chosen_limits(const struct input *in, const struct truth *truth);
 /* What inspect must answer. */
 struct answer expected(const struct truth *truth, size_t length, const struct limits *limits);
 bool zero(const void *bytes, size_t length);
+uint64_t upwards(uint64_t number, uint64_t by);
 
 /* What inspect says of a scan, that it is whole or where it broke, is held against the head and the bytes. */
 void check_scan(const struct room *file, const struct head *head, const struct answer *scan);

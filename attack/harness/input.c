@@ -70,17 +70,60 @@ static tillsparrow_record any_record(uint64_t seed) {
     return record;
 }
 
+/* One factor, where the right one stands: that, another that a channel may have or nearly, or any number. */
+static uint64_t any_factor(uint64_t right, uint64_t most, uint64_t *seed) {
+    uint64_t number = step(seed);
+    switch (step(seed) % 4) {
+    case 0: return right;
+    case 1: return number >> step(seed) % 64 & most;
+    default: return number % 6;
+    }
+}
+
+/* Other factors in any of the four channels, behind the last one too. */
+static void other_factors(tillsparrow_record *record, uint64_t most, uint64_t seed) {
+    for (size_t i = 0; i < CHANNELS; i++) {
+        record->across[i] = any_factor(record->across[i], most, &seed);
+        record->down[i] = any_factor(record->down[i], most, &seed);
+    }
+}
+
+/* Blocks, both lengths and the work as the rules have them for the factors of the first channels, which are small numbers. */
+static void measure_again(tillsparrow_record *record) {
+    uint64_t wide = 0, high = 0, per = 0;
+    for (size_t i = 0; i < CHANNELS && i < record->channels; i++) {
+        wide = record->across[i] > wide ? record->across[i] : wide;
+        high = record->down[i] > high ? record->down[i] : high;
+        per += record->across[i] * record->down[i];
+    }
+    if (wide == 0 || high == 0)
+        return;
+    record->blocks = upwards(record->width, 8 * wide) * upwards(record->height, 8 * high) * per;
+    record->scratch = 64 * record->blocks;
+    record->output = record->width * record->height * record->channels;
+    record->work = 3136 * record->blocks + record->output;
+}
+
 tillsparrow_record input_record(const struct input *in, const tillsparrow_record *right) {
     tillsparrow_record record = *right;
-    uint64_t numbers[NUMBERS];
+    uint64_t numbers[NUMBERS], seed = in->numbers[0] ^ in->numbers[1];
     memcpy(numbers, right, sizeof numbers);
-    switch (in->record_choice % 4) {
-    case 1: numbers[in->fields[0] % NUMBERS] = input_near(in->record_choice / 4, numbers[in->fields[0] % NUMBERS], in->numbers[0]); break;
+    switch (in->record_choice % RECORD_CHOICES) {
+    case 1:
+        numbers[in->fields[0] % NUMBERS] =
+            input_near(in->record_choice / RECORD_CHOICES, numbers[in->fields[0] % NUMBERS], in->numbers[0]);
+        break;
     case 2:
         numbers[in->fields[0] % NUMBERS] = in->numbers[0] % 70000;
         numbers[in->fields[1] % NUMBERS] = in->numbers[1];
         break;
-    case 3: return any_record(in->numbers[0] ^ in->numbers[1]);
+    case 3: return any_record(seed);
+    case 4: other_factors(&record, UINT64_MAX, seed); return record;
+    case 5:
+        other_factors(&record, 7, seed);
+        record.channels = in->fields[0] % 4 == 0 ? in->fields[1] % 6 : record.channels;
+        measure_again(&record);
+        return record;
     default: break;
     }
     memcpy(&record, numbers, sizeof record);

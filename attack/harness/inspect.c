@@ -21,7 +21,12 @@ static tillsparrow_inspected look(const struct room *file, bool colour, const st
 
 static void record_fits(const tillsparrow_record *found, const struct head *head, bool colour) {
     MUST(found->width == head->width && found->height == head->height && found->channels == head->channels, "the record's picture");
-    MUST(found->hs == head->hs && found->vs == head->vs && found->interval == head->interval, "the record's sampling or interval");
+    for (size_t i = 0; i < CHANNELS; i++) {
+        MUST(found->across[i] == head->across[i] && found->down[i] == head->down[i], "the record's factors");
+        MUST(found->ids[i] == head->ids[i] && found->qids[i] == head->qids[i], "the record's component or quantizer ids");
+        MUST(found->dcids[i] == head->dcids[i] && found->acids[i] == head->acids[i], "the record's table ids");
+    }
+    MUST(found->interval == head->interval, "the record's interval");
     MUST(found->start == head->start && found->blocks == head->blocks, "the record's start or blocks");
     MUST(found->scratch == 64 * head->blocks && found->output == head->output, "the record's lengths");
     MUST(found->work == head->work && found->colour == colour, "the record's work or colour");

@@ -1,6 +1,6 @@
 /* Changes that leave a JPEG file mostly well formed, so that they come past the head: bits of the scan, its end, 255s in it with and
- * without a 0, whole segments moved, copied and cut, lengths, comments, restarts, fill bytes in head and scan, the frame's fields,
- * tables' symbols; and libFuzzer's own changes beside them. */
+ * without a 0, whole segments moved, copied and cut, lengths, comments, restarts, fill bytes in head and scan, the frame's fields, the
+ * number of channels, tables' symbols; and libFuzzer's own changes beside them. */
 #include "harness.h"
 
 #include <string.h>
@@ -224,7 +224,7 @@ static void break_scan(struct draft *d) {
     }
 }
 
-/* The frame's sides small and sampling one of those that are read, or nearly. */
+/* The frame's sides small, and the sampling of some channel one of those that are read, or nearly. */
 static void change_frame(struct draft *d) {
     for (size_t i = 0; i < d->count; i++) {
         const struct segment *s = &d->segments[i];
@@ -234,9 +234,45 @@ static void change_frame(struct draft *d) {
         switch (below(d, 4)) {
         case 0: body[2] = (uint8_t)below(d, 40); break;
         case 1: body[4] = (uint8_t)below(d, 40); break;
-        case 2: body[7] = (uint8_t)(16 * below(d, 6) + below(d, 6)); break;
+        case 2: body[7 + 3 * below(d, (s->end - s->at - 10) / 3)] = (uint8_t)(16 * below(d, 6) + below(d, 6)); break;
         default: body[below(d, s->end - s->at - 4)] = (uint8_t)below(d, 256); break;
         }
+    }
+}
+
+static const struct segment *last_segment(const struct draft *d, uint8_t code, uint8_t other) {
+    const struct segment *found = NULL;
+    for (size_t i = 0; i < d->count; i++)
+        if (d->segments[i].code == code || d->segments[i].code == other)
+            found = &d->segments[i];
+    return found;
+}
+
+/* One channel less, or one more, in frame and scan alike: like the last one, but for its id. The scan behind stays, so that blocks are
+ * then read by other tables and as other channels'. */
+static void change_channels(struct draft *d) {
+    const struct segment *frame = last_segment(d, 192, 193), *scan = last_segment(d, 218, 218);
+    if (frame == NULL || scan == NULL || scan->at < frame->end || frame->end - frame->at < 13 || d->most - d->length < 5)
+        return;
+    size_t channels = d->file[frame->at + 9], tables = scan->end - 3;
+    if (frame->end - frame->at != 10 + 3 * channels || scan->end - scan->at != 8 + 2 * channels)
+        return;
+    bool more = below(d, 2) == 0;
+    uint8_t component[3], chosen[2];
+    memcpy(component, d->file + frame->end - 3, 3);
+    memcpy(chosen, d->file + tables - 2, 2);
+    component[0] = chosen[0] = (uint8_t)(component[0] + 1 + below(d, 2));
+    d->file[frame->at + 3] = (uint8_t)(d->file[frame->at + 3] + (more ? 3 : -3));
+    d->file[frame->at + 9] = (uint8_t)(more ? channels + 1 : channels - 1);
+    d->file[scan->at + 3] = (uint8_t)(d->file[scan->at + 3] + (more ? 2 : -2));
+    d->file[scan->at + 4] = d->file[frame->at + 9];
+    /* the scan first, since it stands behind */
+    if (more) {
+        insert(d, tables, chosen, 2);
+        insert(d, frame->end, component, 3);
+    } else {
+        cut(d, tables - 2, 2);
+        cut(d, frame->end - 3, 3);
     }
 }
 
@@ -309,7 +345,7 @@ static void change_file(struct draft *d) {
     static void (*const changes[])(struct draft *) = {flip_scan_bits,  flip_scan_bits, change_scan,   change_scan,   put_in_scan,
                                                       move_segment,    cut_segment,    change_length, change_body,   insert_comment,
                                                       insert_interval, insert_fill,    change_frame,  change_symbol, fill_scan,
-                                                      break_scan,      break_scan};
+                                                      break_scan,      break_scan,     change_frame,  change_channels};
     take_apart(d);
     changes[below(d, sizeof changes / sizeof changes[0])](d);
 }

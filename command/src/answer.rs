@@ -16,6 +16,8 @@ pub enum Trouble {
 pub struct Answer {
     /// For standard output, as it is.
     pub text: Vec<u8>,
+    /// A line for standard error about a file with which all went well.
+    pub remark: Option<String>,
     /// For standard error.
     pub trouble: Option<Trouble>,
 }
@@ -23,8 +25,8 @@ pub struct Answer {
 impl From<Result<Vec<u8>, Trouble>> for Answer {
     fn from(result: Result<Vec<u8>, Trouble>) -> Answer {
         match result {
-            Ok(text) => Answer { text, trouble: None },
-            Err(trouble) => Answer { text: Vec::new(), trouble: Some(trouble) },
+            Ok(text) => Answer { text, ..Answer::default() },
+            Err(trouble) => Answer { trouble: Some(trouble), ..Answer::default() },
         }
     }
 }

@@ -84,7 +84,8 @@ fn decode_command() -> Command {
         .args([files(), out("The picture's file (.png .ppm .pgm .pnm), a folder, or - for standard output"), form()])
         .args([jobs(), flag("as-coded", "Three channels as they are coded, and not as red, green and blue"), force()])
         .after_help(
-            "Examples:\n  \
+            "A picture of two or four channels is written as one in grey, its channels side by side, and a line says so.\n\n\
+             Examples:\n  \
              tillsparrow decode tray.jpg                    writes tray.png beside it\n  \
              tillsparrow decode tray.jpg -o tray.ppm        writes a PPM file\n  \
              tillsparrow decode -j 4 -o pictures/ *.jpg     writes pictures/NAME.png, four at a time\n  \
@@ -111,7 +112,8 @@ fn inspect_command() -> Command {
             flag("json", "One JSON object a line for each file, with its whole record"),
         ])
         .after_help(
-            "Examples:\n  \
+            "The sampling, as 2x2,1x2,1x2, has the blocks of each channel in an MCU, across x down.\n\n\
+             Examples:\n  \
              tillsparrow inspect tray.jpg\n  \
              tillsparrow inspect --json *.jpg > season.json",
         )

@@ -13,8 +13,9 @@ pub fn run(sources: &[Source], jobs: usize) -> Status {
 }
 
 fn line(source: &Source, record: &Record) -> String {
-    let channels = if record.channels == 1 { "1 channel" } else { "3 channels" };
-    format!("{}: accepted: {} x {}, {channels}\n", source.shown(), record.width, record.height)
+    let Record { width, height, channels, .. } = record;
+    let many = if *channels == 1 { "" } else { "s" };
+    format!("{}: accepted: {width} x {height}, {channels} channel{many}\n", source.shown())
 }
 
 /// The bytes of a file that the library accepts, and its record.

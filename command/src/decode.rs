@@ -7,7 +7,7 @@ use crate::output::Output;
 use crate::place::{Naming, Out, Place, Places};
 use crate::progress::{Phase, Phases};
 use crate::source::Source;
-use crate::{run, words};
+use crate::{form, run, words};
 use tillsparrow::{Colour, Limits};
 
 /// What is asked for.
@@ -28,7 +28,10 @@ pub fn run(wish: Wish) -> Result<Status, String> {
     let memory = Memory::of_this_computer();
     let decoder = Decoder { places, form: wish.form, colour: wish.colour, memory };
     Ok(run::each(&wish.sources, wish.jobs, |i, source, phases| {
-        Answer::from(decoder.decode(i, source, phases).map(|()| Vec::new()))
+        match decoder.decode(i, source, phases) {
+            Ok(remark) => Answer { remark, ..Answer::default() },
+            Err(trouble) => Answer::from(Err(trouble)),
+        }
     }))
 }
 
@@ -40,7 +43,13 @@ struct Decoder {
 }
 
 impl Decoder {
-    fn decode(&self, i: usize, source: &Source, phases: &Phases) -> Result<(), Trouble> {
+    /// What is to be said of the picture, where it is not written as one.
+    fn decode(
+        &self,
+        i: usize,
+        source: &Source,
+        phases: &Phases,
+    ) -> Result<Option<String>, Trouble> {
         source.look()?;
         let before = self.places.of(i, source, Naming::Ending("png"))?;
         let form =
@@ -69,6 +78,7 @@ impl Decoder {
         drop(bytes);
         phases.enter(Phase::Writing);
         let written = form.write(&picture, &mut output);
-        output.finish(written).map_err(unwritten)
+        output.finish(written).map_err(unwritten)?;
+        Ok(form::is_beside(picture.channels).then(|| words::beside(picture.channels)))
     }
 }

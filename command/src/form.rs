@@ -1,4 +1,5 @@
-//! The forms in which a picture is written. Each holds exactly the samples.
+//! The forms in which a picture is written. Each holds exactly the samples. No form has two or four
+//! channels that are no colours: of such a picture each channel is written in grey, side by side.
 
 use crate::errors;
 use std::io::{Result, Write};
@@ -10,7 +11,7 @@ pub enum Form {
     Png,
     /// Three channels.
     Ppm,
-    /// One channel.
+    /// One channel, or two or four side by side.
     Pgm,
     /// PPM or PGM, by the picture.
     Pnm,
@@ -51,14 +52,17 @@ impl Form {
     pub fn for_channels(self, channels: u64) -> std::result::Result<Form, &'static str> {
         match (self, channels) {
             (Form::Png, _) => Ok(Form::Png),
-            (Form::Pgm | Form::Pnm, 1) => Ok(Form::Pgm),
             (Form::Ppm | Form::Pnm, 3) => Ok(Form::Ppm),
-            (Form::Ppm, _) => {
-                Err("its picture is grey, and ppm is for colour: take pgm, pnm or png")
-            }
-            (Form::Pgm | Form::Pnm, _) => {
+            (Form::Pgm, 3) => {
                 Err("its picture is in colour, and pgm is for grey: take ppm, pnm or png")
             }
+            (Form::Pgm | Form::Pnm, _) => Ok(Form::Pgm),
+            (Form::Ppm, 1) => {
+                Err("its picture is grey, and ppm is for colour: take pgm, pnm or png")
+            }
+            (Form::Ppm, _) => Err(
+                "its channels are written in grey, side by side, and ppm is for colour: take pgm, pnm or png",
+            ),
         }
     }
 
@@ -76,10 +80,36 @@ impl Form {
     }
 }
 
+/// Whether the channels of a picture that has so many are written side by side.
+pub fn is_beside(channels: usize) -> bool {
+    !matches!(channels, 1 | 3)
+}
+
+/// The pixels across of what is written.
+fn width(picture: &Picture) -> usize {
+    match is_beside(picture.channels) {
+        true => picture.width * picture.channels,
+        false => picture.width,
+    }
+}
+
+/// Row by row; where channels stand side by side, each row has all of the first, then of the next.
+fn write_samples(picture: &Picture, output: &mut impl Write) -> Result<()> {
+    let channels = picture.channels;
+    if !is_beside(channels) {
+        return output.write_all(&picture.samples);
+    }
+    for row in picture.samples.chunks_exact(width(picture)) {
+        let of = |c| row.iter().skip(c).step_by(channels).copied();
+        output.write_all(&(0..channels).flat_map(of).collect::<Vec<u8>>())?;
+    }
+    Ok(())
+}
+
 fn write_pnm(picture: &Picture, output: &mut impl Write) -> Result<()> {
-    let kind = if picture.channels == 1 { 5 } else { 6 };
-    write!(output, "P{kind}\n{} {}\n255\n", picture.width, picture.height)?;
-    output.write_all(&picture.samples)
+    let kind = if picture.channels == 3 { 6 } else { 5 };
+    write!(output, "P{kind}\n{} {}\n255\n", width(picture), picture.height)?;
+    write_samples(picture, output)
 }
 
 /// Eight bits a sample and no word about colour or gamma, so that the samples are the picture.
@@ -90,19 +120,19 @@ fn write_pnm(picture: &Picture, output: &mut impl Write) -> Result<()> {
 /// takes: 0.7 s beside 1.2 s for 6000 x 4000 in colour, on one core of a server.
 fn write_png(picture: &Picture, output: &mut impl Write) -> Result<()> {
     let side = |length: usize| u32::try_from(length).map_err(errors::told);
-    let mut encoder = png::Encoder::new(output, side(picture.width)?, side(picture.height)?);
+    let mut encoder = png::Encoder::new(output, side(width(picture))?, side(picture.height)?);
     encoder.set_depth(png::BitDepth::Eight);
-    encoder.set_color(if picture.channels == 1 {
-        png::ColorType::Grayscale
-    } else {
+    encoder.set_color(if picture.channels == 3 {
         png::ColorType::Rgb
+    } else {
+        png::ColorType::Grayscale
     });
     encoder.set_compression(png::Compression::Fast);
     encoder.set_filter(png::FilterType::Sub);
     encoder.set_adaptive_filter(png::AdaptiveFilterType::NonAdaptive);
     let mut file = encoder.write_header()?;
     let mut rows = file.stream_writer_with_size(1 << 18)?;
-    rows.write_all(&picture.samples)?;
+    write_samples(picture, &mut rows)?;
     rows.finish()?;
     file.finish()?;
     Ok(())
@@ -164,10 +194,47 @@ mod tests {
     }
 
     #[test]
+    fn two_and_four_channels_stand_side_by_side() {
+        let samples = vec![1, 11, 2, 12, 3, 13, 4, 14, 5, 15, 6, 16];
+        let mut bytes = Vec::new();
+        let two = Picture { width: 3, height: 2, channels: 2, samples: samples.clone() };
+        Form::Pgm.write(&two, &mut bytes).unwrap();
+        let rows = [[1, 2, 3, 11, 12, 13], [4, 5, 6, 14, 15, 16]];
+        assert_eq!(bytes, [b"P5\n6 2\n255\n", &rows.concat()[..]].concat());
+        bytes.clear();
+        Form::Png.write(&two, &mut bytes).unwrap();
+        let (across, down, kind, _, seen) = read_png(&bytes);
+        assert_eq!((across, down, kind, seen), (6, 2, png::ColorType::Grayscale, rows.concat()));
+        bytes.clear();
+        let four = Picture { width: 1, height: 3, channels: 4, samples };
+        Form::Pgm.write(&four, &mut bytes).unwrap();
+        assert_eq!(bytes, [b"P5\n4 3\n255\n", &four.samples[..]].concat());
+        for channels in [2, 4] {
+            let picture = picture(300, 70, channels);
+            bytes.clear();
+            Form::Png.write(&picture, &mut bytes).unwrap();
+            let (across, down, _, _, seen) = read_png(&bytes);
+            assert_eq!((across, down), (300 * channels, 70));
+            let is_there = |(at, &sample): (usize, &u8)| {
+                let (pixel, c) = (at / channels, at % channels);
+                seen[pixel / 300 * across + 300 * c + pixel % 300] == sample
+            };
+            assert!(picture.samples.iter().enumerate().all(is_there), "{channels} channels");
+        }
+    }
+
+    #[test]
     fn a_form_is_never_changed_silently() {
-        assert_eq!(Form::Pnm.for_channels(1), Ok(Form::Pgm));
+        for channels in [1, 2, 4] {
+            assert_eq!(Form::Pnm.for_channels(channels), Ok(Form::Pgm));
+            assert_eq!(Form::Pgm.for_channels(channels), Ok(Form::Pgm));
+            let refused = Form::Ppm.for_channels(channels).unwrap_err();
+            assert!(refused.contains("take pgm, pnm or png"), "{refused}");
+        }
         assert_eq!(Form::Pnm.for_channels(3), Ok(Form::Ppm));
-        assert!(Form::Ppm.for_channels(1).is_err() && Form::Pgm.for_channels(3).is_err());
+        assert_eq!(Form::Ppm.for_channels(3), Ok(Form::Ppm));
+        assert!(Form::Pgm.for_channels(3).is_err());
+        assert!([1, 2, 3, 4].iter().all(|&each| Form::Png.for_channels(each) == Ok(Form::Png)));
         assert_eq!(Form::of_ending(Path::new("x.PnG")), Some(Form::Png));
         assert_eq!(Form::of_ending(Path::new("x.jpg")), None);
         assert_eq!(Form::Pnm.and(Form::Ppm), Some(Form::Ppm));

@@ -37,13 +37,15 @@ fn inspect(
         Err(_) => String::new(),
     };
     let trouble = seen.err().map(|refused| words::refusal(&refused, &bytes));
-    Ok(Answer { text: text.into_bytes(), trouble })
+    Ok(Answer { text: text.into_bytes(), trouble, ..Answer::default() })
 }
 
 fn lines(name: &str, bytes: usize, record: &Record, notes: usize) -> String {
-    let (channels, sampling) = match record.channels {
-        1 => ("grey, one channel".to_string(), "every pixel has its sample".to_string()),
-        _ => ("colour, three channels".to_string(), sampling(record)),
+    let channels = match record.channels {
+        1 => "grey, one channel",
+        2 => "two channels, which decode writes in grey, side by side",
+        3 => "colour, three channels",
+        _ => "four channels, which decode writes in grey, side by side",
     };
     let interval = match record.interval {
         0 => "none".to_string(),
@@ -54,8 +56,8 @@ fn lines(name: &str, bytes: usize, record: &Record, notes: usize) -> String {
         ("file", name.to_string()),
         ("bytes", bytes.to_string()),
         ("size", format!("{} x {}", record.width, record.height)),
-        ("channels", channels),
-        ("sampling", sampling),
+        ("channels", channels.to_string()),
+        ("sampling", sampling(record)),
         ("restart interval", interval),
         ("blocks", record.blocks.to_string()),
         ("notes", notes.to_string()),
@@ -64,12 +66,16 @@ fn lines(name: &str, bytes: usize, record: &Record, notes: usize) -> String {
     rows.iter().map(|(label, value)| format!("{:18}{value}\n", format!("{label}:"))).collect()
 }
 
+/// Each channel's blocks across and down in an MCU, and what that means for its samples.
 fn sampling(record: &Record) -> String {
-    let (across, down) = (record.hs, record.vs);
-    match across * down {
-        1 => "1 x 1: every pixel has its own colour".to_string(),
-        _ => format!("{across} x {down}: so many pixels across and down share their colour"),
-    }
+    let channels = record.channels as usize;
+    let is_even = |factors: &[u64; 4]| factors[..channels].iter().all(|each| *each == factors[0]);
+    let meaning = match is_even(&record.across) && is_even(&record.down) {
+        true if channels == 1 => "every pixel has its sample",
+        true => "every pixel has its own sample of each channel",
+        false => "channel by channel, across x down; where one has less than the most, pixels share its samples",
+    };
+    format!("{}: {meaning}", record.sampling())
 }
 
 /// A name that is UTF-8 as it is, since JSON has its own escapes.
@@ -96,7 +102,8 @@ fn object(name: &str, bytes: usize, seen: Result<&Record, &Refused>) -> String {
 /// A record by the names that its fields have for C.
 fn fields(record: &Record) -> Value {
     json!({
-        "width": record.width, "height": record.height, "channels": record.channels, "hs": record.hs, "vs": record.vs,
+        "width": record.width, "height": record.height, "channels": record.channels,
+        "across": record.across, "down": record.down,
         "ids": record.ids, "qids": record.qids, "dcids": record.dcids, "acids": record.acids,
         "quants": record.quants, "dcs": record.dcs, "acs": record.acs,
         "interval": record.interval, "start": record.start, "blocks": record.blocks, "scratch": record.scratch,
@@ -174,5 +181,32 @@ mod tests {
             "{lines}"
         );
         assert!(lines.lines().all(|line| line.contains(": ")) && lines.lines().count() == 9);
+    }
+
+    #[test]
+    fn the_sampling_of_each_channel_is_told() {
+        let of = |channels, across, down| Record { channels, across, down, ..Record::default() };
+        let told = |record: &Record| sampling(record).split_once(": ").unwrap().1.to_string();
+        let shared = told(&of(3, [2, 1, 1, 0], [2, 2, 2, 0]));
+        assert!(shared.contains("pixels share its samples"), "{shared}");
+        for record in [
+            of(2, [1, 2, 0, 0], [1, 1, 0, 0]),
+            of(3, [2, 1, 1, 0], [1, 1, 1, 0]),
+            of(3, [1, 1, 1, 0], [2, 1, 1, 0]),
+            of(4, [2, 1, 1, 2], [2, 1, 1, 2]),
+        ] {
+            assert_eq!(told(&record), shared);
+        }
+        let own = "every pixel has its own sample of each channel";
+        assert_eq!(sampling(&of(3, [1, 1, 1, 0], [1, 1, 1, 0])), format!("1x1,1x1,1x1: {own}"));
+        assert_eq!(told(&of(2, [2, 2, 0, 0], [2, 2, 0, 0])), own);
+        assert_eq!(told(&of(4, [1; 4], [2; 4])), own);
+        let grey = sampling(&of(1, [1, 0, 0, 0], [1, 0, 0, 0]));
+        assert_eq!(grey, "1x1: every pixel has its sample");
+        for (channels, wanted) in [(1, "grey, one"), (2, "two"), (3, "colour, three"), (4, "four")]
+        {
+            let lines = lines("a.jpg", 9, &of(channels, [1; 4], [1; 4]), 0);
+            assert!(lines.contains(&format!("channels:         {wanted} channel")), "{lines}");
+        }
     }
 }

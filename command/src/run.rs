@@ -74,8 +74,7 @@ where
                     "a fault of this program: please report it with the file".to_string(),
                 )
             };
-            let answer =
-                done.unwrap_or_else(|_| Answer { text: Vec::new(), trouble: Some(fault()) });
+            let answer = done.unwrap_or_else(|_| Answer::from(Err(fault())));
             if send.send((i, answer)).is_err() {
                 return;
             }
@@ -117,9 +116,13 @@ where
                 status = Status::Failed;
             }
         }
+        let about = |line: &str| say(&format!("{}: {line}", self.sources[i].shown()));
+        if let Some(line) = answer.remark {
+            about(&line);
+        }
         if let Some(trouble) = answer.trouble {
             let (Trouble::Refused(line) | Trouble::Failed(line)) = &trouble;
-            say(&format!("{}: {line}", self.sources[i].shown()));
+            about(line);
             status = status.max(Status::from(&trouble));
         }
         status

@@ -32,7 +32,7 @@ fn to_do(refused: &Refused, bytes: &[u8]) -> &'static str {
         Refused::MALFORMED if bytes.is_empty() => "the file is empty; copy it again from the camera",
         Refused::MALFORMED if !bytes.starts_with(&[255, 216]) => is_not_jpeg(bytes),
         Refused::MALFORMED => "copy it again from the camera; a file that stays so is damaged, or the tables in its head are faulty, and cannot be trusted",
-        Refused::UNSUPPORTED => "have the camera write baseline files (progressive, 12-bit and four-channel ones are not read)",
+        Refused::UNSUPPORTED => "have the camera write baseline files in one scan (progressive and 12-bit ones are not read, nor more than four channels)",
         Refused::NO_END_CODE => "it cannot be settled; compare the pictures that decode writes",
         _ => "please report it",
     }
@@ -70,6 +70,14 @@ fn is_not_jpeg(bytes: &[u8]) -> &'static str {
     }
     let kind = KINDS.iter().find(|(first, _)| bytes.starts_with(first));
     kind.map_or("it is not a JPEG file; give the JPEG file of the camera", |(_, words)| words)
+}
+
+/// How the channels of a picture stand that is not written as one, since no form has so many.
+pub fn beside(channels: usize) -> String {
+    let count = if channels == 2 { "two" } else { "four" };
+    format!(
+        "has {count} channels: each is written in grey, side by side, the first one on the left"
+    )
 }
 
 const NO_MEMORY: &str =

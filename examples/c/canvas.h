@@ -8,7 +8,7 @@
 
 struct picture {
     size_t width, height;
-    size_t channels; /* 1: grey; 3: red, green, blue */
+    size_t channels; /* 1: grey, also where several channels lie side by side; 3: red, green, blue */
     const uint8_t *samples;
 };
 

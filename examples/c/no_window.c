@@ -6,6 +6,6 @@
 bool show_window(const char *name, const struct picture *picture, const struct note *note) {
     (void)picture;
     (void)note;
-    fprintf(stderr, "view: %s: this viewer was built without a window; --pnm and --note work\n", name);
+    fprintf(stderr, "view: %s: this viewer was built without a window; --pnm, --note and --facts work\n", name);
     return false;
 }

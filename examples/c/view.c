@@ -3,6 +3,9 @@
  *   view FILE          shows the picture and the camera's note in a window; q, Escape or closing ends it
  *   view --pnm FILE    writes the picture, PPM or PGM, to standard output
  *   view --note FILE   prints the text of every note as it is, and a newline behind each
+ *   view --facts FILE  prints the picture's size, and each channel with its id and its sampling
+ *
+ * A picture of two or four channels is shown and written in grey, each channel beside the one before it.
  *
  * Exit status: 0 for done, 1 for a file that is refused, 2 for anything else. Each failure is one line on standard error.
  */
@@ -145,16 +148,36 @@ static enum status decode_into(const struct file *file, uint8_t *output, uint8_t
     return drawn.number == TILLSPARROW_ACCEPTED ? DONE : refuse(file, drawn.number);
 }
 
+/* The samples channel by channel: of each row first those of the first channel, then those of the next, as a row of grey pictures. */
+static void lay_side_by_side(const struct picture *picture, uint8_t *laid) {
+    const uint8_t *row = picture->samples;
+    for (size_t y = 0; y < picture->height; y++, row += picture->width * picture->channels)
+        for (size_t channel = 0; channel < picture->channels; channel++)
+            for (size_t x = 0; x < picture->width; x++)
+                *laid++ = row[x * picture->channels + channel];
+}
+
+/* Two and four channels are no colours that a screen has: each is shown for itself, in grey. */
+static enum status show_channels(const struct file *file, struct picture *picture, uint8_t **samples) {
+    uint8_t *laid = allocate(file->found.output);
+    if (laid == NULL)
+        return fail(file, "out of memory for the picture");
+    lay_side_by_side(picture, laid);
+    free(*samples);
+    *samples = laid;
+    *picture = (struct picture){picture->width * picture->channels, picture->height, 1, laid};
+    return DONE;
+}
+
 /* The buffers have just the lengths that the record asks for. The caller frees the samples. */
 static enum status decode_file(const struct file *file, struct picture *picture, uint8_t **samples) {
     *samples = allocate(file->found.output);
     uint8_t *scratch = allocate(file->found.scratch);
     enum status decoded = decode_into(file, *samples, scratch);
     free(scratch);
-    picture->width = (size_t)file->found.width;
-    picture->height = (size_t)file->found.height;
-    picture->channels = (size_t)file->found.channels;
-    picture->samples = *samples;
+    *picture = (struct picture){(size_t)file->found.width, (size_t)file->found.height, (size_t)file->found.channels, *samples};
+    if (decoded == DONE && (picture->channels == 2 || picture->channels == 4))
+        return show_channels(file, picture, samples);
     return decoded;
 }
 
@@ -172,7 +195,7 @@ static struct note first_note(const struct file *file) {
     return note;
 }
 
-/* ---- the three uses */
+/* ---- the uses */
 
 /* What was written may still be on its way; it has arrived where flushing succeeds. */
 static enum status finish_output(const struct file *file) {
@@ -203,6 +226,30 @@ static enum status write_notes(const struct file *file) {
     return finish_output(file);
 }
 
+/* What the channels are shown as, by their number. */
+static const char *shown_as(uint64_t channels) {
+    static const char *const words[] = {"", "grey", "each in grey", "in colour", "each in grey"};
+    return channels < sizeof words / sizeof words[0] ? words[channels] : "";
+}
+
+/* The most that one channel has across or down: those that have less show each sample in more than one pixel. */
+static unsigned long long largest(const uint64_t factors[4]) {
+    uint64_t most = 0;
+    for (size_t i = 0; i < 4; i++)
+        most = factors[i] > most ? factors[i] : most;
+    return (unsigned long long)most;
+}
+
+static enum status write_facts(const struct file *file) {
+    const tillsparrow_record *found = &file->found;
+    printf("%llu x %llu pixels\n", (unsigned long long)found->width, (unsigned long long)found->height);
+    printf("%llu channel%s, %s\n", (unsigned long long)found->channels, found->channels == 1 ? "" : "s", shown_as(found->channels));
+    for (size_t i = 0; i < found->channels && i < 4; i++)
+        printf("channel %zu: id %llu, sampling %llu x %llu of %llu x %llu\n", i + 1, (unsigned long long)found->ids[i],
+               (unsigned long long)found->across[i], (unsigned long long)found->down[i], largest(found->across), largest(found->down));
+    return finish_output(file);
+}
+
 static enum status show(const struct file *file) {
     struct picture picture;
     uint8_t *samples;
@@ -224,13 +271,15 @@ static use chosen_use(int count, char **words) {
         return write_pnm;
     if (count == 3 && strcmp(words[1], "--note") == 0)
         return write_notes;
+    if (count == 3 && strcmp(words[1], "--facts") == 0)
+        return write_facts;
     return NULL;
 }
 
 int main(int count, char **words) {
     use chosen = chosen_use(count, words);
     if (chosen == NULL) {
-        fprintf(stderr, "view: takes FILE, --pnm FILE or --note FILE\n");
+        fprintf(stderr, "view: takes FILE, --pnm FILE, --note FILE or --facts FILE\n");
         return FAILED;
     }
     struct file file = {words[count - 1], NULL, 0, {0}};

@@ -38,13 +38,16 @@ parser.add_argument("--out", type=Path, default=Path("target/scored"), help="the
 chosen = parser.parse_args([] if IN_NOTEBOOK else None)
 
 # %% Read the photograph
-# The samples are those of the proved library: whole numbers from 0 to 255, one or three for each pixel.
+# The samples are those of the proved library: whole numbers from 0 to 255, one or three for each pixel. Two and four channels have no
+# colours that could be named, so they are not scored.
 try:
     picture = tillsparrow.read(chosen.input)
 except OSError as error:
     sys.exit(f"score_tray: {chosen.input}: {error}")
 except tillsparrow.Refused as refused:
     sys.exit(f"score_tray: {refused}")
+if picture.channels not in (1, 3):
+    sys.exit(f"score_tray: {chosen.input}: {picture.channels} channels, which are not converted to colours; score a grey or a colour photograph")
 NAMES = ("red", "green", "blue") if picture.channels == 3 else ("grey",)
 pixels = picture.array().reshape(picture.height, picture.width, picture.channels)
 if picture.height < chosen.rows or picture.width < chosen.columns:

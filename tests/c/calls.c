@@ -1,7 +1,8 @@
 /* The calls on one file, as a program in C meets them.
  *
- *   calls FILE RECORD PICTURE [COMMENT...]   a file that is accepted: RECORD has its 36 numbers as text, each COMMENT the text of one
- *                                            comment; the picture is written to PICTURE
+ *   calls FILE RECORD PICTURE [COMMENT...]   a file that is accepted: RECORD has its 46 numbers as text, each COMMENT the text of one
+ *                                            comment; the picture is written to PICTURE, PPM or PGM; one of two or four channels as a
+ *                                            PGM as many times as wide, channels interleaved
  *   calls --refused NUMBER SPENT BLOCK PLACE FILE
  *                                            a file that is refused, what it takes from the budget, and where its scan broke, which is
  *                                            0 and 0 where it was not read
@@ -15,10 +16,10 @@
 #include "tillsparrow.h"
 #include "lent.h"
 
-#define NUMBERS 36
+#define NUMBERS 46
 #define PLENTY UINT64_MAX
 
-enum place { SCRATCH = 32, OUTPUT = 33, WORK = 34, COLOUR = 35 };
+enum place { SCRATCH = 42, OUTPUT = 43, WORK = 44, COLOUR = 45 };
 
 struct limits {
     size_t input, side, output;
@@ -192,6 +193,27 @@ static void test_changed_numbers(const struct subject *s) {
     }
 }
 
+/* A record with other factors is the file's only where they are the same. */
+static void hold_other_factors(const struct subject *s, tillsparrow_record given) {
+    if (memcmp(&given, &s->record, sizeof given) != 0)
+        hold_refused(s, given, (size_t)given.output, (size_t)given.scratch, PLENTY, 8);
+}
+
+/* Across and down of a channel exchanged, the factors of two channels exchanged, and another number of channels, the last of 1 x 1. */
+static void test_other_factors(const struct subject *s) {
+    for (size_t c = 0; c < 4; c++) {
+        tillsparrow_record turned = s->record, moved = s->record, more = s->record;
+        size_t next = (c + 1) % 4;
+        turned.across[c] = s->record.down[c], turned.down[c] = s->record.across[c];
+        moved.across[c] = s->record.across[next], moved.across[next] = s->record.across[c];
+        moved.down[c] = s->record.down[next], moved.down[next] = s->record.down[c];
+        more.channels = c + 1, more.across[c] = 1, more.down[c] = 1;
+        hold_other_factors(s, turned);
+        hold_other_factors(s, moved);
+        hold_other_factors(s, more);
+    }
+}
+
 static void test_rooms_and_budgets(const struct subject *s) {
     size_t output = (size_t)s->record.output, scratch = (size_t)s->record.scratch;
     hold_refused(s, s->record, output - 1, scratch, PLENTY, 7);
@@ -227,10 +249,58 @@ static struct lent draw(const struct subject *s, tillsparrow_record given, size_
 
 static void write_picture(const struct subject *s, struct lent picture, const char *name) {
     FILE *file = fopen(name, "wb");
+    bool coloured = s->record.channels == 3;
     hold(file != NULL, "%s cannot be written", name);
-    fprintf(file, "P%d\n%llu %llu\n255\n", s->record.channels == 1 ? 5 : 6, (unsigned long long)s->record.width,
+    fprintf(file, "P%d\n%llu %llu\n255\n", coloured ? 6 : 5, (unsigned long long)(s->record.width * (coloured ? 1 : s->record.channels)),
             (unsigned long long)s->record.height);
     hold(fwrite(picture.bytes, 1, (size_t)s->record.output, file) == s->record.output && fclose(file) == 0, "%s cannot be written", name);
+}
+
+static uint64_t largest(const uint64_t factors[4], uint64_t channels) {
+    uint64_t most = 0;
+    for (size_t c = 0; c < channels; c++)
+        most = factors[c] > most ? factors[c] : most;
+    return most;
+}
+
+/* The sample of a channel that a pixel shows: in the pixel's MCU, at its place there times the channel's factor by the largest. */
+static uint8_t sample_at(const tillsparrow_record *r, const uint8_t *blocks, uint64_t x, uint64_t y, size_t channel) {
+    uint64_t wide = 8 * largest(r->across, r->channels), high = 8 * largest(r->down, r->channels), per = 0, before = 0;
+    for (size_t c = 0; c < r->channels; c++) {
+        before += c < channel ? r->across[c] * r->down[c] : 0;
+        per += r->across[c] * r->down[c];
+    }
+    uint64_t mcu = y / high * ((r->width + wide - 1) / wide) + x / wide;
+    uint64_t u = x % wide * r->across[channel] / (wide / 8), v = y % high * r->down[channel] / (high / 8);
+    uint64_t block = mcu * per + before + v / 8 * r->across[channel] + u / 8;
+    return blocks[64 * block + 8 * (v % 8) + u % 8];
+}
+
+static uint8_t rounded(int64_t sum) {
+    int64_t whole = sum + 32768 < 0 ? 0 : (sum + 32768) / 65536;
+    return (uint8_t)(whole > 255 ? 255 : whole);
+}
+
+/* Red, green and blue of the three samples of a pixel. */
+static bool is_in_colour(const uint8_t *pixel, const uint8_t *coded) {
+    int64_t luma = 65536 * (int64_t)coded[0], cb = coded[1] - 128, cr = coded[2] - 128;
+    return pixel[0] == rounded(luma + 91881 * cr) && pixel[1] == rounded(luma - 22554 * cb - 46802 * cr) &&
+           pixel[2] == rounded(luma + 116130 * cb);
+}
+
+/* Of the picture as it is coded every sample is that of a block, by the rule; in colour are three channels, and no others. */
+static void test_places(const struct subject *s, struct lent picture, struct lent coded, struct lent blocks) {
+    const tillsparrow_record *r = &s->record;
+    bool placed = true, same = true;
+    for (uint64_t i = 0; i < r->width * r->height; i++) {
+        const uint8_t *pixel = coded.bytes + i * r->channels;
+        for (size_t c = 0; c < r->channels; c++)
+            placed = placed && pixel[c] == sample_at(r, blocks.bytes, i % r->width, i / r->width, c);
+        same = same && (r->channels != 3 || is_in_colour(picture.bytes + 3 * i, pixel));
+    }
+    hold(placed, "a pixel has another sample than that of its place");
+    hold(same, "a pixel has another colour than that of its samples");
+    hold(r->channels == 3 || same_bytes(picture, coded, (size_t)r->output), "%llu channels are in colour", (unsigned long long)r->channels);
 }
 
 /* Every byte is written, whatever was there; the other choice of colour has the same samples of blocks. */
@@ -242,7 +312,7 @@ static struct lent test_drawing(const struct subject *s, const char *name) {
     struct lent coded = draw(s, changed(s->record, COLOUR, 0), 0, 0, &coded_blocks);
     hold(same_bytes(picture, again, output) && same_bytes(blocks, again_blocks, scratch), "decode does not write every byte");
     hold(same_bytes(blocks, coded_blocks, scratch), "the samples of the blocks depend on the choice of colour");
-    hold(same_bytes(picture, coded, output) == (s->record.channels == 1), "the choice of colour makes the wrong difference");
+    test_places(s, picture, coded, blocks);
     write_picture(s, picture, name);
     give_back(blocks), give_back(again_blocks), give_back(coded_blocks), give_back(again), give_back(coded);
     return picture;
@@ -335,6 +405,7 @@ static void test_accepted(const char *name, const char *record, const char *draw
     test_budgets(&s);
     test_limits(&s);
     test_changed_numbers(&s);
+    test_other_factors(&s);
     test_rooms_and_budgets(&s);
     struct lent picture = test_drawing(&s, drawn);
     test_settling(&s, picture);

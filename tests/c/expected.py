@@ -1,10 +1,16 @@
-"""A reader for the tests: the 36 numbers of a file that is known to be good, found from the markers alone, and where each block of its
+"""A reader for the tests: the 46 numbers of a file that is known to be good, found from the markers alone, and where each block of its
 scan stands. It tests nothing and refuses nothing; what it finds is held against what inspect finds.
 """
+import itertools
 from typing import NamedTuple
 
 FRAMES, TABLES, QUANTIZERS, INTERVAL, SCAN, COMMENT = (0xC0, 0xC1), 0xC4, 0xDB, 0xDD, 0xDA, 0xFE
 PRICE_OF_A_BLOCK = 3136
+# where the numbers of a record stand: those by channel, those by id, and the others
+NUMBERS = 46
+CHANNELS, ACROSS, DOWN, IDS, QIDS, DCIDS, ACIDS = 2, 3, 7, 11, 15, 19, 23
+QUANTS, DCS, ACS = 27, 31, 35
+INTERVAL_AT, START, BLOCKS, SCRATCH, OUTPUT, WORK, COLOUR = range(39, NUMBERS)
 
 
 def segments(jpeg):
@@ -38,14 +44,21 @@ def tables(dcs, acs, at, body):
 
 
 def padded(numbers):
-    return numbers + [0] * (3 - len(numbers))
+    """By channel, and 0 behind the last."""
+    return numbers + [0] * (4 - len(numbers))
 
 
-def lengths(width, height, channels, hs, vs):
-    """Blocks, scratch, output, work."""
-    across, down = -(-width // (8 * hs)), -(-height // (8 * vs))
-    blocks = across * down * (1 if channels == 1 else hs * vs + 2)
-    output = width * height * channels
+def factors(frame):
+    """Across and down of each channel; a single one is 1 x 1 whatever its byte says."""
+    return [divmod(byte, 16) for byte in frame[7::3]] if frame[5] > 1 else [(1, 1)]
+
+
+def lengths(width, height, shape):
+    """Blocks, scratch, output, work; MCUs are counted by the largest factors."""
+    most_across, most_down = map(max, zip(*shape))
+    mcus = -(-width // (8 * most_across)) * -(-height // (8 * most_down))
+    blocks = mcus * sum(across * down for across, down in shape)
+    output = width * height * len(shape)
     return [blocks, 64 * blocks, output, PRICE_OF_A_BLOCK * blocks + output]
 
 
@@ -62,14 +75,10 @@ def record(jpeg):
             frame = body
     # the last segment was the scan's
     height, width, channels = int.from_bytes(frame[1:3], "big"), int.from_bytes(frame[3:5], "big"), frame[5]
-    hs, vs = (1, 1) if channels == 1 else (frame[7] >> 4, frame[7] & 15)
-    ids = padded([frame[6 + 3 * i] for i in range(channels)])
-    qids = padded([frame[8 + 3 * i] for i in range(channels)])
-    dcids = padded([body[2 + 2 * i] >> 4 for i in range(channels)])
-    acids = padded([body[2 + 2 * i] & 15 for i in range(channels)])
-    counts = lengths(width, height, channels, hs, vs)
-    start = at + len(body)
-    return [width, height, channels, hs, vs, *ids, *qids, *dcids, *acids, *quants, *dcs, *acs, interval, start, *counts, 1]
+    shape, named = factors(frame), body[2:2 * channels + 1:2]
+    by_channel = (list(each) for each in (*zip(*shape), frame[6::3], frame[8::3], (v >> 4 for v in named), (v & 15 for v in named)))
+    return [width, height, channels, *itertools.chain(*map(padded, by_channel)), *quants, *dcs, *acs, interval, at + len(body),
+            *lengths(width, height, shape), 1]
 
 
 # ---- the scan
@@ -132,19 +141,24 @@ class Bits:
         self.place += 2
 
 
+def per_mcu(numbers):
+    """The channel of each block of an MCU: as many as its factors say, channel after channel."""
+    return [c for c in range(numbers[CHANNELS]) for _ in range(numbers[ACROSS + c] * numbers[DOWN + c])]
+
+
 def turns(jpeg):
     """A turn for each block, and one for the final marker."""
     numbers = record(jpeg)
-    channels, hs, vs, interval, start, blocks = numbers[2], numbers[3], numbers[4], *numbers[29:32]
-    order = [0] if channels == 1 else [0] * (hs * vs) + [1, 2]
-    tables = [(codes(jpeg, numbers[21 + numbers[11 + c]]), codes(jpeg, numbers[25 + numbers[14 + c]])) for c in range(channels)]
-    bits = Bits(jpeg, start)
-    for k in range(blocks):
+    order, interval = per_mcu(numbers), numbers[INTERVAL_AT]
+    pairs = [(codes(jpeg, numbers[DCS + numbers[DCIDS + c]]), codes(jpeg, numbers[ACS + numbers[ACIDS + c]]))
+             for c in range(numbers[CHANNELS])]
+    bits = Bits(jpeg, numbers[START])
+    for k in range(numbers[BLOCKS]):
         place = bits.place
         if interval and k and k % (interval * len(order)) == 0:
             bits.marker()
         own = bits.place
-        bits.block(*tables[order[k % len(order)]])
+        bits.block(*pairs[order[k % len(order)]])
         yield Turn(place, own, bits.place)
     place = bits.place
     bits.marker()

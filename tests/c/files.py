@@ -2,6 +2,7 @@
 import os
 import subprocess
 import sys
+from typing import NamedTuple
 
 ROOT = os.path.dirname(os.path.dirname(os.path.dirname(os.path.abspath(__file__))))
 sys.dont_write_bytecode = True
@@ -79,26 +80,69 @@ def parse(pnm, name):
     return fields[0], width, height, fields[3]
 
 
-def near_djpeg(name, pnm, jpeg):
-    """Samples may differ from djpeg's by 1 in a grey picture and by 3 in a colour one, and fewer than one in five at all."""
-    ours, theirs = parse(pnm, name), parse(djpeg(jpeg), name)
-    if ours[:3] != theirs[:3]:
-        raise Off(f"{name}: {ours[:3]} here, {theirs[:3]} by djpeg")
-    gaps = [abs(a - b) for a, b in zip(ours[3], theirs[3])]
-    if max(gaps) > (1 if ours[0] == b"P5" else 3):
+def near(name, ours, theirs, most):
+    """Samples may differ from djpeg's by as much as this, and fewer than one in five at all."""
+    gaps = [abs(a - b) for a, b in zip(ours, theirs)]
+    if len(ours) != len(theirs) or max(gaps) > most:
         raise Off(f"{name}: a sample differs from djpeg's by {max(gaps)}")
     if 5 * sum(1 for gap in gaps if gap) >= len(gaps):
         raise Off(f"{name}: one sample in five differs from djpeg's, or more")
 
 
+def near_djpeg(name, pnm, jpeg):
+    """By at most 1 in a grey picture and by at most 3 in a colour one."""
+    ours, theirs = parse(pnm, name), parse(djpeg(jpeg), name)
+    if ours[:3] != theirs[:3]:
+        raise Off(f"{name}: {ours[:3]} here, {theirs[:3]} by djpeg")
+    near(name, ours[3], theirs[3], 1 if ours[0] == b"P5" else 3)
+
+
 def same_as_program(name, jpeg, pnm):
-    """Whether ./tillsparrow, which takes 65,536 bytes and samples, was asked; its bytes are the same."""
+    """Whether ./tillsparrow, which takes 65,536 bytes and samples, was asked; its bytes are the same, and two or four channels it
+    refuses."""
     numbers = expected.record(jpeg)
-    if len(jpeg) > 65536 or max(numbers[32:34]) > 65536:
+    if len(jpeg) > 65536 or max(numbers[expected.SCRATCH], numbers[expected.OUTPUT]) > 65536:
         return False
-    if run([os.path.join(ROOT, "tillsparrow")], jpeg).stdout != pnm:
-        raise Off(f"{name}: ./tillsparrow writes another picture")
+    refused = numbers[expected.CHANNELS] in (2, 4)
+    done = run([os.path.join(ROOT, "tillsparrow")], jpeg, ok=(1,) if refused else (0,))
+    if done.stdout != (b"refused 5\n" if refused else pnm):
+        raise Off(f"{name}: ./tillsparrow writes another picture, or one of two or four channels")
     return True
+
+
+# ---- what djpeg does not show as it is coded: two and four channels, and factors that do not divide each other
+
+def red_green_blue(luma, cb, cr):
+    """Of the three sums the nearest whole numbers, from 0 to 255."""
+    sums = 91881 * (cr - 128), -22554 * (cb - 128) - 46802 * (cr - 128), 116130 * (cb - 128)
+    return [min(max((65536 * luma + each + 32768) // 65536, 0), 255) for each in sums]
+
+
+def samples_by_djpeg(name, picture):
+    """The samples of a picture that was made here, channels interleaved, as they are coded. djpeg decodes each channel alone, as a grey
+    picture of its own size; in it a pixel's place times the channel's factor by the largest one is the place of the sample."""
+    planes = [parse(djpeg(picture.plane(c).form(unsettled.plain)), name) for c in range(picture.channels)]
+    (most_across, most_down), samples = picture.largest(), bytearray()
+    for y in range(picture.height):
+        rows = [plane[3][y * down // most_down * plane[1]:][:plane[1]] for (_, down), plane in zip(picture.shape, planes)]
+        for x in range(picture.width):
+            samples += bytes(row[x * across // most_across] for (across, _), row in zip(picture.shape, rows))
+    return bytes(samples)
+
+
+def near_planes(name, samples, picture, colour=True):
+    """The samples as decode gives them, in colour where that is chosen and there are three channels."""
+    theirs = samples_by_djpeg(name, picture)
+    if colour and picture.channels == 3:
+        theirs = bytes(v for i in range(0, len(theirs), 3) for v in red_green_blue(*theirs[i:i + 3]))
+    near(name, samples, theirs, 3 if colour and picture.channels == 3 else 1)
+
+
+def side_by_side(samples, width, channels):
+    """The samples of a grey picture that has each channel beside the one before it, as the viewer shows two and four of them."""
+    across = width * channels
+    rows = (samples[at:at + across] for at in range(0, len(samples), across))
+    return b"".join(row[c::channels] for row in rows for c in range(channels))
 
 
 # ---- comments
@@ -132,6 +176,44 @@ def shapes():
     yield "large", encode(640, 480, "-sample", "2x2", "-quality", "85"), []
     yield "large grey", encode(500, 400, "-grayscale", "-quality", "90"), []
     yield from ((name, jpeg, []) for name, _, jpeg in filled())
+
+
+def sampled():
+    """Channels with factors of their own, of which the largest is a multiple of each: only then does djpeg show the same samples."""
+    for sampling, restart in (("1x2", "1B"), ("2x2,1x2,1x2", "3B"), ("2x2,2x1,1x2", "1"), ("2x2,2x2,1x1", "2B"), ("4x1,2x1,2x1", "2B"),
+                              ("1x1,2x2,1x2", "1"), ("1x4,4x1,1x1", "1B"), ("3x2,1x1,3x1", "2B"), ("4x2,1x1,1x1", "1")):
+        yield sampling, encode(90, 70, "-sample", sampling), []
+        yield f"{sampling} with restarts", encode(61, 83, "-sample", sampling, "-restart", restart, "-optimize"), []
+    # a single channel counts as 1 x 1
+    yield "grey whose frame says 2 x 2", encode(41, 23, "-grayscale", "-sample", "2x2"), []
+    yield "large, chroma 1x2", encode(640, 480, "-sample", "2x2,1x2,1x2", "-quality", "85"), []
+
+
+class Made(NamedTuple):
+    """A picture that was made here, and how its file is called."""
+
+    name: str
+    picture: unsettled.Picture
+
+    def jpeg(self):
+        return self.picture.form(unsettled.plain)
+
+
+def several():
+    """Pictures of two and four channels, and of three with factors that do not divide each other: djpeg refuses them, or mixes
+    other colours of four."""
+    shapes = ([(1, 1)] * 2, [(2, 1), (1, 1)], [(1, 2), (2, 1)], [(3, 2), (2, 1)], [(1, 1), (3, 3)], [(2, 3), (1, 4)],
+              [(3, 1), (2, 1), (1, 1)], [(1, 3), (1, 2), (2, 1)], [(2, 2), (3, 1), (1, 3)], [(1, 1), (4, 1), (3, 1)],
+              [(1, 1)] * 4, [(2, 2), (1, 1), (1, 1), (2, 2)], [(2, 1), (1, 2), (1, 1), (3, 1)], [(1, 1), (1, 1), (1, 1), (2, 3)],
+              [(4, 1), (2, 1), (3, 1), (1, 1)], [(1, 4), (1, 2), (1, 3), (1, 1)])
+    for seed, shape in enumerate(shapes):
+        name = ", ".join(f"{across} x {down}" for across, down in shape)
+        yield Made(name, unsettled.soft(seed, 53, 37, *shape))
+        yield Made(f"{name}, restarts", unsettled.soft(100 + seed, 70, 45, *shape, interval=1 + seed % 3))
+    yield Made("two channels of one pixel", unsettled.soft(7, 1, 1, (2, 1), (1, 2)))
+    # every block adds 2047 to what a restart has made 0, in each of four channels
+    pair = unsettled.Table({1: [11]}), unsettled.Table({1: [unsettled.END]})
+    yield Made("four levels that a restart makes 0", unsettled.Picture(24, 8, [(1, 1)] * 4, 4, 1, [pair], [[2047] + [0] * 63] * 12))
 
 
 def filled():
@@ -169,6 +251,8 @@ def refused():
     yield "arithmetic", encode(64, 64, "-arithmetic"), 5, 0, 0
     for name, jpeg in unsettled.careless():
         yield name, jpeg, 4, 0, 0
+    for name, jpeg in unsettled.unread():
+        yield name, jpeg, 5, 0, 0
     yield broken.cut("cut in the scan", plain, 40)
     yield broken.with_more("a byte behind the end", plain, b"\0")
     yield from broken.by_hand()
@@ -180,6 +264,8 @@ def to_be_cut():
     yield "grey with restarts", encode(65, 31, "-grayscale", "-restart", "1")
     yield "4:2:0", encode(90, 70, "-sample", "2x2")
     yield "1 x 1", encode(1, 1)
+    yield "luma 2x2 beside chroma 1x2, with restarts", encode(61, 47, "-sample", "2x2,1x2,1x2", "-restart", "1B")
+    yield "four channels with restarts", unsettled.soft(3, 40, 24, (2, 1), (1, 2), (1, 1), (2, 1), interval=2).form(unsettled.most)
     yield from ((name, jpeg) for name, _, jpeg in filled() if len(jpeg) < 100_000)
 
 

@@ -9,28 +9,28 @@
 #endif
 #define AT(place, kind, field) HOLDS(offsetof(kind, field) == 8 * (place))
 
-HOLDS(sizeof(tillsparrow_record) == 36 * 8);
+HOLDS(sizeof(tillsparrow_record) == 46 * 8);
 AT(0, tillsparrow_record, width);
 AT(1, tillsparrow_record, height);
 AT(2, tillsparrow_record, channels);
-AT(3, tillsparrow_record, hs);
-AT(4, tillsparrow_record, vs);
-AT(5, tillsparrow_record, ids);
-AT(8, tillsparrow_record, qids);
-AT(11, tillsparrow_record, dcids);
-AT(14, tillsparrow_record, acids);
-AT(17, tillsparrow_record, quants);
-AT(21, tillsparrow_record, dcs);
-AT(25, tillsparrow_record, acs);
-AT(29, tillsparrow_record, interval);
-AT(30, tillsparrow_record, start);
-AT(31, tillsparrow_record, blocks);
-AT(32, tillsparrow_record, scratch);
-AT(33, tillsparrow_record, output);
-AT(34, tillsparrow_record, work);
-AT(35, tillsparrow_record, colour);
+AT(3, tillsparrow_record, across);
+AT(7, tillsparrow_record, down);
+AT(11, tillsparrow_record, ids);
+AT(15, tillsparrow_record, qids);
+AT(19, tillsparrow_record, dcids);
+AT(23, tillsparrow_record, acids);
+AT(27, tillsparrow_record, quants);
+AT(31, tillsparrow_record, dcs);
+AT(35, tillsparrow_record, acs);
+AT(39, tillsparrow_record, interval);
+AT(40, tillsparrow_record, start);
+AT(41, tillsparrow_record, blocks);
+AT(42, tillsparrow_record, scratch);
+AT(43, tillsparrow_record, output);
+AT(44, tillsparrow_record, work);
+AT(45, tillsparrow_record, colour);
 
-HOLDS(sizeof(tillsparrow_inspected) == 40 * 8);
+HOLDS(sizeof(tillsparrow_inspected) == 50 * 8);
 AT(0, tillsparrow_inspected, number);
 AT(1, tillsparrow_inspected, left);
 AT(2, tillsparrow_inspected, block);

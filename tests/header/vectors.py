@@ -88,18 +88,18 @@ def huffman_places(body, place):
 
 
 def read_frame(body):
-    demand(len(body) >= 6 and body[0] == 8 and body[5] in (1, 3), UNSUPPORTED)
+    demand(len(body) >= 6 and body[0] == 8 and 1 <= body[5] <= 4, UNSUPPORTED)
     channels = body[5]
     demand(len(body) == 6 + 3 * channels, MALFORMED)
     height, width = int.from_bytes(body[1:3], "big"), int.from_bytes(body[3:5], "big")
-    ids, samplings, quants = body[6::3], body[7::3], body[8::3]
-    hs, vs = divmod(samplings[0], 16)
-    demand(width and height and hs in range(1, 5) and vs in range(1, 5) and max(quants) <= 3, UNSUPPORTED)
+    ids, quants = list(body[6::3]), list(body[8::3])
+    factors = [divmod(b, 16) for b in body[7::3]]
+    demand(width and height and all(1 <= f <= 4 for pair in factors for f in pair) and max(quants) <= 3, UNSUPPORTED)
     if channels == 1:
-        hs = vs = 1
-    else:
-        demand(hs * vs <= 4 and len(set(ids)) == 3 and samplings[1:] == b"\x11\x11", UNSUPPORTED)
-    return dict(width=width, height=height, channels=channels, hs=hs, vs=vs, ids=list(ids), qids=list(quants))
+        factors = [(1, 1)]
+    demand(sum(h * v for h, v in factors) <= 10 and len(set(ids)) == channels, UNSUPPORTED)
+    across, down = [h for h, v in factors], [v for h, v in factors]
+    return dict(width=width, height=height, channels=channels, across=across, down=down, ids=ids, qids=quants)
 
 
 def read_header(file, colour):
@@ -129,8 +129,9 @@ def read_header(file, colour):
     demand(all(dc <= 3 and ac <= 3 for dc, ac in chosen), UNSUPPORTED)
     for quant, (dc, ac) in zip(frame["qids"], chosen):
         demand(quant in quants and (0, dc) in tables and (1, ac) in tables, MALFORMED)
-    across, down = -(-frame["width"] // (8 * frame["hs"])), -(-frame["height"] // (8 * frame["vs"]))
-    blocks = across * down * (frame["hs"] * frame["vs"] + channels - 1)
+    wide, high = 8 * max(frame["across"]), 8 * max(frame["down"])
+    mcus = -(-frame["width"] // wide) * -(-frame["height"] // high)
+    blocks = mcus * sum(h * v for h, v in zip(frame["across"], frame["down"]))
     output = frame["width"] * frame["height"] * channels
     return dict(
         frame,
@@ -152,12 +153,12 @@ def read_header(file, colour):
 def numbers(record):
     """The record's fields, in the order of a line."""
 
-    def three(key):
-        return (record[key] + [0, 0])[:3]
+    def four(key):
+        return (record[key] + [0, 0, 0])[:4]
 
     return (
-        [record[k] for k in ("width", "height", "channels", "hs", "vs")]
-        + three("ids") + three("qids") + three("dcids") + three("acids")
+        [record[k] for k in ("width", "height", "channels")]
+        + four("across") + four("down") + four("ids") + four("qids") + four("dcids") + four("acids")
         + record["quants"] + record["dcs"] + record["acs"]
         + [record[k] for k in ("interval", "start", "blocks", "scratch", "output", "work", "colour")]
     )
@@ -225,6 +226,13 @@ YCC_FRAME = sof(20, 10, YCC)
 YCC_SCAN = sos([(1, 0), (2, 17), (3, 17)])
 COLOURS = SOI + YCC_TABLES + YCC_FRAME + YCC_SCAN + CODED
 
+# four channels, 20 x 40, each with its own sampling: 3 x 1, 1 x 2, 2 x 2, 1 x 1, so three MCUs, one below the other, of ten blocks;
+# quantizers 0 to 3, DC tables 0 to 3, AC tables 3 to 0
+FOUR = [(1, 49, 0), (2, 18, 1), (3, 34, 2), (4, 17, 3)]
+FOUR_TABLES = dqt(*((i, ONES) for i in range(4))) + dht(*(table(i) for i in range(4)), *(table(16 + i) for i in range(4)))
+FOUR_CHOSEN = [(1, 3), (2, 18), (3, 33), (4, 48)]
+FOURS = SOI + FOUR_TABLES + sof(20, 40, FOUR) + sos(FOUR_CHOSEN) + CODED
+
 
 def grey(*parts):
     """SOI, the parts given, and the coded bytes."""
@@ -238,6 +246,17 @@ def grey_with(frame=GREY_FRAME, scan=GREY_SCAN, quant=Q0, dc=DC0, ac=AC0, before
 
 def ycc_with(frame=YCC_FRAME, scan=YCC_SCAN, tables=YCC_TABLES):
     return grey(tables, frame, scan)
+
+
+def four_with(frame=None, scan=None, channels=4):
+    """FOURS with its frame or its scan replaced, or with its first channels alone."""
+    frame = sof(20, 40, FOUR[:channels]) if frame is None else frame
+    return grey(FOUR_TABLES, frame, sos(FOUR_CHOSEN[:channels]) if scan is None else scan)
+
+
+def sampled(*samplings, ids=(1, 2, 3, 4)):
+    """A file with these sampling bytes, one for each channel, and with these component ids."""
+    return four_with(sof(20, 40, [(i, s, 0) for i, s in zip(ids, samplings)]), sos([(i, 0) for i, s in zip(ids, samplings)]))
 
 
 def changed(base, *patches):
@@ -260,12 +279,22 @@ def vector(name, file, number, record=None, colour=False, patches=(), length=Non
         records.append((len(vectors) - 1, record))
 
 
-# The two base files, their records written out by hand.
-F_RECORD = [8, 8, 1, 1, 1, 1, 0, 0, 0, 0, 0, 0, 0, 0, 0, 0, 0, 7, 0, 0, 0, 89, 0, 0, 0, 111, 0, 0, 0, 0, 138, 1, 64, 64, 3200]
-C_RECORD = [20, 10, 3, 2, 2, 1, 2, 3, 0, 1, 1, 0, 1, 1, 0, 1, 1, 7, 72, 0, 0, 141, 177, 0, 0, 159, 195, 0, 0, 0, 245, 12, 768, 600, 38232]
+# The base files, their records written out by hand: the sides and the channels, six numbers for each of four channels, twelve places,
+# and the rest.
+F_RECORD = [8, 8, 1] + [1, 0, 0, 0, 1, 0, 0, 0, 1, 0, 0, 0, 0, 0, 0, 0, 0, 0, 0, 0, 0, 0, 0, 0]
+F_RECORD += [7, 0, 0, 0, 89, 0, 0, 0, 111, 0, 0, 0] + [0, 138, 1, 64, 64, 3200]
+C_RECORD = [20, 10, 3] + [2, 1, 1, 0, 2, 1, 1, 0, 1, 2, 3, 0, 0, 1, 1, 0, 0, 1, 1, 0, 0, 1, 1, 0]
+C_RECORD += [7, 72, 0, 0, 141, 177, 0, 0, 159, 195, 0, 0] + [0, 245, 12, 768, 600, 38232]
+D_RECORD = [20, 40, 4] + [3, 1, 2, 1, 1, 2, 2, 1, 1, 2, 3, 4, 0, 1, 2, 3, 0, 1, 2, 3, 3, 2, 1, 0]
+D_RECORD += [7, 72, 137, 202, 271, 289, 307, 325, 343, 361, 379, 397] + [0, 452, 30, 1920, 3200, 97280]
+# its first two channels: the largest factors are 3 and 2, so three MCUs of five blocks
+E_RECORD = [20, 40, 2] + [3, 1, 0, 0, 1, 2, 0, 0, 1, 2, 0, 0, 0, 1, 0, 0, 0, 1, 0, 0, 3, 2, 0, 0]
+E_RECORD += [7, 72, 137, 202, 271, 289, 307, 325, 343, 361, 379, 397] + [0, 442, 15, 960, 1600, 48640]
 for colour in (False, True):
     vector("F", F, 0, F_RECORD + [int(colour)], colour)
     vector("three channels", COLOURS, 0, C_RECORD + [int(colour)], colour)
+    vector("four channels", FOURS, 0, D_RECORD + [int(colour)], colour)
+    vector("two channels", four_with(channels=2), 0, E_RECORD + [int(colour)], colour)
 
 # SOI: the file opens 255 216, else 4; no fill before it.
 vector("empty", b"", MALFORMED)
@@ -491,7 +520,7 @@ for length in range(6):
     vector(f"frame: a body of {length}", grey_with(frame=segment(192, frame_body(8, 8, GREY)[:length])), UNSUPPORTED)
 for precision in (0, 7, 9, 12, 16, 255):
     vector(f"frame: precision {precision}", grey_with(frame=sof(8, 8, GREY, precision=precision)), UNSUPPORTED)
-for channels in (0, 2, 4, 255):
+for channels in (0, 5, 6, 255):
     body = frame_body(8, 8, [(i, 17, 0) for i in range(channels % 64)], channels=channels)
     vector(f"frame: {channels} channels", grey_with(frame=segment(192, body)), UNSUPPORTED)
 vector("frame: one byte too many", grey_with(frame=segment(192, frame_body(8, 8, GREY) + b"\x00")), MALFORMED)
@@ -500,7 +529,11 @@ vector("frame: one channel, a body for three", grey_with(frame=sof(8, 8, YCC, ch
 vector("frame: three channels, a body for one", grey_with(frame=sof(8, 8, GREY, channels=3)), MALFORMED)
 vector("frame: a body of 6 that counts one channel", grey_with(frame=segment(192, frame_body(8, 8, [], channels=1))), MALFORMED)
 vector("frame: precision before the length", grey_with(frame=segment(192, frame_body(8, 8, GREY, precision=12) + b"\x00")), UNSUPPORTED)
-vector("frame: two channels before the length", grey_with(frame=sof(8, 8, GREY, channels=2)), UNSUPPORTED)
+vector("frame: five channels before the length", grey_with(frame=sof(8, 8, GREY, channels=5)), UNSUPPORTED)
+for channels in (2, 4):
+    vector(f"frame: {channels} channels, a body for one", grey_with(frame=sof(8, 8, GREY, channels=channels)), MALFORMED)
+    vector(f"frame: {channels} channels, a body for three", ycc_with(frame=sof(8, 8, YCC, channels=channels)), MALFORMED)
+    vector(f"frame: four channels, a count of {channels - 1}", four_with(frame=sof(20, 40, FOUR, channels=channels - 1)), MALFORMED)
 vector("frame: the length before a zero side", grey_with(frame=segment(192, frame_body(0, 8, GREY) + b"\x00")), MALFORMED)
 vector("frame: the length before the sampling", grey_with(frame=segment(192, frame_body(8, 8, [(1, 0, 0)]) + b"\x00")), MALFORMED)
 vector("frame: the length before the quantizer id", grey_with(frame=segment(192, frame_body(8, 8, [(1, 17, 4)]) + b"\x00")), MALFORMED)
@@ -511,6 +544,13 @@ for quant in (4, 16, 255):
     for channel in range(3):
         patch = (len(SOI + YCC_TABLES) + 4 + 8 + 3 * channel, quant)
         vector(f"frame: quantizer id {quant} in channel {channel}", changed(COLOURS, patch), UNSUPPORTED)
+    for channel in range(4):
+        patch = (len(SOI + FOUR_TABLES) + 4 + 8 + 3 * channel, quant)
+        vector(f"frame: quantizer id {quant} in channel {channel} of four", FOURS, UNSUPPORTED, patches=[patch])
+for ids in ((1, 1), (1, 1, 1, 1), (1, 1, 3, 4), (1, 2, 1, 4), (1, 2, 3, 1), (1, 2, 2, 4), (1, 2, 3, 2), (1, 2, 3, 3), (1, 1, 2, 2)):
+    vector(f"frame: ids {ids}", sampled(*[17] * len(ids), ids=ids), UNSUPPORTED)
+for ids in ((1, 0), (255, 0), (0, 1, 2, 3), (4, 3, 2, 1), (67, 77, 89, 75), (255, 0, 128, 127)):
+    vector(f"frame: ids {ids}", sampled(*[17] * len(ids), ids=ids), 0)
 for ids in ((1, 1, 3), (1, 2, 1), (1, 2, 2), (5, 5, 5)):
     components = [(i, 17, 0) for i in ids]
     vector(f"frame: ids {ids}", ycc_with(sof(8, 8, components), sos([(i, 0) for i in ids])), UNSUPPORTED)
@@ -518,31 +558,55 @@ for ids in ((0, 1, 2), (255, 0, 128), (3, 2, 1), (82, 71, 66)):
     components = [(i, 17, 0) for i in ids]
     vector(f"frame: ids {ids}", ycc_with(sof(8, 8, components), sos([(i, 0) for i in ids])), 0)
 
-# Every sampling byte: nibbles 1..4; in three channels a product up to 4 too; one channel counts as 1 x 1.
-GREY_SAMPLING, COLOUR_SAMPLING = 71 + 11, len(SOI + YCC_TABLES) + 11
-assert F[GREY_SAMPLING] == 17 and COLOURS[COLOUR_SAMPLING] == 34
+# Every sampling byte: nibbles 1..4; in several channels a sum of products up to 10 too; one channel counts as 1 x 1.
+GREY_SAMPLING, COLOUR_SAMPLING, FOUR_SAMPLING = 71 + 11, len(SOI + YCC_TABLES) + 11, len(SOI + FOUR_TABLES) + 11
+assert F[GREY_SAMPLING] == 17 and COLOURS[COLOUR_SAMPLING] == 34 and FOURS[FOUR_SAMPLING] == 49
 for byte in range(256):
     high, low = divmod(byte, 16)
     nibbles = 1 <= high <= 4 and 1 <= low <= 4
     vector(f"one channel, sampling {byte}", F, 0 if nibbles else UNSUPPORTED, patches=[(GREY_SAMPLING, byte)])
-    fits = nibbles and high * low <= 4
+    # 1 and 1 for the second and the third
+    fits = nibbles and high * low + 1 + 1 <= 10
     vector(f"three channels, sampling {byte}", COLOURS, 0 if fits else UNSUPPORTED, patches=[(COLOUR_SAMPLING, byte)])
-# the second and third sampling byte are 17
-for byte in (0, 1, 16, 18, 33, 34, 68, 255):
+# The same in every other channel: 4 for the first of three, 3, 2, 4 and 1 for the four.
+ODD = (0, 1, 5, 16, 21, 69, 80, 81, 84, 85, 136, 255)
+for byte in sorted([16 * high + low for high in range(1, 5) for low in range(1, 5)] + list(ODD)):
+    product = byte // 16 * (byte % 16)
     for channel in (1, 2):
-        patch = (COLOUR_SAMPLING + 3 * channel, byte)
-        vector(f"sampling {byte} in channel {channel}", COLOURS, UNSUPPORTED, patches=[patch])
+        number = 0 if byte not in ODD and 4 + product + 1 <= 10 else UNSUPPORTED
+        vector(f"sampling {byte} in channel {channel}", COLOURS, number, patches=[(COLOUR_SAMPLING + 3 * channel, byte)])
+    for channel, others in enumerate((7, 8, 6, 9)):
+        number = 0 if byte not in ODD and others + product <= 10 else UNSUPPORTED
+        vector(f"sampling {byte} in channel {channel} of four", FOURS, number, patches=[(FOUR_SAMPLING + 3 * channel, byte)])
+# Sums of 10 and of 11, by two channels, three and four; 16 blocks of one channel are one.
+TEN = [(33, 36), (36, 33), (66, 18), (51, 17), (34, 34, 33), (33, 34, 34), (65, 20, 18)]
+TEN += [(34, 34, 17, 17), (17, 17, 34, 34), (33, 18, 33, 20), (65, 19, 33, 17)]
+ELEVEN = [(36, 49), (49, 36), (66, 19), (19, 66), (34, 34, 49), (49, 34, 34), (65, 20, 49)]
+ELEVEN += [(34, 34, 33, 17), (17, 33, 34, 34), (33, 18, 49, 20), (65, 19, 49, 17)]
+for samplings in TEN + [(68,)]:
+    vector(f"samplings {samplings}: 10 blocks at most", sampled(*samplings), 0)
+for samplings in ELEVEN + [(68, 68, 68, 68), (68, 17)]:
+    vector(f"samplings {samplings}: 11 blocks or more", sampled(*samplings), UNSUPPORTED)
+# The largest factors may stand in different channels; the record has the blocks.
+for samplings, blocks in (((17, 17), 3 * 5 * 2), ((65, 20), 1 * 2 * 8), ((20, 65), 1 * 2 * 8), ((17, 65, 20), 1 * 2 * 9), ((33, 18, 17), 2 * 3 * 5),
+                          ((17, 49, 17, 19), 1 * 2 * 8)):
+    vector(f"samplings {samplings}: {blocks} blocks", sampled(*samplings), 0)
+    records.append((len(vectors) - 1, {"blocks": blocks}))
 
 # Sizes: the largest pictures, and sides around an MCU.
 big = sof(65535, 65535, [(i, 17, 0) for i in (1, 2, 3)])
 vector("65535 x 65535, 1 x 1", ycc_with(big), 0)
 records.append((len(vectors) - 1, {"blocks": 201326592, "work": 644244701187}))
+vector("65535 x 65535, four channels", four_with(sof(65535, 65535, [(i, 17, 0) for i in (1, 2, 3, 4)])), 0)
+records.append((len(vectors) - 1, {"blocks": 268435456, "work": 858992934916}))
+vector("65535 x 65535, two channels", four_with(sof(65535, 65535, [(1, 17, 0), (2, 17, 0)]), sos(FOUR_CHOSEN[:2])), 0)
 vector("65535 x 65535, one channel", grey_with(frame=sof(65535, 65535, GREY)), 0)
 for sampling in (65, 20, 34, 49, 19):
     vector(f"65535 x 65535, sampling {sampling}", ycc_with(sof(65535, 65535, [(1, sampling, 0), (2, 17, 1), (3, 17, 1)])), 0)
 for width, height in ((1, 1), (8, 8), (9, 8), (8, 9), (16, 17), (65535, 1), (1, 65535), (255, 256)):
     vector(f"{width} x {height}", grey_with(frame=sof(width, height, GREY)), 0)
     vector(f"{width} x {height}, 2 x 1", ycc_with(sof(width, height, [(1, 33, 0), (2, 17, 1), (3, 17, 1)])), 0)
+    vector(f"{width} x {height}, four channels", four_with(sof(width, height, FOUR)), 0)
 
 # The restart interval: body 2, else 4; before or after the frame; the last one counts, also back to 0.
 for length in (0, 1, 3, 4):
@@ -572,6 +636,10 @@ for count in (0, 2, 3, 255):
 for last in ((1, 63, 0), (0, 62, 0), (0, 64, 0), (0, 63, 1), (0, 63, 16), (63, 0, 0), (0, 0, 63)):
     vector(f"scan: last three {last}", grey_with(scan=sos([(1, 0)], last=last)), UNSUPPORTED)
     vector(f"scan: last three {last}, three channels", ycc_with(scan=sos([(1, 0), (2, 17), (3, 17)], last=last)), UNSUPPORTED)
+for count in (1, 2, 3):
+    vector(f"scan: four channels, a scan of {count}", four_with(scan=sos(FOUR_CHOSEN[:count])), UNSUPPORTED)
+    vector(f"scan: {count} channels, a scan of four", four_with(scan=sos(FOUR_CHOSEN), channels=count), UNSUPPORTED)
+vector("scan: four channels, five components", four_with(scan=sos(FOUR_CHOSEN + [(5, 0)])), UNSUPPORTED)
 for name in (0, 2, 255):
     vector(f"scan: component {name}", grey_with(scan=sos([(name, 0)])), MALFORMED)
 for order in ((1, 3, 2), (2, 1, 3), (3, 2, 1), (1, 2, 2), (1, 2, 4), (1, 1, 1)):
@@ -583,6 +651,14 @@ for channel in range(3):
         chosen = [(1, 0), (2, 17), (3, 17)]
         chosen[channel] = (channel + 1, tables)
         vector(f"scan: table ids {tables} in channel {channel}", ycc_with(scan=sos(chosen)), UNSUPPORTED)
+for order in ((2, 1, 3, 4), (1, 3, 2, 4), (1, 2, 4, 3), (4, 3, 2, 1), (1, 2, 3, 3), (1, 2, 3, 5)):
+    vector(f"scan: components {order}", four_with(scan=sos([(i, 0) for i in order])), MALFORMED)
+vector("scan: components (2, 1)", four_with(scan=sos([(2, 0), (1, 0)]), channels=2), MALFORMED)
+for channel in range(4):
+    for tables in (4, 64):
+        chosen = list(FOUR_CHOSEN)
+        chosen[channel] = (channel + 1, tables)
+        vector(f"scan: table ids {tables} in channel {channel} of four", four_with(scan=sos(chosen)), UNSUPPORTED)
 vector("scan: DC absent", grey(Q0, GREY_FRAME, AC0, GREY_SCAN), MALFORMED)
 vector("scan: AC absent", grey(Q0, GREY_FRAME, DC0, GREY_SCAN), MALFORMED)
 vector("scan: quantizer absent", grey(GREY_FRAME, DC0, AC0, GREY_SCAN), MALFORMED)
@@ -597,6 +673,14 @@ for channel in range(3):
     components = [list(c) for c in YCC]
     components[channel][2] = 2
     vector(f"scan: quantizer absent in channel {channel}", ycc_with(frame=sof(20, 10, components)), MALFORMED)
+# four channels and tables 0 and 1 alone: 2 and 3 are absent
+TWO_TABLES = dqt((0, ONES), (1, ONES)) + dht(table(0), table(16), table(1), table(17))
+for channel in range(4):
+    for tables, quant in ((32, 0), (2, 0), (48, 1), (3, 1), (0, 2), (17, 3)):
+        components = [(i + 1, 17, quant if i == channel else 0) for i in range(4)]
+        chosen = [(i + 1, tables if i == channel else 16 * (i % 2)) for i in range(4)]
+        vector(f"scan: {tables} and quantizer {quant} in channel {channel} of four: absent", grey(TWO_TABLES, sof(8, 8, components), sos(chosen)), MALFORMED)
+vector("scan: four channels with the tables of two", grey(TWO_TABLES, sof(8, 8, [(i, 17, i % 2) for i in range(4)]), sos([(i, 17 * (i % 2)) for i in range(4)])), 0)
 vector("scan: length before component ids", grey_with(scan=segment(218, scan_body([(9, 0)]) + b"\x00")), UNSUPPORTED)
 vector("scan: count before component ids", grey_with(scan=sos([(9, 0)], channels=2)), UNSUPPORTED)
 vector("scan: last three before component ids", grey_with(scan=sos([(9, 0)], last=(0, 63, 1))), UNSUPPORTED)
@@ -643,9 +727,9 @@ def lines():
 
 
 def parts(file):
-    """A file as parts: what it shares with F or with the three-channel file at both ends, and what it has between."""
+    """A file as parts: what it shares with F, the three-channel or the four-channel file at both ends, and what it has between."""
     best = [file]
-    for base in (F, COLOURS):
+    for base in (F, COLOURS, FOURS):
         head = 0
         while head < min(len(file), len(base)) and file[head] == base[head]:
             head += 1
@@ -659,7 +743,7 @@ def parts(file):
 
 
 def script():
-    store, entries = bytearray(2) + F + COLOURS, bytearray()
+    store, entries = bytearray(2) + F + COLOURS + FOURS, bytearray()
     for name, base, patches, length, colour, number in vectors:
         pieces = parts(base[:length])
         entries.append(len(pieces))

@@ -3,9 +3,9 @@
 // length says, and no two parts overlap. Above the module's own memory lie the answer, the record, the file, and what a call writes.
 const MOST = 2n ** 64n - 1n;
 // The record's fields in their order, and how many numbers each has.
-const FIELDS = {width: 1, height: 1, channels: 1, hs: 1, vs: 1, ids: 3, qids: 3, dcids: 3, acids: 3, quants: 4, dcs: 4, acs: 4,
+const FIELDS = {width: 1, height: 1, channels: 1, across: 4, down: 4, ids: 4, qids: 4, dcids: 4, acids: 4, quants: 4, dcs: 4, acs: 4,
     interval: 1, start: 1, blocks: 1, scratch: 1, output: 1, work: 1, colour: 1};
-const RECORD = 36 * 8, PAGE = 65536, COMMENT = 254;
+const NUMBERS = 46, RECORD = NUMBERS * 8, PAGE = 65536, COMMENT = 254;
 // What stands at the front of the answers of inspect, settle and has_comment: the number, what is left of the budget, and where a scan
 // broke: the block, and the place in the file. Where none broke, both are 0.
 const FRONT = 4;
@@ -56,7 +56,7 @@ class Library {
 
     inspect({colour = true, input = MOST, side = MOST, output = MOST, budget = MOST} = {}) {
         const [number, left, block, place, ...numbers] =
-            this.call("inspect", FRONT + 36, colour ? 1 : 0, input, side, output, budget);
+            this.call("inspect", FRONT + NUMBERS, colour ? 1 : 0, input, side, output, budget);
         const found = {};
         for (const [field, count] of Object.entries(FIELDS)) found[field] = count > 1 ? numbers.splice(0, count) : numbers.shift();
         return {number: Number(number), left, block, place, found};
@@ -66,7 +66,7 @@ class Library {
         const outputAt = this.behind, length = Number(found.output), room = Number(found.scratch);
         const scratchAt = aligned(outputAt + length + 1);
         this.reserve(scratchAt + room + 1);
-        new BigUint64Array(this.calls.memory.buffer, this.recordAt, 36).set(Object.keys(FIELDS).flatMap(field => found[field]));
+        new BigUint64Array(this.calls.memory.buffer, this.recordAt, NUMBERS).set(Object.keys(FIELDS).flatMap(field => found[field]));
         const [number, left] = this.call("decode", 2, this.recordAt, outputAt, found.output, scratchAt, found.scratch, budget);
         return {number: Number(number), left, picture: this.bytes(outputAt, length), scratch: this.bytes(scratchAt, room)};
     }

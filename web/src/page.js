@@ -136,7 +136,7 @@ function clear() {
 }
 
 function show(photo, pixels) {
-    const {fault, found, notes} = photo.answer;
+    const {fault, found, notes, beside} = photo.answer;
     shown = photo;
     for (const id of ["view", "about"]) $(id).hidden = !pixels;
     $("refused").hidden = Boolean(pixels);
@@ -146,9 +146,8 @@ function show(photo, pixels) {
         return;
     }
     describe(found, notes, photo.file.size);
-    const drawn = view.show(pixels, Number(found.width), Number(found.height));
-    $("said").textContent = drawn ? "Read: " + counted(found.width) + " × " + counted(found.height) + " pixels."
-        : "This browser cannot draw so large a picture. It can still be saved.";
+    const drawn = view.show(pixels, Number(found.width) * beside, Number(found.height));
+    $("said").textContent = drawn ? readOf(found, beside) : "This browser cannot draw so large a picture. It can still be saved.";
 }
 
 function describe(found, notes, size) {
@@ -166,10 +165,19 @@ const view = new View($("stage"), $("picture"), $("mark"), (pixel, byKey) => {
     $("pixel").ariaLive = byKey ? "polite" : "off";
     $("swatch").hidden = !pixel;
     if (!pixel) return $("values").replaceChildren("Point at a pixel, or tap it, to see its samples.");
-    const [red, green, blue] = pixel.samples, grey = shown.answer.found.channels === 1n;
+    const [red, green, blue] = pixel.samples;
     $("swatch").style.background = `rgb(${red}, ${green}, ${blue})`;
-    $("values").textContent = `x ${pixel.x}, y ${pixel.y}: ` + (grey ? `grey ${red}` : `red ${red}, green ${green}, blue ${blue}`);
+    $("values").textContent = valuesOf(pixel, shown.answer);
 });
+
+// The samples of a pixel. Of channels that stand side by side x counts in each from its own left side.
+function valuesOf({x, y, samples: [red, green, blue]}, {found, beside}) {
+    if (found.channels === 1n) return `x ${x}, y ${y}: grey ${red}`;
+    if (found.channels === 3n) return `x ${x}, y ${y}: red ${red}, green ${green}, blue ${blue}`;
+    const width = Number(found.width), own = x % width;
+    const all = Array.from({length: beside}, (_, channel) => view.samples(channel * width + own, y)[0]);
+    return `x ${own}, y ${y}, channel ${Math.floor(x / width) + 1}: ${red}; all channels: ${all.join(", ")}`;
+}
 view.zoomed = scale => {
     $("scale").textContent = (scale < .1 ? (100 * scale).toFixed(1) : Math.round(100 * scale)) + " %";
 };

@@ -93,8 +93,12 @@ class View {
         this.at = at;
         this.frame();
         if (!at) return this.told(null, byKey);
-        const place = 4 * (at.y * this.width + at.x);
-        this.told({...at, samples: this.pixels.subarray(place, place + 3)}, byKey);
+        this.told({...at, samples: this.samples(at.x, at.y)}, byKey);
+    }
+
+    samples(x, y) {
+        const place = 4 * (y * this.width + x);
+        return this.pixels.subarray(place, place + 3);
     }
 
     frame() {

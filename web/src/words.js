@@ -8,8 +8,9 @@ const REFUSALS = {
     3: "The file ends before its picture begins. Copy it again from the camera.",
     4: "The file breaks a rule of the format before its picture begins: a damaged copy, seldom faulty tables in its head, or no JPEG " +
         "file at all. Copy it again; a file that stays so cannot be trusted.",
-    5: "This is a form of JPEG that is not read: progressive, four channels, 12 bits or the like. Have the camera write baseline files.",
-    6: "The picture is larger than this page shows, which is 16,384 pixels a side. The command ./tillsparrow takes pictures of any size.",
+    5: "This is a form of JPEG that is not read: progressive, arithmetic coding, 12 bits or the like. Have the camera write baseline files.",
+    6: "The picture is larger than this page shows, which is 16,384 pixels a side, and for channels side by side 32,767 across and " +
+        "268,435,456 in all. The command ./tillsparrow takes pictures of any size.",
     7: "A buffer is too short.",
     8: "The record is not the file's.",
     9: "The file cannot be settled, for want of an end-of-block code in its own tables. Compare pictures instead.",
@@ -44,24 +45,48 @@ const FAULTS = {
 };
 const faultOf = ({fault, message}) => FAULTS[fault] ?? "The page failed: " + (message || fault) + ".";
 
-const SAMPLINGS = {"1x1": "4:4:4", "2x1": "4:2:2", "1x2": "4:4:0", "2x2": "4:2:0", "4x1": "4:1:1"};
+const SAMPLINGS = {"1x1": "4:4:4", "2x1": "4:2:2", "1x2": "4:4:0", "2x2": "4:2:0", "4x1": "4:1:1", "4x2": "4:1:0"};
+const CHANNELS = {1: "grey", 3: "red, green, blue"};
+const BESIDE = "as they are coded, each shown in grey, side by side";
 
-function samplingOf({channels, hs, vs}) {
-    if (channels === 1n) return "every pixel has its own sample";
-    if (hs * vs === 1n) return "4:4:4: every pixel has its own colour";
+// What is said of a picture that is shown.
+function readOf({width, height, channels}, beside) {
+    const read = "Read: " + counted(width) + " × " + counted(height) + " pixels.";
+    return beside === 1 ? read : read + " Its " + channels + " channels stand side by side, each in grey, as they are coded.";
+}
+
+const largest = numbers => numbers.reduce((one, other) => one > other ? one : other);
+
+// How many pixels across and down share a colour, where that is a whole number: the second and third of three channels have the same
+// factors, and these divide the first one's.
+function sharing(across, down) {
+    const same = across[1] === across[2] && down[1] === down[2], whole = !(across[0] % across[1] || down[0] % down[1]);
+    return same && whole ? [across[0] / across[1], down[0] / down[1]] : null;
+}
+
+function sharedBy([hs, vs]) {
+    if (hs * vs === 1n) return "4:4:4, every pixel has its own colour";
     const name = SAMPLINGS[hs + "x" + vs], halved = hs === 1n ? "down" : vs === 1n ? "across" : "both ways";
-    const how = hs * vs === 2n || hs === vs ? ", halved " + halved : "";
-    return (name ? name + ": " : "") + "one colour for " + hs + " × " + vs + " pixels" + how;
+    const how = hs * vs === 2n || hs === 2n && vs === 2n ? ", halved " + halved : "";
+    return (name ? name + ", " : "") + "one colour for " + hs + " × " + vs + " pixels" + how;
+}
+
+// The factors of each channel, and what they come to.
+function samplingOf({channels, across, down}) {
+    if (channels === 1n) return "every pixel has its own sample";
+    const factors = across.map((each, i) => each + "x" + down[i]).slice(0, Number(channels));
+    const shared = channels === 3n && sharing(across, down), alike = new Set(factors).size === 1;
+    return factors.join(", ") + (shared ? ": " + sharedBy(shared) : alike ? ": every pixel has its own samples" : "");
 }
 
 // The record in words, a line each: what it is, what the file has.
 function wordsOf(found, size) {
-    const {width, height, channels, hs, vs, interval, blocks} = found;
-    const unit = channels === 1n ? "8 × 8" : 8n * hs + " × " + 8n * vs;
+    const {width, height, channels, across, down, interval, blocks} = found;
+    const unit = 8n * largest(across) + " × " + 8n * largest(down);
     return [
         ["Size", counted(width) + " × " + counted(height) + " pixels"],
         ["File", counted(size) + " bytes, baseline JPEG"],
-        ["Channels", channels === 1n ? "1: grey" : "3: red, green, blue"],
+        ["Channels", channels + ": " + (CHANNELS[channels] ?? BESIDE)],
         ["Sampling", samplingOf(found)],
         ["Restarts", interval ? "every " + (interval === 1n ? "unit" : counted(interval) + " units") + " of " + unit + " pixels" : "none"],
         ["Blocks", counted(blocks) + " of 8 × 8 samples"],

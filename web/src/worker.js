@@ -3,9 +3,11 @@
 
 // Above these the library refuses: what a page can hold, and a canvas can show.
 const LIMITS = {input: 256n << 20n, side: 16384n, output: 768n << 20n};
+// Above these channels are not shown side by side, since not every browser has such a canvas: pixels across, and in all.
+const ROW = {across: 32767n, output: 256n << 20n};
 // A memory that has grown beyond this is given back behind the job.
 const KEPT = 256 << 20;
-const TOO_LONG = {number: 1, block: 0n, place: 0n};
+const TOO_LONG = {number: 1, block: 0n, place: 0n}, TOO_LARGE = {...TOO_LONG, number: 6};
 const THUMB = {width: 96, height: 64};
 let module, library;
 
@@ -23,13 +25,31 @@ async function lend(file) {
     return true;
 }
 
+// How many pictures stand side by side: one that is grey, or red, green and blue; else one in grey for each channel.
+const besideOf = ({channels}) => channels === 1n || channels === 3n ? 1 : Number(channels);
+
 async function decode(file) {
     if (!await lend(file)) return TOO_LONG;
     const {number, block, place, found} = library.inspect(LIMITS);
     if (number) return {number, block, place};
+    const beside = besideOf(found);
+    if (beside > 1 && (found.width * found.channels > ROW.across || found.output > ROW.output)) return TOO_LARGE;
     const notes = library.comments(found), drawn = library.decode(found);
     // decode names no block
-    return {number: drawn.number, block: 0n, place: 0n, found, notes, picture: drawn.picture};
+    return {number: drawn.number, block: 0n, place: 0n, found, notes, ...shownOf(drawn.picture, found, beside), beside};
+}
+
+// What is shown and saved. Two and four channels come as they are coded, interleaved, and become one grey picture: the first channel at
+// the left, and the others beside it.
+function shownOf(samples, found, beside) {
+    const width = Number(found.width), height = Number(found.height);
+    if (beside === 1) return {picture: samples, width, height, channels: Number(found.channels)};
+    const picture = new Uint8Array(samples.length), row = width * beside;
+    for (let channel = 0; channel < beside; channel++) for (let y = 0; y < height; y++) {
+        const start = y * row + channel * width;
+        for (let x = 0, from = y * row + channel; x < width; x++, from += beside) picture[start + x] = samples[from];
+    }
+    return {picture, width: row, height, channels: 1};
 }
 
 // Four bytes for each pixel, as a canvas has them, opaque; grey three times over.
@@ -51,16 +71,14 @@ function thumbnail(pixels, width, height) {
 
 const JOBS = {
     async look({file, shown}) {
-        const {number, block, place, found, notes, picture} = await decode(file);
+        const {number, block, place, found, notes, beside, picture, width, height, channels} = await decode(file);
         if (number) return {number, block, place};
-        const pixels = colours(picture, Number(found.channels));
-        const thumb = await thumbnail(pixels, Number(found.width), Number(found.height));
-        return {number, found, notes, thumb, pixels: shown ? pixels : null};
+        const pixels = colours(picture, channels), thumb = await thumbnail(pixels, width, height);
+        return {number, found, notes, beside, thumb, pixels: shown ? pixels : null};
     },
     async png({file}) {
-        const {number, block, place, found, picture} = await decode(file);
-        if (number) return {number, block, place};
-        return {number, blob: await pngOf(picture, Number(found.width), Number(found.height), Number(found.channels))};
+        const {number, block, place, picture, width, height, channels} = await decode(file);
+        return number ? {number, block, place} : {number, blob: await pngOf(picture, width, height, channels)};
     },
     async settle({file}) {
         if (!await lend(file)) return TOO_LONG;

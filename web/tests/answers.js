@@ -23,7 +23,7 @@ async function answersOf(library, file, asked) {
     const fronts = [], front = ({number, left, block, place}) => fronts.push([number, left, block, place].join(" "));
     library.lend(file);
     const seen = library.inspect(given), {number, found} = seen;
-    await answer("inspect", 320);
+    await answer("inspect", 400);
     front(seen);
     paint(Number(found.output) + Number(found.scratch) + 64);
     const {picture, scratch} = library.decode(found, given.budget);
@@ -60,7 +60,7 @@ function notesOf(library, found) {
 function layoutOf() {
     const memory = new WebAssembly.Memory({initial: 2});
     const answering = count => at => new BigUint64Array(memory.buffer, at, count).set([3n, ...Array.from({length: count - 1}, (_, i) => 102n + BigInt(i))]);
-    const library = new Library({memory, __heap_base: {value: 1001}, tillsparrow_inspect: answering(40),
+    const library = new Library({memory, __heap_base: {value: 1001}, tillsparrow_inspect: answering(50),
         tillsparrow_settle: answering(5), tillsparrow_has_comment: answering(5)});
     library.lend(new Uint8Array(9));
     const {settled: bytes, ...settled} = library.settle(7), inspected = library.inspect(), presence = library.hasComment(0);

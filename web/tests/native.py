@@ -13,6 +13,7 @@ sys.path.insert(0, os.path.join(ROOT, "tests", "c"))
 import files  # noqa: E402
 import tillsparrow  # noqa: E402
 import unsettled  # noqa: E402
+from tests.files import several, small  # noqa: E402: those of the module for Python
 from tillsparrow._native import library  # noqa: E402
 
 MOST = 2**64 - 1
@@ -77,9 +78,20 @@ def change(data, source):
     return bytes(data)
 
 
+def channelled():
+    """Files of two, three and four channels with a sampling each: a name and the file each. The encoder makes those of three."""
+    yield "chroma of 1 x 2", files.encode(70, 50, "-sample", "2x2,1x2,1x2", "-restart", "2B")
+    yield "chroma of 2 x 2", files.encode(70, 50, "-sample", "1x1,2x2,1x2")
+    yield "three that do not divide", several(((3, 1), (2, 1), (1, 1)), 70, 50)
+    yield "two channels", several(((1, 1), (1, 1)), 45, 37)
+    yield "two channels of 4 and 1", several(((4, 1), (1, 4)), 70, 50, 1)
+    yield "four channels", several(((1, 1),) * 4, 45, 37)
+    yield "four channels, the first and the last finer", several(((2, 2), (1, 1), (1, 1), (2, 2)), 61, 50, 2)
+
+
 def accepted():
-    """Real files of every form, with and without notes: a name and the file each."""
-    for name, data, *_ in [*files.shapes(), *files.noted()]:
+    """Files of every form, with and without notes: a name and the file each."""
+    for name, data, *_ in [*files.shapes(), *files.noted(), *channelled()]:
         yield name, data
     yield "a table with no end code", files.without_end_code()
     yield "a settled file that is longer", longer_when_settled()
@@ -118,8 +130,20 @@ def asked(data, source):
 
 # ---- pictures
 
+def shown(picture):
+    """What is seen of it: grey, or red, green and blue; of two and four channels a grey picture, in whose rows they stand one behind the
+    other."""
+    if picture.channels in (1, 3):
+        return picture
+    row = picture.width * picture.channels
+    rows = [picture.samples[at:at + row] for at in range(0, len(picture.samples), row)]
+    samples = b"".join(each[channel::picture.channels] for each in rows for channel in range(picture.channels))
+    return tillsparrow.Picture(row, picture.height, 1, samples)
+
+
 def rgba(picture):
     """The samples as a canvas has them."""
+    picture = shown(picture)
     count, step = picture.width * picture.height, picture.channels
     out = bytearray(b"\xff" * (4 * count))
     for channel in range(3):
@@ -127,8 +151,11 @@ def rgba(picture):
     return bytes(out)
 
 
-def values(picture, x, y):
-    """What the page says of a pixel."""
+def values(picture, x, y, channel=0):
+    """What the page says of a pixel, pointed at in a channel where several stand side by side."""
     at = (y * picture.width + x) * picture.channels
+    samples = picture.samples[at:at + picture.channels]
+    if picture.channels in (2, 4):
+        return f"x {x}, y {y}, channel {channel + 1}: {samples[channel]}; all channels: {', '.join(map(str, samples))}"
     names = ["grey"] if picture.channels == 1 else ["red", "green", "blue"]
-    return f"x {x}, y {y}: " + ", ".join(f"{name} {picture.samples[at + i]}" for i, name in enumerate(names))
+    return f"x {x}, y {y}: " + ", ".join(f"{name} {sample}" for name, sample in zip(names, samples))

@@ -75,9 +75,11 @@ class Tillsparrow(Page):
 
 
 def hold_picture(page, name, picture):
-    held([picture.width, picture.height], page.value("[picture.width, picture.height]"), f"{name}: the canvas's size")
+    seen = native.shown(picture)
+    held([seen.width, seen.height], page.value("[picture.width, picture.height]"), f"{name}: the canvas's size")
     held(native.digest(native.rgba(picture)), page.canvas(), f"{name}: the canvas")
-    held(f"Read: {picture.width} × {picture.height} pixels.", page.text("said"), f"{name}: what is said")
+    beside = f" Its {picture.channels} channels stand side by side, each in grey, as they are coded." if seen is not picture else ""
+    held(f"Read: {picture.width:,} × {picture.height:,} pixels.{beside}", page.text("said"), f"{name}: what is said")
     held(False, page.seen("refused"), f"{name}: a refusal is seen")
 
 
@@ -104,23 +106,42 @@ def test_drop(browser, room, shots):
     page.close()
 
 
-# the words for each form that is read, as files.shapes names it
-HALVED = "4:2:0: one colour for 2 × 2 pixels, halved both ways"
+# the words for the channels, and for the factors of each
+CHANNELS = {1: "1: grey", 3: "3: red, green, blue", 2: "2: as they are coded, each shown in grey, side by side",
+            4: "4: as they are coded, each shown in grey, side by side"}
 SAMPLINGS = {
-    "docs/tray.jpg": HALVED, "4:2:0": HALVED, "1 x 1": HALVED, "large": HALVED, "4:4:4": "4:4:4: every pixel has its own colour",
-    "4:2:2 with restarts": "4:2:2: one colour for 2 × 1 pixels, halved across", "1x2": "4:4:0: one colour for 1 × 2 pixels, halved down",
-    "4x1": "4:1:1: one colour for 4 × 1 pixels", "3x1": "one colour for 3 × 1 pixels", "1x4": "one colour for 1 × 4 pixels",
-    "fill bytes before each marker": "4:4:0: one colour for 1 × 2 pixels, halved down",
+    "1x1": "every pixel has its own sample",
+    "1x1, 1x1, 1x1": "1x1, 1x1, 1x1: 4:4:4, every pixel has its own colour",
+    "2x1, 1x1, 1x1": "2x1, 1x1, 1x1: 4:2:2, one colour for 2 × 1 pixels, halved across",
+    "1x2, 1x1, 1x1": "1x2, 1x1, 1x1: 4:4:0, one colour for 1 × 2 pixels, halved down",
+    "2x2, 1x1, 1x1": "2x2, 1x1, 1x1: 4:2:0, one colour for 2 × 2 pixels, halved both ways",
+    "4x1, 1x1, 1x1": "4x1, 1x1, 1x1: 4:1:1, one colour for 4 × 1 pixels",
+    "3x1, 1x1, 1x1": "3x1, 1x1, 1x1: one colour for 3 × 1 pixels",
+    "1x4, 1x1, 1x1": "1x4, 1x1, 1x1: one colour for 1 × 4 pixels",
+    "4x2, 1x1, 1x1": "4x2, 1x1, 1x1: 4:1:0, one colour for 4 × 2 pixels",
+    "2x2, 1x2, 1x2": "2x2, 1x2, 1x2: 4:2:2, one colour for 2 × 1 pixels, halved across",
+    "2x2, 2x1, 2x1": "2x2, 2x1, 2x1: 4:4:0, one colour for 1 × 2 pixels, halved down",
+    "2x1, 2x1, 2x1": "2x1, 2x1, 2x1: 4:4:4, every pixel has its own colour",
+    "1x1, 1x1": "1x1, 1x1: every pixel has its own samples",
+    "1x1, 1x1, 1x1, 1x1": "1x1, 1x1, 1x1, 1x1: every pixel has its own samples",
 }
-OTHERS = ("1x2", "4x1", "3x1", "1x4")
-RESTARTS = {"4:2:2 with restarts": "every 3 units of 16 × 8 pixels", "grey with restarts": "every 9 units of 8 × 8 pixels",
-            "fill bytes before each marker": "every 2 units of 8 × 16 pixels", "fill bytes behind a padded 255": "every unit of 8 × 8 pixels"}
+OTHERS = ("1x2", "4x1", "3x1", "1x4", "4x2", "2x2,2x1,2x1", "2x1,2x1,2x1")
+
+
+def facts(found, size):
+    """The record in words. Factors that are not listed above have no other words."""
+    factors = [f"{across}x{down}" for across, down in zip(found.across, found.down)][:found.channels]
+    units = "unit" if found.interval == 1 else f"{found.interval} units"
+    return [f"{found.width:,} × {found.height:,} pixels", f"{size:,} bytes, baseline JPEG", CHANNELS[found.channels],
+            SAMPLINGS.get(", ".join(factors), ", ".join(factors)),
+            f"every {units} of {8 * max(found.across)} × {8 * max(found.down)} pixels" if found.interval else "none",
+            f"{found.blocks:,} of 8 × 8 samples"]
 
 
 def test_shapes(browser, room, shots):
     """Files of every form, chosen together, and looked at one after another."""
     page, shapes = Tillsparrow(browser), list(files.shapes())
-    shapes += [(form, files.encode(70, 50, "-sample", form), []) for form in OTHERS]
+    shapes += [(form, files.encode(70, 50, "-sample", form), []) for form in OTHERS] + [(*each, []) for each in native.channelled()]
     paths = [put(room, name, data) for name, data, _ in shapes]
     page.choose_all(*paths)
     held([os.path.basename(path) for path in paths], page.texts("#strip .called"), "the names in the list")
@@ -128,9 +149,7 @@ def test_shapes(browser, room, shots):
         page.select(i)
         found = tillsparrow.inspect(data).record
         hold_picture(page, name, tillsparrow.read(data))
-        channels = ["1: grey", "every pixel has its own sample"] if found.channels == 1 else ["3: red, green, blue", SAMPLINGS[name]]
-        held([f"{found.width} × {found.height} pixels", f"{len(data):,} bytes, baseline JPEG", *channels,
-              RESTARTS.get(name, "none"), f"{found.blocks:,} of 8 × 8 samples"], page.texts("#facts dd"), f"{name}: its record in words")
+        held(facts(found, len(data)), page.texts("#facts dd"), f"{name}: its record in words")
         flat = [", ".join(map(str, value)) if isinstance(value, tuple) else str(value) for value in vars(found).values()]
         held([list(vars(found)), flat], [page.texts("#record dt"), page.texts("#record dd")], f"{name}: the whole record")
         held(f"{i + 1} of {len(shapes)}", page.text("count"), f"{name}: its place")
@@ -174,10 +193,10 @@ SENTENCES = {
     3: "Refused (3). The file ends before its picture begins. Copy it again from the camera.",
     4: "Refused (4). The file breaks a rule of the format before its picture begins: a damaged copy, seldom faulty tables in its head, or "
        "no JPEG file at all. Copy it again; a file that stays so cannot be trusted.",
-    5: "Refused (5). This is a form of JPEG that is not read: progressive, four channels, 12 bits or the like. "
+    5: "Refused (5). This is a form of JPEG that is not read: progressive, arithmetic coding, 12 bits or the like. "
        "Have the camera write baseline files.",
-    6: "Refused (6). The picture is larger than this page shows, which is 16,384 pixels a side. "
-       "The command ./tillsparrow takes pictures of any size.",
+    6: "Refused (6). The picture is larger than this page shows, which is 16,384 pixels a side, and for channels side by side 32,767 across "
+       "and 268,435,456 in all. The command ./tillsparrow takes pictures of any size.",
 }
 
 
@@ -201,8 +220,14 @@ def sentence(number, block, place, size):
 
 
 def test_words(browser, room, shots):
-    """The sentences of refusals, for numbers that are given here."""
+    """The words for samplings and the sentences of refusals, for numbers that are given here."""
     page = module.blank(browser, room, "src/words.js")
+    plain = ("3x1, 2x1, 1x1", "1x1, 2x2, 1x2", "2x2, 2x1, 1x2", "2x2, 1x2, 2x2", "2x2, 1x1", "4x1, 1x4, 1x1, 1x1", "2x2, 1x1, 1x1, 2x2")
+    for factors, wanted in (*SAMPLINGS.items(), *zip(plain, plain)):
+        across, down = zip(*(each.split("x") for each in factors.split(", ")))
+        numbers = ["[" + ", ".join(f"{each}n" for each in (*row, *"000")[:4]) + "]" for row in (across, down)]
+        got = page.value(f"samplingOf({{channels: {len(across)}n, across: {numbers[0]}, down: {numbers[1]}}})")
+        held(wanted, got, f"the words for {factors}")
     for number, block, place, size, wanted in (
             (3, 1207, 31337, 31352, "Refused (3). The bytes ran out in block 1,207, which begins at byte 31,337 of 31,352. " + CUT),
             (4, 0, 144, 150, "Refused (4). The scan breaks a rule of the format at block 0, whose reading began at byte 144 of 150. " + DAMAGED),
@@ -224,6 +249,11 @@ def refused(room):
     # its one MCU has six blocks, and where the seventh would begin stands the last marker
     wide = tall[:frame + 2] + (16384).to_bytes(2, "big") + tall[frame + 4:]
     yield put(room, "as wide as may be, and too short", wide), 10, 6, len(wide) - 2
+    # blocks of two bits 0: four channels side by side are one pixel too wide, and two have too many pixels
+    row = native.small(scan=bytes(1024), width=8192, samplings=(17,) * 4)
+    yield put(room, "four channels one pixel too wide", row), 6, 0, 0
+    many = native.small(scan=bytes(2 * 512 * 257), width=16383, height=8193, samplings=(0x41, 0x14))
+    yield put(room, "two channels with too many pixels", many), 6, 0, 0
     # of no bytes but zeros that a disk does not keep; the second is one that no browser could read whole
     for name, size in (("one byte too long", (256 << 20) + 1), ("far too long", 40 << 30)):
         path = os.path.join(room, name + ".jpg")
@@ -249,6 +279,9 @@ def test_refusals(browser, room, shots):
     shots(page, "refused")
     page.select(0)
     hold_picture(page, "docs/tray.jpg, behind the refused", tillsparrow.read(TRAY))
+    widest = native.small(scan=bytes(1024), width=8191, samplings=(17,) * 4)
+    page.drop_all(put(room, "four channels as wide as may be", widest))
+    hold_picture(page, "four channels as wide as may be", tillsparrow.read(widest))
     held([], page.complaints(), "what the browser complains of")
     page.close()
     return f"{len(wanted)} refusals, each by its number"
@@ -285,6 +318,33 @@ def test_pixels(browser, room, shots):
     page.over(11, 80)
     held(native.values(tillsparrow.read(grey), 11, 80), page.text("values"), "of a grey picture")
     page.close()
+
+
+def test_channels(browser, room, shots):
+    """Of two and four channels side by side, the pixel in each, and all of its samples; arrow keys go from one channel to the next."""
+    page, pointed = Tillsparrow(browser), 0
+    for name, data in native.channelled():
+        picture = tillsparrow.read(data)
+        if picture.channels == 3:
+            continue
+        page.drop_all(put(room, name, data))
+        grey, (width, height) = native.shown(picture).samples, (picture.width, picture.height)
+        for channel in range(picture.channels):
+            for x, y in ((0, 0), (width - 1, 0), (17, 31), (width - 1, height - 1)):
+                page.over(channel * width + x, y)
+                held(native.values(picture, x, y, channel), page.text("values"), f"{name}: under the pointer")
+                sample = grey[y * width * picture.channels + channel * width + x]
+                held(f"rgb({sample}, {sample}, {sample})", page.value("getComputedStyle(swatch).backgroundColor"), f"{name}: its grey")
+                pointed += 1
+        page.over(width - 1, 5)
+        page.value("stage.focus()")
+        for key, (x, channel) in (("ArrowRight", (0, 1)), ("ArrowRight", (1, 1)), ("ArrowLeft", (0, 1)), ("ArrowLeft", (width - 1, 0))):
+            page.key(key)
+            held(native.values(picture, x, 5, channel), page.text("values"), f"{name}: behind {key}")
+    shots(page, "four-channels")
+    held([], page.complaints(), "what the browser complains of")
+    page.close()
+    return f"{pointed} pixels in channels side by side"
 
 
 def test_waiting(browser, room, shots):
@@ -351,8 +411,9 @@ def test_zoom(browser, room, shots):
 
 def hold_png(png, picture, reader, name):
     """By its head, and by the browser's own reader of PNG files."""
-    kind = {1: 0, 3: 2}[picture.channels]
-    sides = picture.width.to_bytes(4, "big") + picture.height.to_bytes(4, "big")
+    seen = native.shown(picture)
+    kind = {1: 0, 3: 2}[seen.channels]
+    sides = seen.width.to_bytes(4, "big") + seen.height.to_bytes(4, "big")
     held(b"\x89PNG\r\n\x1a\n\0\0\0\rIHDR" + sides + bytes([8, kind, 0, 0, 0]), png[:29], f"{name}: the head of the PNG file")
     held([b"IHDR", b"IDAT", b"IEND"], re.findall(rb"IHDR|IDAT|IEND|gAMA|sRGB|iCCP|cHRM", png), f"{name}: the parts of the PNG file")
     got = reader.value(f"""(async () => {{
@@ -367,7 +428,7 @@ def hold_png(png, picture, reader, name):
 def test_saving(browser, room, shots):
     """PNG files with just the samples, and settled files that are the native library's; a file that cannot be settled is said."""
     page, reader = Tillsparrow(browser), module.blank(browser, room)
-    named = [(name, data) for name, data, _ in files.shapes()] + [("longer", native.longer_when_settled())]
+    named = [(name, data) for name, data, _ in files.shapes()] + [("longer", native.longer_when_settled()), *native.channelled()]
     paths = [put(room, name, data) for name, data in named]
     page.drop_all(*paths)
     for i, (path, (name, data)) in enumerate(zip(paths, named)):

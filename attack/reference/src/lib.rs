@@ -61,7 +61,7 @@ fn told(answer: Answer, length: u64) -> Told {
 }
 
 /// # Safety
-/// Every pointer points to as many bytes as its length says; `found` to 36 numbers.
+/// Every pointer points to as many bytes as its length says; `found` to 46 numbers.
 #[no_mangle]
 pub unsafe extern "C" fn reference_inspect(
     asked: &Asked,

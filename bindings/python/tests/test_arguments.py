@@ -29,7 +29,7 @@ class Numbers(unittest.TestCase):
                  lambda n: tillsparrow.has_comment(DATA, n), lambda n: tillsparrow.comment(DATA, n),
                  lambda n: tillsparrow.has_comment(DATA, 0, Limits(output=n)), lambda n: tillsparrow.has_comment(DATA, 0, budget=n),
                  lambda n: tillsparrow.decode(DATA, OWN, budget=n), lambda n: tillsparrow.decode(DATA, dataclasses.replace(OWN, work=n)),
-                 lambda n: tillsparrow.decode(DATA, dataclasses.replace(OWN, ids=(1, 0, n))))
+                 lambda n: tillsparrow.decode(DATA, dataclasses.replace(OWN, ids=(1, 0, 0, n))))
         for call in calls:
             for wrong in (-1, 2**64, 2**200, -2**64):
                 self.assertRaises(ValueError, call, wrong)
@@ -45,7 +45,8 @@ class Numbers(unittest.TestCase):
         self.assertRaises(TypeError, tillsparrow.inspect, DATA, True, (1, 2, 3))
         self.assertRaises(TypeError, tillsparrow.decode, DATA, (8, 8))
         self.assertRaises(TypeError, tillsparrow.decode, DATA, dataclasses.replace(OWN, ids=7))
-        for wrong, said in (({"ids": (1, 0)}, "record.ids must be 3 whole numbers, not 2"),
+        for wrong, said in (({"ids": (1, 0)}, "record.ids must be 4 whole numbers, not 2"),
+                            ({"across": (1, 0, 0)}, "record.across must be 4 whole numbers, not 3"),
                             ({"quants": (7, 0, 0, 0, 0)}, "record.quants must be 4 whole numbers, not 5")):
             with self.assertRaisesRegex(ValueError, said):
                 tillsparrow.decode(DATA, dataclasses.replace(OWN, **wrong))

@@ -20,8 +20,11 @@ except ImportError:
 @unittest.skipUnless(numpy, "numpy is not installed")
 class WithNumpy(unittest.TestCase):
     def test_an_array_is_the_picture_and_no_copy(self):
-        for options, shape in ((["-grayscale"], (61, 97)), (["-sample", "2x2"], (61, 97, 3))):
-            picture = tillsparrow.read(files.encoded(options, files.gradient, 97, 61))
+        grey, colour, chroma = (files.encoded(options, files.gradient, 97, 61)
+                                for options in (["-grayscale"], ["-sample", "2x2"], ["-sample", "2x2,1x2,1x2"]))
+        two, four = files.several(((2, 1), (1, 1)), 97, 61), files.several(((2, 2), (1, 1), (1, 1), (2, 2)), 97, 61)
+        for data, shape in ((grey, (61, 97)), (two, (61, 97, 2)), (colour, (61, 97, 3)), (chroma, (61, 97, 3)), (four, (61, 97, 4))):
+            picture = tillsparrow.read(data)
             pixels = picture.array()
             self.assertEqual((pixels.shape, pixels.dtype), (shape, numpy.uint8))
             self.assertEqual(pixels.tobytes(), picture.samples)
@@ -30,6 +33,17 @@ class WithNumpy(unittest.TestCase):
             x, y = 40, 20
             at = (y * 97 + x) * picture.channels
             self.assertEqual(list(numpy.atleast_1d(pixels[y, x])), list(picture.samples[at:at + picture.channels]))
+
+    def test_channels_are_planes_as_they_are_coded(self):
+        """Four channels at 1 x 1, each block of one value: each channel's plane is that of a grey file with its blocks."""
+        planes = [[(11 * k - 60 + 29 * channel,) for k in range(6)] for channel in range(4)]
+        for count in (2, 4):
+            levels = [planes[channel][k] for k in range(6) for channel in range(count)]
+            pixels = tillsparrow.read(files.coded(((1, 1),) * count, 24, 16, levels)).array()
+            for channel in range(count):
+                grey = tillsparrow.read(files.coded(((1, 1),), 24, 16, planes[channel])).array()
+                self.assertTrue((pixels[:, :, channel] == grey).all())
+                self.assertEqual(list(grey[::8, ::8].flat), [128 + level for level, in planes[channel]])
 
     def test_arrays_are_lent(self):
         data = files.docs_tray()

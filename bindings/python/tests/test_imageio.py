@@ -13,7 +13,7 @@ import tillsparrow
 from tillsparrow import Limits, Refused
 
 from . import files
-from .test_pillow import with_exif
+from .test_pillow import CHANNELS, of_channels, with_exif
 
 try:
     import imageio
@@ -82,6 +82,15 @@ class WithImageio(unittest.TestCase):
         ours.register(Limits(side=143))
         self.assertRaisesRegex(Refused, "refused 6", imageio.imread, TRAY)
         self.assertRaises(TypeError, ours.register, 143)
+
+    def test_two_and_four_channels_are_refused(self):
+        for count in (2, 4):
+            with self.assertRaises(Refused) as raised:
+                imageio.imread(of_channels(count))
+            self.assertEqual((raised.exception.number, str(raised.exception)), (5, CHANNELS.format(count)))
+            self.assertEqual(tillsparrow.read(of_channels(count)).array().shape, (24, 40, count))
+        for count in (1, 3):
+            self.assertTrue((imageio.imread(of_channels(count)) == tillsparrow.read(of_channels(count)).array()).all())
 
     def test_pictures_are_turned_as_exif_data_say(self):
         plain = files.encoded(["-sample", "1x1"], files.noise, 24, 16)

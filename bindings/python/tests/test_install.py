@@ -73,7 +73,8 @@ class Installed(unittest.TestCase):
     def run_tests(self):
         """The tests hold for what is installed; the copy's own module is out of the way."""
         shutil.rmtree(self.top / "bindings" / "python" / "tillsparrow")
-        names = ("tests.test_rules", "tests.test_scans", "tests.test_pillow", "tests.test_imageio.WithImageio.test_notes_are_kept")
+        names = ("tests.test_rules", "tests.test_channels", "tests.test_scans", "tests.test_pillow",
+                 "tests.test_imageio.WithImageio.test_notes_are_kept")
         status, said = run(self.python, "-m", "unittest", *names, cwd=self.top / "bindings" / "python")
         self.assertEqual(status, 0, said)
         self.assertRegex(said, r"Ran [3-9]\d tests(.|\n)*\nOK\n")

@@ -43,6 +43,16 @@ def state():
     return list(Image.ID), dict(Image.OPEN), dict(Image.MIME), dict(Image.EXTENSION), dict(Image.SAVE), dict(Image.DECODERS)
 
 
+#: What the line of a refusal says of two and four channels.
+CHANNELS = ("refused 5: it has {} channels, which are neither grey nor red, green and blue: "
+            "tillsparrow.read(..).array() gives them as they are coded")
+
+
+def of_channels(count):
+    """A small file that the library reads, of so many channels."""
+    return files.several(((1, 1),) * count, 40, 24)
+
+
 def with_exif(jpeg, orientation):
     exif = Image.Exif()
     exif[0x0112] = orientation
@@ -177,6 +187,43 @@ class Refusing(WithPillow):
                   "refused 4: the scan breaks a rule of the format at block 486, whose reading began at byte 10,686 of 10,689")
         sent = pickle.loads(pickle.dumps(said_by(opened, plain[:-40])))
         self.assertEqual((sent.number, sent.meaning, sent.block, sent.place), (3, tillsparrow.MEANINGS[3], 483, 10634))
+
+    def test_two_and_four_channels_are_refused(self):
+        """Behind all that the library refuses, limits among it; the line says what gives them."""
+        for count in (2, 4):
+            data, line = of_channels(count), CHANNELS.format(count)
+            for named in ({}, {"formats": ["JPEG"]}, {"formats": ["TILLSPARROW", "JPEG"]}):
+                refused = said_by(opened, data, **named)
+                self.assertEqual((refused.number, refused.block, refused.place, str(refused)), (5, 0, 0, line))
+                self.assertEqual(refused.meaning, line[len("refused 5: "):])
+                self.assertEqual((refused.__cause__.number, refused.__cause__.length), (5, len(data)))
+            with tempfile.NamedTemporaryFile(suffix=".jpg") as file:
+                file.write(data)
+                file.flush()
+                self.assertEqual(str(said_by(Image.open, file.name)), f"{file.name}: {line}")
+            self.assertEqual(tillsparrow.read(data).channels, count)
+            self.assertEqual(said_by(opened, data[:-2]).number, 4)
+            pillow.register(Limits(side=39))
+            self.assertEqual(said_by(opened, data).number, 6)
+            pillow.register()
+        for count in (1, 3):
+            self.assertEqual(opened(of_channels(count)).tobytes(), tillsparrow.read(of_channels(count)).samples)
+
+    def test_four_channels_that_pillow_writes_are_read(self):
+        """Pillow writes and reads them turned over, as Adobe's programs do; behind that its own decoder has the same samples."""
+        painted = Image.merge("CMYK", [Image.frombytes("L", (40, 24), bytes(files.tray(x, y, 40, 24)[i % 3] // (1 + i // 3)
+                              for y in range(24) for x in range(40))) for i in range(4)])
+        written = io.BytesIO()
+        painted.save(written, "JPEG", quality=90)
+        ours = tillsparrow.read(written.getvalue())
+        self.assertEqual((ours.width, ours.height, ours.channels), (40, 24, 4))
+        self.assertEqual(str(said_by(opened, written.getvalue())), CHANNELS.format(4))
+        pillow.unregister()
+        theirs = opened(written.getvalue())
+        self.assertEqual((theirs.format, theirs.mode), ("JPEG", "CMYK"))
+        gaps = [abs(a - (255 - b)) for a, b in zip(ours.samples, theirs.tobytes())]
+        self.assertLessEqual(max(gaps), 1)
+        self.assertLess(5 * sum(gaps), len(gaps))
 
     def hold(self, data, number, block, place, line):
         for named in ({}, {"formats": ["JPEG"]}, {"formats": ["TILLSPARROW", "JPEG"]}):

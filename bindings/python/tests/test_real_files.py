@@ -39,11 +39,14 @@ class Samples(unittest.TestCase):
     def test_forms_are_what_they_were_made_to_be(self):
         def seen(options):
             record = tillsparrow.inspect(files.encoded(options, files.tray, 120, 90)).record
-            return record.channels, record.hs, record.vs, record.interval > 0
-        self.assertEqual(seen(["-grayscale"]), (1, 1, 1, False))
-        self.assertEqual(seen(["-sample", "1x1"]), (3, 1, 1, False))
-        self.assertEqual(seen(["-sample", "2x1"]), (3, 2, 1, False))
-        self.assertEqual(seen(["-sample", "2x2", "-restart", "3B"]), (3, 2, 2, True))
+            return record.channels, record.across, record.down, record.interval > 0
+        self.assertEqual(seen(["-grayscale"]), (1, (1, 0, 0, 0), (1, 0, 0, 0), False))
+        self.assertEqual(seen(["-sample", "1x1"]), (3, (1, 1, 1, 0), (1, 1, 1, 0), False))
+        self.assertEqual(seen(["-sample", "2x1"]), (3, (2, 1, 1, 0), (1, 1, 1, 0), False))
+        self.assertEqual(seen(["-sample", "2x2", "-restart", "3B"]), (3, (2, 1, 1, 0), (2, 1, 1, 0), True))
+        self.assertEqual(seen(["-sample", "2x2,1x2,1x2"]), (3, (2, 1, 1, 0), (2, 2, 2, 0), False))
+        self.assertEqual(seen(["-sample", "1x1,2x2,1x2", "-restart", "3B"]), (3, (1, 2, 1, 0), (1, 2, 2, 0), True))
+        self.assertEqual(seen(["-sample", "4x2"]), (3, (4, 1, 1, 0), (2, 1, 1, 0), False))
 
     def test_both_choices_of_colour_are_kept(self):
         data = files.docs_tray()
@@ -174,7 +177,7 @@ class Refusals(unittest.TestCase):
                 # Both choices of colour are the file's.
                 self.assertEqual(number, 0 if field.name == "colour" else 8, field.name)
                 changes += 1
-        self.assertEqual(changes, 36)
+        self.assertEqual(changes, 46)
         for colour in (2, 256, 2**32, MOST):
             self.assertEqual(refusal(tillsparrow.decode, data, dataclasses.replace(own, colour=colour), *room)[0], 8, colour)
         self.assertEqual(refusal(tillsparrow.decode, data, Record(), *room)[0], 8)

@@ -10,8 +10,8 @@ from tillsparrow import MEANINGS, MOST, Inspected, Record, Refused, _native
 from . import files
 
 SMALL = files.small()
-OWN = Record(width=8, height=8, channels=1, hs=1, vs=1, ids=(1, 0, 0), quants=(7, 0, 0, 0), dcs=(89, 0, 0, 0), acs=(111, 0, 0, 0),
-             start=138, blocks=1, scratch=64, output=64, work=3200, colour=1)
+OWN = Record(width=8, height=8, channels=1, across=(1, 0, 0, 0), down=(1, 0, 0, 0), ids=(1, 0, 0, 0), quants=(7, 0, 0, 0),
+             dcs=(89, 0, 0, 0), acs=(111, 0, 0, 0), start=138, blocks=1, scratch=64, output=64, work=3200, colour=1)
 
 
 def restarted(scan):
@@ -139,17 +139,17 @@ class Rules(unittest.TestCase):
         self.assertEqual((raised.exception.number, raised.exception.needed), (9, None))
 
     def test_fresh_buffers_suffice_for_the_most_that_a_byte_can_give(self):
-        """Two bits a block, six blocks for 768 bytes of output: 12 bits of 0 for each MCU."""
-        width, height = 2048, 1024
-        bits = 12 * (width // 16) * (height // 16)
-        data = files.small(scan=bytes(bits // 8), width=width, height=height, sampling=34)
+        """Two bits a block, ten blocks for 4096 bytes of output: 20 bits of 0 for each MCU."""
+        width, height = 4096, 1024
+        bits = 20 * (width // 32) * (height // 32)
+        data = files.small(scan=bytes(bits // 8), width=width, height=height, samplings=(0x41, 0x14, 17, 17))
         record = tillsparrow.inspect(data).record
-        self.assertGreater(record.output, 500 * len(data))
+        self.assertGreater(record.output, 1600 * len(data))
         drawn = tillsparrow.decode(data, record)
         self.assertEqual(drawn.output, b"\x80" * record.output)
-        self.assertEqual((len(drawn.output), len(drawn.scratch)), (3 * width * height, record.scratch))
+        self.assertEqual((len(drawn.output), len(drawn.scratch)), (4 * width * height, record.scratch))
         # A record that asks for more than any file of this length can fill gets no memory.
-        more = 512 * len(data) + 1
+        more = 1639 * len(data) + 1
         for absurd in ({"output": more}, {"scratch": more}, {"output": MOST}, {"scratch": MOST}):
             with self.assertRaises(Refused) as raised:
                 tillsparrow.decode(data, dataclasses.replace(record, **absurd))

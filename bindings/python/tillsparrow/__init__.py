@@ -6,6 +6,8 @@
     picture.samples                             # bytes, row by row, channels interleaved
     picture.array()                             # the same as a numpy array, where numpy is installed
 
+A file has one to four channels. One is grey, three come as red, green and blue, and two and four as they are coded.
+
 The calls of the library are ``inspect``, ``decode``, ``settle``, ``comment`` and ``has_comment``; ``read``, ``settled`` and
 ``comments`` are built on them. What is refused raises ``Refused``, with the number of the refusal, its meaning, what is left of the
 budget and, where a scan broke, the block and the place in the file; every lent buffer is then as it was. A wrong argument raises

@@ -9,8 +9,9 @@ from ._lent import Lent, flat_view, view_of
 from ._native import library
 from ._values import MEANINGS, MOST, NO_LIMITS, Limits, Record, Refused, number
 
-#: No byte of a file gives more bytes of output than this.
-FILLED = 512
+#: No byte of a file gives more bytes of output than this. A byte has four blocks at most, of 2 bits each. Ten blocks give the most where
+#: the four channels are sampled 4 x 1, 1 x 4, 1 x 1 and 1 x 1: 32 x 32 pixels of four bytes, which is 1638.4 bytes for each byte.
+FILLED = 1639
 
 
 class Inspected(NamedTuple):
@@ -106,8 +107,8 @@ def inspect(data: Any, colour: bool = True, limits: Limits = NO_LIMITS, budget: 
     """What a file holds.
 
     It takes 2 for each byte of the file and 1 from the budget, and the record's work where it comes to the scan. ``colour``
-    chooses what decode writes for three channels: red, green and blue, or the channels as they are coded. Where the scan broke, the
-    refusal names the block and the place in the file.
+    chooses what decode writes for three channels: red, green and blue, or the channels as they are coded. One, two and four channels
+    always come as they are coded. Where the scan broke, the refusal names the block and the place in the file.
     """
     if not isinstance(colour, bool):
         raise TypeError(f"colour must be True or False, not {type(colour).__name__}")
@@ -129,7 +130,7 @@ def decode(data: Any, record: Record, output: Any = None, scratch: Any = None, b
     inspect takes.
     """
     native, budget = _to_native(record), number("budget", budget)
-    # A block has 2 bits at least, 64 bytes of scratch and 128 bytes of output at most: a record that wants more is not this file's.
+    # A record that wants more than the file's bytes can give is not this file's.
     most = FILLED * _length(data)
     output = _fresh(native.output, most) if output is None else output
     scratch = _fresh(native.scratch, most) if scratch is None else scratch

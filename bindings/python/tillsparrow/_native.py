@@ -17,8 +17,8 @@ Address = ctypes.c_void_p
 
 class Record(ctypes.Structure):
     _fields_ = [
-        ("width", Number), ("height", Number), ("channels", Number), ("hs", Number), ("vs", Number),
-        ("ids", Number * 3), ("qids", Number * 3), ("dcids", Number * 3), ("acids", Number * 3),
+        ("width", Number), ("height", Number), ("channels", Number), ("across", Number * 4), ("down", Number * 4),
+        ("ids", Number * 4), ("qids", Number * 4), ("dcids", Number * 4), ("acids", Number * 4),
         ("quants", Number * 4), ("dcs", Number * 4), ("acs", Number * 4),
         ("interval", Number), ("start", Number), ("blocks", Number), ("scratch", Number), ("output", Number),
         ("work", Number), ("colour", Number),

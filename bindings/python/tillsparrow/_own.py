@@ -20,14 +20,14 @@ class Picture:
 
     width: int
     height: int
-    #: 1 for grey; 3 for red, green and blue.
+    #: 1 for grey; 3 for red, green and blue; 2 and 4 for channels as they are coded, whatever they show.
     channels: int
     #: Row by row, channels interleaved.
     samples: bytes = field(repr=False)
 
     def array(self) -> Any:
-        """The samples as a numpy array of uint8, (height, width) or (height, width, 3): the same memory, which is not writable.
-        Where numpy is not installed, an ImportError."""
+        """The samples as a numpy array of uint8: (height, width) of one channel, else (height, width, channels). It is the same
+        memory, which is not writable. Where numpy is not installed, an ImportError."""
         try:
             import numpy
         except ImportError:
@@ -58,7 +58,7 @@ def _lent(source: Any) -> Iterator[Any]:
 
 
 def read(source: Union[str, "os.PathLike[str]", Any], limits: Limits = NO_LIMITS) -> Picture:
-    """The picture of a file, given by its path or its bytes: grey, or red, green and blue.
+    """The picture of a file, given by its path or its bytes: grey; red, green and blue; or two or four channels as they are coded.
 
     Where files come from others, give limits. Refused 7 where there is not enough memory.
     """

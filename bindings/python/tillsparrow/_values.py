@@ -105,7 +105,6 @@ class Limits:
 
 NO_LIMITS = Limits()
 
-Three = Tuple[int, int, int]
 Four = Tuple[int, int, int, int]
 
 
@@ -116,16 +115,17 @@ class Record:
 
     width: int = 0
     height: int = 0
-    #: 1 or 3.
+    #: 1 to 4.
     channels: int = 0
-    #: The first channel's sampling, across and down.
-    hs: int = 0
-    vs: int = 0
+    #: For each channel its sampling: its blocks in an MCU, across and down, each 1 to 4; 0 behind the last channel. A single channel has
+    #: 1 and 1.
+    across: Four = (0, 0, 0, 0)
+    down: Four = (0, 0, 0, 0)
     #: For each channel its id, and the ids of its quantizer, DC table and AC table; 0 behind the last channel.
-    ids: Three = (0, 0, 0)
-    qids: Three = (0, 0, 0)
-    dcids: Three = (0, 0, 0)
-    acids: Three = (0, 0, 0)
+    ids: Four = (0, 0, 0, 0)
+    qids: Four = (0, 0, 0, 0)
+    dcids: Four = (0, 0, 0, 0)
+    acids: Four = (0, 0, 0, 0)
     #: By id, the place in the file of each quantizer, DC table and AC table; 0 where there is none.
     quants: Four = (0, 0, 0, 0)
     dcs: Four = (0, 0, 0, 0)
@@ -142,5 +142,5 @@ class Record:
     output: int = 0
     #: The price of the scan.
     work: int = 0
-    #: 1: the picture of three channels is red, green, blue; 0: the channels as they are coded.
+    #: 1: a picture of three channels is red, green, blue; 0: its channels as they are coded, as those of every other picture always are.
     colour: int = 0

@@ -5,9 +5,10 @@
     pixels = imageio.imread("tray.jpg")         # its samples are those of tillsparrow.read
 
 From ``register`` to ``unregister`` imageio takes the format JPEG-TILLSPARROW for every JPEG file that its other formats do not claim by
-the name's ending; what is refused raises Refused. As with imageio's own JPEG reader, a picture is turned as its EXIF data say, unless
-``exifrotate=False`` is given, and ``pixels.meta`` has what stands beside the picture. Writing is imageio's as before. For imageio's
-formats of before version 2.11; tested with imageio 2.4.1.
+the name's ending; what is refused raises Refused. A file of two or four channels raises it too: they come as they are coded, and in
+imageio's arrays the last of two or four is opacity; ``tillsparrow.read(..).array()`` gives them. As with imageio's own JPEG reader, a
+picture is turned as its EXIF data say, unless ``exifrotate=False`` is given, and ``pixels.meta`` has what stands beside the picture.
+Writing is imageio's as before. For imageio's formats of before version 2.11; tested with imageio 2.4.1.
 """
 from __future__ import annotations
 
@@ -18,9 +19,9 @@ import imageio
 import numpy
 from PIL import Image
 
-from ._calls import decode, inspect
+from ._calls import decode
 from ._values import NO_LIMITS, Limits
-from .pillow import about, accepts
+from .pillow import about, accepts, looked_through
 
 ORIENTATION = 0x0112
 #: By orientation, how often a quarter turn to the left, and whether mirrored behind it.
@@ -67,7 +68,7 @@ class TillsparrowFormat(imageio.core.Format):
         def _open(self, exifrotate: bool = True) -> None:
             self._turn = exifrotate
             self._data = self.request.get_file().read()
-            self._record = inspect(self._data, limits=self.format.limits).record
+            self._record = looked_through(self._data, self.format.limits)
 
         def _close(self) -> None:
             self._data = b""

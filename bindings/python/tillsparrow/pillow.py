@@ -5,7 +5,9 @@
     picture = PIL.Image.open("tray.jpg")        # its samples are those of tillsparrow.read
 
 From ``register`` to ``unregister`` every file that begins with the bytes 255 216 is read by Tillsparrow or raises RefusedImage: Pillow's
-own decoder is never taken in its place. Files of other kinds, and all writing, are Pillow's as before. Tested with Pillow 9.4.0.
+own decoder is never taken in its place. A file of two or four channels raises it too: they come as they are coded, for which Pillow has
+no mode; ``tillsparrow.read(..).array()`` gives them. Files of other kinds, and all writing, are Pillow's as before. Tested with
+Pillow 9.4.0.
 """
 from __future__ import annotations
 
@@ -27,13 +29,16 @@ THEIRS = "JPEG"
 DECODER = "tillsparrow"
 #: A property of Pillow from version 10.1 on, which this attribute is behind.
 MODE = "_mode" if hasattr(Image.Image, "mode") else "mode"
+#: Pillow's modes, by channels. LA and CMYK would give two and four channels a meaning that the file may not have.
+MODES = {1: "L", 3: "RGB"}
 
 _limits = NO_LIMITS
 _replaced: Any = None
 
 
 class RefusedImage(OSError):
-    """A JPEG file that Tillsparrow refuses. The refusal itself is the cause; these are its numbers and its meaning."""
+    """A JPEG file that Tillsparrow refuses, or one of two or four channels. The refusal itself is the cause; these are its numbers and
+    its meaning."""
 
     number: int = 0
     meaning: str = ""
@@ -45,6 +50,16 @@ def _refusal(name: Any, refused: Refused) -> RefusedImage:
     error = RefusedImage(f"{name}: {refused}" if name else str(refused))
     error.number, error.meaning, error.block, error.place = refused.number, refused.meaning, refused.block, refused.place
     return error
+
+
+def looked_through(data: bytes, limits: Limits) -> Record:
+    """The record of a file that is grey, or red, green and blue. One of two or four channels, which inspect accepts, is refused 5 here, as
+    the program that writes PGM and PPM refuses it."""
+    seen = inspect(data, limits=limits)
+    if seen.record.channels not in MODES:
+        raise Refused(5, f"it has {seen.record.channels} channels, which are neither grey nor red, green and blue: "
+                      "tillsparrow.read(..).array() gives them as they are coded", seen.left, length=len(data))
+    return seen.record
 
 
 def about(data: bytes, record: Record) -> Dict[str, Any]:
@@ -71,11 +86,11 @@ class TillsparrowImageFile(ImageFile.ImageFile):
     def _open(self) -> None:
         data = self.fp.read()
         try:
-            record = inspect(data, limits=_limits).record
+            record = looked_through(data, _limits)
         except Refused as refused:
             raise _refusal(self.filename, refused) from refused
         self._size = (record.width, record.height)
-        setattr(self, MODE, "L" if record.channels == 1 else "RGB")
+        setattr(self, MODE, MODES[record.channels])
         self.info = about(data, record)
         # The file's own bytes go along, so that what was looked through is what is decoded.
         self.tile = [(DECODER, (0, 0, *self._size), 0, (data, record, self.filename))]

@@ -69,8 +69,9 @@ pub fn inspect(
     answer(Inspected { record: found, left }, refused)
 }
 
-/// The picture of a file whose record is given, row by row, channels interleaved, at the front of
-/// `output`, and the samples of its blocks at the front of `scratch`. What is left of the budget.
+/// The picture of a file whose record is given, row by row, its one to four channels interleaved, at
+/// the front of `output`, and the samples of its blocks at the front of `scratch`. What is left of
+/// the budget.
 ///
 /// Any record may come in; one that is not the file's is refused 8, which names no block, also
 /// where the scan broke. Limits are set aside. It takes what [`inspect`] takes.

@@ -20,6 +20,11 @@
 //! # Ok::<(), Box<dyn std::error::Error>>(())
 //! ```
 //!
+//! A file has one to four channels, and each has its own sampling, which [`Record::sampling`] tells
+//! as `2x2,1x2,1x2`. Three channels are given as red, green and blue, or as they are coded where
+//! that is asked for; one, two and four always as they are coded. A program that shows pictures
+//! looks at [`Picture::channels`]: 1 is grey, 3 is colour, and what 2 and 4 mean no file says.
+//!
 //! A refusal is a [`Refused`]: its number and, where the scan broke, the block and the place, so
 //! that a copy that was cut is told from a camera that writes what it should not:
 //!

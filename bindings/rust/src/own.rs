@@ -9,7 +9,9 @@ pub struct Picture {
     pub width: usize,
     /// Samples down.
     pub height: usize,
-    /// 1 for grey; 3 for red, green and blue, or for the channels as they are coded.
+    /// 1 for grey; 3 for red, green and blue, or for three channels as they are coded; 2 or 4 for
+    /// so many channels as they are coded, never converted (a printer's four are most often its
+    /// inks).
     pub channels: usize,
     /// Row by row, channels interleaved.
     pub samples: Vec<u8>,
@@ -37,8 +39,9 @@ fn room(length: u64) -> Vec<u8> {
     bytes
 }
 
-/// The picture of a file: grey, or red, green and blue. No limits; where files come from others,
-/// use [`read_within`]. Refused 7 where there is not enough memory.
+/// The picture of a file: grey; red, green and blue; or two or four channels as they are coded. No
+/// limits; where files come from others, use [`read_within`]. Refused 7 where there is not enough
+/// memory.
 pub fn read(bytes: &[u8]) -> Result<Picture, Refused> {
     read_within(bytes, Limits::NONE)
 }

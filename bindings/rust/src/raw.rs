@@ -95,9 +95,9 @@ const _: () = {
     use std::mem::{align_of, size_of};
     assert!(size_of::<usize>() == 8);
     assert!(size_of::<bool>() == 1);
-    assert!(size_of::<Record>() == 36 * 8);
+    assert!(size_of::<Record>() == 46 * 8);
     assert!(align_of::<Record>() == 8);
-    assert!(size_of::<Inspected>() == 40 * 8);
+    assert!(size_of::<Inspected>() == 50 * 8);
     assert!(size_of::<Decoded>() == 2 * 8);
     assert!(size_of::<Settled>() == 5 * 8);
     assert!(size_of::<Part>() == 2 * 8);
@@ -123,7 +123,7 @@ mod tests {
             let (field, count) = field.split_once('[').unwrap_or((field, "1]"));
             fields.push((field.to_string(), place));
             let count: usize = count.trim_end_matches(']').parse().unwrap();
-            place += 8 * if kind == "tillsparrow_record" { 36 } else { count };
+            place += 8 * if kind == "tillsparrow_record" { 46 } else { count };
         }
         fields.push(("end".to_string(), place));
         fields
@@ -150,7 +150,7 @@ mod tests {
     #[test]
     fn structs_lie_as_in_the_header() {
         as_in_header!("tillsparrow_record", Record,
-            width height channels hs vs ids qids dcids acids quants dcs acs
+            width height channels across down ids qids dcids acids quants dcs acs
             interval start blocks scratch output work colour);
         as_in_header!("tillsparrow_inspected", Inspected, number left block place found);
         as_in_header!("tillsparrow_decoded", Decoded, number left);

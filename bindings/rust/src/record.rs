@@ -9,20 +9,21 @@ pub struct Record {
     pub width: u64,
     /// Samples down.
     pub height: u64,
-    /// 1 or 3.
+    /// 1 to 4.
     pub channels: u64,
-    /// The first channel's sampling, across.
-    pub hs: u64,
-    /// The first channel's sampling, down.
-    pub vs: u64,
-    /// For each channel its id; 0 behind the last channel, here and in the next three.
-    pub ids: [u64; 3],
+    /// For each channel its blocks across in an MCU; 0 behind the last channel, here and in the
+    /// next five.
+    pub across: [u64; 4],
+    /// For each channel its blocks down in an MCU. A single channel has 1 across and 1 down.
+    pub down: [u64; 4],
+    /// For each channel its id.
+    pub ids: [u64; 4],
     /// For each channel the id of its quantizer.
-    pub qids: [u64; 3],
+    pub qids: [u64; 4],
     /// For each channel the id of its DC table.
-    pub dcids: [u64; 3],
+    pub dcids: [u64; 4],
     /// For each channel the id of its AC table.
-    pub acids: [u64; 3],
+    pub acids: [u64; 4],
     /// By id, the place of each quantizer in the file; 0 where there is none, here and in the
     /// next two.
     pub quants: [u64; 4],
@@ -42,12 +43,33 @@ pub struct Record {
     pub output: u64,
     /// The price of the scan.
     pub work: u64,
-    /// 1: the picture of three channels is red, green, blue; 0: the channels as they are coded.
+    /// 1 or 0, as it was asked for. With 1 a picture of three channels is red, green, blue; every
+    /// other has its channels as they are coded.
     pub colour: u64,
 }
 
-/// What the samples of a picture with three channels are. A picture with one channel is grey with
-/// either.
+impl Record {
+    /// The sampling of the channels, in order, each as its blocks across and down in an MCU:
+    /// `2x2,1x2,1x2`, as the option `-sample` of libjpeg's `cjpeg` has it. A channel with less than
+    /// the most, across or down, has fewer samples than there are pixels, and pixels share them.
+    ///
+    /// ```
+    /// use tillsparrow::{inspect, Colour, Limits};
+    /// let file = std::fs::read("../../docs/tray.jpg")?;
+    /// let seen = inspect(&file, Colour::AsCoded, Limits::NONE, u64::MAX)?;
+    /// assert_eq!(seen.record.sampling(), "2x2,1x1,1x1");
+    /// # Ok::<(), Box<dyn std::error::Error>>(())
+    /// ```
+    pub fn sampling(&self) -> String {
+        // Any record may come in, also one of more channels than there are.
+        let channels = self.channels.min(4) as usize;
+        let factors = self.across.iter().zip(&self.down).take(channels);
+        factors.map(|(across, down)| format!("{across}x{down}")).collect::<Vec<_>>().join(",")
+    }
+}
+
+/// What the samples of a picture with three channels are. A picture with one, two or four channels
+/// has them as they are coded with either: one is grey.
 #[derive(Clone, Copy, Debug, PartialEq, Eq, Hash)]
 pub enum Colour {
     /// The channels as they are coded.
@@ -76,5 +98,23 @@ impl Limits {
 impl Default for Limits {
     fn default() -> Limits {
         Limits::NONE
+    }
+}
+
+#[cfg(test)]
+mod tests {
+    use super::Record;
+
+    #[test]
+    fn sampling_has_each_channel_and_no_more() {
+        let of = |channels, across, down| {
+            Record { channels, across, down, ..Record::default() }.sampling()
+        };
+        assert_eq!(of(1, [1, 0, 0, 0], [1, 0, 0, 0]), "1x1");
+        assert_eq!(of(2, [3, 1, 0, 0], [1, 4, 0, 0]), "3x1,1x4");
+        assert_eq!(of(3, [2, 1, 1, 0], [2, 2, 2, 0]), "2x2,1x2,1x2");
+        assert_eq!(of(4, [2, 1, 1, 2], [2, 1, 1, 2]), "2x2,1x1,1x1,2x2");
+        assert_eq!(of(0, [0; 4], [0; 4]), "");
+        assert_eq!(of(u64::MAX, [1; 4], [1; 4]), "1x1,1x1,1x1,1x1");
     }
 }

@@ -46,12 +46,17 @@ fn samples_are_those_of_djpeg() {
 fn forms_are_what_they_were_made_to_be() {
     let seen = |options: &[&str]| {
         let record = record_of(&encoded(options, tray, 120, 90));
-        (record.channels, record.hs, record.vs, record.interval > 0)
+        (record.channels, record.sampling(), record.interval > 0)
     };
-    assert_eq!(seen(&["-grayscale"]), (1, 1, 1, false));
-    assert_eq!(seen(&["-sample", "1x1"]), (3, 1, 1, false));
-    assert_eq!(seen(&["-sample", "2x1"]), (3, 2, 1, false));
-    assert_eq!(seen(&["-sample", "2x2", "-restart", "3B"]), (3, 2, 2, true));
+    assert_eq!(seen(&["-grayscale"]), (1, "1x1".to_string(), false));
+    // The frame says 2 x 2, and a single channel counts as 1 x 1.
+    assert_eq!(seen(&["-grayscale", "-sample", "2x2"]), (1, "1x1".to_string(), false));
+    assert_eq!(seen(&["-sample", "1x1"]), (3, "1x1,1x1,1x1".to_string(), false));
+    assert_eq!(seen(&["-sample", "2x1"]), (3, "2x1,1x1,1x1".to_string(), false));
+    assert_eq!(seen(&["-sample", "2x2", "-restart", "3B"]), (3, "2x2,1x1,1x1".to_string(), true));
+    for sampling in ["1x2,1x1,1x1", "2x2,1x2,1x2", "2x2,2x1,2x1", "1x1,2x1,2x1", "3x2,1x1,1x2"] {
+        assert_eq!(seen(&["-sample", sampling]), (3, sampling.to_string(), false));
+    }
 }
 
 /// Each call takes exactly its price; with one less it is refused 2 and takes what the rules say.
@@ -206,10 +211,10 @@ fn a_refused_decode_writes_nothing_and_a_tail_stays() {
     assert_eq!(picture[..output], read(&file).unwrap().samples);
 }
 
-/// The record with one of its 36 numbers one higher.
+/// The record with one of its 46 numbers one higher.
 fn changed(record: &Record, at: usize) -> Record {
-    // SAFETY: a record is 36 numbers of 64 bits and nothing else, whatever they are.
-    let mut numbers: [u64; 36] = unsafe { std::mem::transmute(*record) };
+    // SAFETY: a record is 46 numbers of 64 bits and nothing else, whatever they are.
+    let mut numbers: [u64; 46] = unsafe { std::mem::transmute(*record) };
     numbers[at] += 1;
     // SAFETY: as above.
     unsafe { std::mem::transmute(numbers) }
@@ -224,12 +229,12 @@ fn a_changed_record_is_not_the_files() {
     let mut tried = |record: &Record| {
         decode(&file, record, &mut output, &mut scratch, u64::MAX).map_err(|refused| refused.number)
     };
-    for at in 0..35 {
+    for at in 0..45 {
         assert_eq!(tried(&changed(&record, at)), Err(8), "number {at}");
     }
     assert_eq!(tried(&Record::default()), Err(8));
     // The last number is the choice of colour: both choices are the file's, and no other number is.
-    assert!(tried(&changed(&record, 35)).is_ok());
+    assert!(tried(&changed(&record, 45)).is_ok());
     assert!(tried(&record).is_ok());
     for colour in [2, 256, 1 << 32, u64::MAX] {
         assert_eq!(tried(&Record { colour, ..record }), Err(8), "colour {colour}");

@@ -50,7 +50,7 @@ module _ (s : List ℕ) (y : AllBytes s) (f : FlatRecord) (out scratch : List �
     where
       by : (l : Scanned Bits (List (List ℤ))) → itsLevels (channelless f) (scanned q l) rest ≡ refuses NotItsRecord rest
       by (broke x) = refl
-      by (whole ls b) = rw (other q f (some (q .frame .channels) (header-accepted (eqb (f .colour) 1) s y q e .frame .few .0))) refl
+      by (whole ls b) = rw (other q f (some (q .frame .channels) (header-accepted (eqb (f .colour) 1) s y q e .frame .sampling .some))) refl
 
   channelless-decodes : (budget : Budget) → decode s (channelless f) out scratch budget ≡ notItsRecord s f out scratch budget
   unfolding decode

@@ -1,4 +1,4 @@
--- The calls for C: decode by 36 numbers, and the answers with their numbers.
+-- The calls for C: decode by 46 numbers, and the answers with their numbers.
 use Prim.Native.Nat.{ℕ, _+_}
 use mathlib.Core.Bool.{cond}
 use mathlib.Core.List.{List}

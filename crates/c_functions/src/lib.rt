@@ -1,4 +1,4 @@
-// The calls for C: inspect, decode and the comments, on slices and numbers, the record as the 36 numbers of `c_record`; settle is in
+// The calls for C: inspect, decode and the comments, on slices and numbers, the record as the 46 numbers of `c_record`; settle is in
 // `c_settle`. In C a slice is a pointer and a length. Each contract is the call's own, through the flattening.
 ghost use mathlib.Core.Path.{_≡_};
 ghost use Rattle.reading.specs.Calls.{inspect};

@@ -1,4 +1,4 @@
--- A record as 36 numbers and back; a yes or no as a number.
+-- A record as 46 numbers and back; a yes or no as a number.
 use Prim.Native.Nat.{ℕ}
 use mathlib.Core.Bool.{Bool, cond}
 use lib.Dec.{ltb, eqb}
@@ -17,8 +17,8 @@ flat r =
       width = r .frame .width;
       height = r .frame .height;
       channels = r .frame .channels;
-      hs = r .frame .hs;
-      vs = r .frame .vs;
+      across = r .frame .across;
+      down = r .frame .down;
       ids = r .frame .ids;
       qids = r .frame .qids;
       dcids = r .dcids;
@@ -38,7 +38,15 @@ flat r =
 -- the frame of numbers, with a count of channels
 abbrev pub frameWith : ℕ → FlatRecord → Frame
 frameWith channels f =
-    record { width = f .width; height = f .height; channels = channels; hs = f .hs; vs = f .vs; ids = f .ids; qids = f .qids }
+    record {
+      width = f .width;
+      height = f .height;
+      channels = channels;
+      across = f .across;
+      down = f .down;
+      ids = f .ids;
+      qids = f .qids;
+    }
 
 -- the record of numbers, with a count of channels
 abbrev pub recordWith : ℕ → FlatRecord → Record

@@ -1,4 +1,4 @@
-// What the functions for C take and give as numbers: a record, which is 36 numbers, the limits, a verdict and a yes or no. No call is made
+// What the functions for C take and give as numbers: a record, which is 46 numbers, the limits, a verdict and a yes or no. No call is made
 // here; `c_functions` and `c_settle` make them.
 ghost use mathlib.Core.Path.{_≡_};
 ghost use Rattle.reading.specs.Calls.{number};
@@ -16,12 +16,12 @@ pub struct FlatRecord {
     pub width: usize,
     pub height: usize,
     pub channels: usize,
-    pub hs: usize,
-    pub vs: usize,
-    pub ids: [usize; 3],
-    pub qids: [usize; 3],
-    pub dcids: [usize; 3],
-    pub acids: [usize; 3],
+    pub across: [usize; 4],
+    pub down: [usize; 4],
+    pub ids: [usize; 4],
+    pub qids: [usize; 4],
+    pub dcids: [usize; 4],
+    pub acids: [usize; 4],
     pub quants: [usize; 4],
     pub dcs: [usize; 4],
     pub acs: [usize; 4],
@@ -56,6 +56,8 @@ pub fn flat(found: Record) -> FlatRecord
 {
     let frame = found.frame;
     let tables = found.tables;
+    let across = frame.across;
+    let down = frame.down;
     let ids = frame.ids;
     let qids = frame.qids;
     let dcids = found.dcids;
@@ -68,8 +70,8 @@ pub fn flat(found: Record) -> FlatRecord
         width: frame.width,
         height: frame.height,
         channels: frame.channels,
-        hs: frame.hs,
-        vs: frame.vs,
+        across: across,
+        down: down,
         ids: ids,
         qids: qids,
         dcids: dcids,
@@ -91,14 +93,16 @@ pub fn flat(found: Record) -> FlatRecord
 fn record_of(numbers: FlatRecord) -> Record
     ensures { λ r. ⌜ r ≡ recordOf numbers ⌝ }
 {
+    let across = numbers.across;
+    let down = numbers.down;
     let ids = numbers.ids;
     let qids = numbers.qids;
     let frame = Frame {
         width: numbers.width,
         height: numbers.height,
         channels: numbers.channels,
-        hs: numbers.hs,
-        vs: numbers.vs,
+        across: across,
+        down: down,
         ids: ids,
         qids: qids,
     };

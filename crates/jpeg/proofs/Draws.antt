@@ -35,6 +35,7 @@ use Rattle.jpeg_render.specs.Rows.{Sized, Drawable}
 use Rattle.jpeg_render.specs.Rendered.{rendered}
 use Rattle.jpeg_render.proofs.Fitting.{rendered-drawable}
 use Rattle.jpeg.specs.Steps.{drawnAs, leaving}
+use Rattle.reading.proofs.Sampling.{sampled-so}
 use Rattle.reading.proofs.States.{header-readable}
 use Rattle.jpeg.proofs.Decodes.{drawn-other, drawn-fault, drawn-done}
 
@@ -42,12 +43,7 @@ pub sized : (s : List ℕ) → AllBytes s → (colour : Bool) (r : Record) → h
 sized s y colour r e =
     let a = H.header-accepted colour s y r e in
     record {
-      channels = a .frame .count;
-      hs-least = a .frame .across .0;
-      hs-most = a .frame .across .1;
-      vs-least = a .frame .down .0;
-      vs-most = a .frame .down .1;
-      alone = λ e. a .frame .single e .0;
+      sampling = sampled-so (r .frame) (a .frame .sampling);
       width-most = omega (arith, a .frame .wide .1);
       height-most = omega (arith, a .frame .high .1);
     }

@@ -32,7 +32,7 @@ use Rattle.jpeg_price.proofs.Admitted.{Goes}
 -- ---- the settled scan of a record that the header gave
 
 module _ (s : List ℕ) (y : AllBytes s) (r : Record) (head : header s false ≡ done r) where
-  few : r .blocks < 2 ^ 29
+  few : r .blocks < 2 ^ 30
   few = H.blocks-below false r (H.header-accepted false s y r head)
 
   settled-is : settledOf s r ≡ settledRead (planOf s r) (levels s r)

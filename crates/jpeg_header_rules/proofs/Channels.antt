@@ -1,14 +1,14 @@
 -- The list that has a number for each channel: as a walk over the channels fills it, and with each of its numbers changed alike.
 use Prim.Native.Nat.{ℕ, zero, suc, _+_, _<_, _≤_}
-use mathlib.Core.Path.{_≡_, refl, ap, ap₂}
+use mathlib.Core.Path.{_≡_, refl, ap, ap₂, _∙_, subst⁻¹}
 use mathlib.Core.Bool.{Bool, true, false, cond}
 use mathlib.Core.List.{List, [], _∷_, _++_, map}
 use native.Mathlib.Omega.{arith}
 use native.Mathlib.Numerals.{add-one}
-use lib.Dec.{ltb}
+use lib.Dec.{T, ltb, eqb, eqb→eq}
 use lib.ListN.{length, getD, take, drop, set}
 use borrow.Author.Tests.{lt-ltb, le-ltb}
-use Rattle.reading.specs.Header.{eachFrom, each}
+use Rattle.reading.specs.Header.{eachFrom, each, counted}
 
 -- ---- a walk that fills the list: behind c channels it is the list of c
 
@@ -40,11 +40,11 @@ module _ (f : ℕ → ℕ) where
       rw (lt-ltb i j (omega arith), lt-ltb i (suc j) (omega arith))
       (ap (λ (l : List ℕ). f i ∷ l) (next-from n (suc i) c j (omega arith) (omega arith)))
 
-  pub each-next : (c x : ℕ) → c < 3 → x ≡ f c → set (each c f) c x ≡ each (c + 1) f
-  each-next c x h e = rw (e, add-one) (next-from 3 0 c c (omega arith) h)
+  pub each-next : (c x : ℕ) → c < 4 → x ≡ f c → set (each c f) c x ≡ each (c + 1) f
+  each-next c x h e = rw (e, add-one) (next-from 4 0 c c (omega arith) h)
 
-  pub each-full : (c ch : ℕ) → 3 ≤ c → 3 ≤ ch → each c f ≡ each ch f
-  each-full c ch h g = full-from 3 0 c ch (omega arith) (omega arith)
+  pub each-full : (c ch : ℕ) → 4 ≤ c → 4 ≤ ch → each c f ≡ each ch f
+  each-full c ch h g = full-from 4 0 c ch (omega arith) (omega arith)
 
 -- ---- each number changed alike
 
@@ -83,4 +83,27 @@ module _ (g : ℕ → ℕ) where
       go false = e
 
   pub map-each : g 0 ≡ 0 → (ch : ℕ) (f : ℕ → ℕ) → map g (each ch f) ≡ each ch (λ c. g (f c))
-  map-each e ch f = map-from e f 3 0 ch
+  map-each e ch f = map-from e f 4 0 ch
+
+-- ---- the factors of the channels, where a single one counts as 1 x 1
+
+abbrev pub countedAll : ℕ → List ℕ → List ℕ
+countedAll ch l = cond (eqb ch 1) (1 ∷ 0 ∷ 0 ∷ 0 ∷ []) l
+
+pub counted-each : (ch : ℕ) (g : ℕ → ℕ) → countedAll ch (each ch g) ≡ each ch (λ c. counted ch (g c))
+counted-each ch g = go (eqb ch 1) refl
+  where
+    go : (t : Bool) → eqb ch 1 ≡ t → cond t (1 ∷ 0 ∷ 0 ∷ 0 ∷ []) (each ch g) ≡ each ch (λ c. cond t 1 (g c))
+    go true e = subst⁻¹ (λ n. (1 ∷ 0 ∷ 0 ∷ 0 ∷ []) ≡ each n (λ c. 1)) (eqb→eq ch 1 (subst⁻¹ T e tt)) refl
+    go false e = refl
+
+-- a factor of each channel, as the code makes it: a byte of each, its half, and 1 for a single channel
+pub factors-made :
+    (half : ℕ → ℕ) (ch : ℕ) (g : ℕ → ℕ) (bytes halves factors : List ℕ)
+    → half 0 ≡ 0
+    → bytes ≡ each ch g
+    → halves ≡ map half bytes
+    → factors ≡ countedAll ch halves
+    → factors ≡ each ch (λ c. counted ch (half (g c)))
+factors-made half ch g bytes halves factors z eb eh ef =
+    ef ∙ ap (countedAll ch) (eh ∙ ap (map half) eb ∙ map-each half z ch g) ∙ counted-each ch (λ c. half (g c))

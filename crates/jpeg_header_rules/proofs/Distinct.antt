@@ -1,13 +1,14 @@
 -- The walk over a short list whose numbers are to stand apart: each is sought among those behind it.
-use Prim.Native.Nat.{ℕ, suc, _+_, _-_, _<_, _≤_}
-use mathlib.Core.Path.{_≡_}
+use Prim.Native.Nat.{ℕ, suc, _+_, _-_, _<_, _≤_, min}
+use mathlib.Core.Path.{_≡_, refl, sym, ap, _∙_}
 use mathlib.Core.Bool.{Bool, true, false}
 use mathlib.Core.List.{List}
 use native.Mathlib.Omega.{arith}
 use native.Mathlib.Numerals.{add-one}
+use lib.Dec.{ltb}
 use lib.ListN.{length, take, drop, getD, length-drop, drop-of-length-le}
 use lib.Seq.{take-all, drop-cons}
-use borrow.Author.Tests.{eq-eqb, ne-eqb}
+use borrow.Author.Tests.{eq-eqb, ne-eqb, ltb-true, ltb-false}
 use Rattle.reading.specs.Tests.{isNone, placeOf, apart}
 use Rattle.jpeg_header_rules.proofs.Marks.{place-from}
 
@@ -41,3 +42,12 @@ module _ (l : List ℕ) (i : ℕ) where
 
   pub apart-end : length l ≤ i → apart (drop i l) ≡ true
   apart-end h = rw (drop-of-length-le l h)
+
+-- ---- the first n of four, by whatever n
+
+pub first-of-four : (n k : ℕ) (l : List ℕ) → k ≡ min n 4 → length l ≡ 4 → take k l ≡ take n l
+first-of-four n k l e h = go (ltb 4 n) refl
+  where
+    go : (t : Bool) → ltb 4 n ≡ t → take k l ≡ take n l
+    go true p = take-all k l (omega (arith, e, h, ltb-true 4 n p)) ∙ sym (take-all n l (omega (arith, h, ltb-true 4 n p)))
+    go false p = let same : k ≡ n = omega (arith, e, ltb-false 4 n p) in ap (λ j. take j l) same

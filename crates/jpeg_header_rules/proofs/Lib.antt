@@ -3,3 +3,4 @@ pub mod Marks
 pub mod Distinct
 pub mod Channels
 pub mod Rules
+pub mod Sampled

@@ -1,7 +1,7 @@
 -- Each test on a body by its ways out, as the code finds them: one law for each way.
 use Prim.Native.Nat.{ℕ, _+_, _-_, _*_, _/_, _%_, _<_, _≤_}
 use mathlib.Core.Path.{_≡_, refl, sym}
-use mathlib.Core.Bool.{Bool, true, false, cond}
+use mathlib.Core.Bool.{Bool, true, false}
 use mathlib.Core.List.{List}
 use native.Mathlib.Omega.{arith}
 use lib.Dec.{leb, ltb, eqb}
@@ -9,11 +9,13 @@ use lib.ListN.{length, take, drop, getD, length-take}
 use borrow.Author.Tests.{le-leb, lt-leb, lt-ltb, le-ltb, eq-eqb, ne-eqb}
 use Rattle.reading.specs.declared.Frame.{Frame}
 use Rattle.reading.specs.declared.Record.{Record}
-use Rattle.reading.specs.Tests.{_and_, _or_, apart, all, within}
+use Rattle.reading.specs.Tests.{_and_, apart, all, within}
 use Rattle.reading.specs.Huffman.{sum}
 use Rattle.jpeg_huffman.specs.Fitting.{countsFit}
-use Rattle.reading.specs.Tables.{quantAt, dcAt, acAt}
-use Rattle.reading.specs.Header.{byte, word, each, quantizerFits, countsOf, symbolsOf, listable, tableFits, frameKnown, acrossOf, downOf, quantsFit, threeFit, frameOf, frameFits, dcId, acId, sequential, scanKnown}
+use Rattle.reading.specs.Layout.{areas}
+use Rattle.reading.specs.Tables.{shapeOf, quantAt, dcAt, acAt}
+use Rattle.reading.specs.Header.{byte, word, each, quantizerFits, countsOf, symbolsOf, listable, tableFits}
+use Rattle.reading.specs.Header.{frameKnown, acrossOf, downOf, counted, samplingFits, quantsFit, frameOf, frameFits, dcId, acId, sequential, scanKnown}
 
 -- a chain of tests, by one that fails, and behind one that passes
 pub and-no : (a b : Bool) → a ≡ false → (a and b) ≡ false
@@ -97,26 +99,8 @@ module _ (b : List ℕ) where
   pub known-bits : 6 ≤ length b → (byte b 0 ≡ 8 → ⊥) → false ≡ frameKnown b
   known-bits h n = rw (le-leb 6 (length b) h, ne-eqb (byte b 0) 8 n)
 
-  pub known-one : 6 ≤ length b → byte b 0 ≡ 8 → byte b 5 ≡ 1 → true ≡ frameKnown b
-  known-one h n o = rw (le-leb 6 (length b) h, eq-eqb (byte b 0) 8 n, eq-eqb (byte b 5) 1 o)
-
-  pub known-three : 6 ≤ length b → byte b 0 ≡ 8 → (byte b 5 ≡ 1 → ⊥) → eqb (byte b 5) 3 ≡ frameKnown b
-  known-three h n o = rw (le-leb 6 (length b) h, eq-eqb (byte b 0) 8 n, ne-eqb (byte b 5) 1 o)
-
-module _ (b : List ℕ) (f : Frame) where
-  pub three-product : 4 < acrossOf b * downOf b → false ≡ threeFit b f
-  three-product h = rw (lt-leb (acrossOf b * downOf b) 4 h)
-
-  module _ (small : acrossOf b * downOf b ≤ 4) where
-    pub three-ids : apart (take (f .channels) (f .ids)) ≡ false → false ≡ threeFit b f
-    three-ids h = rw (le-leb (acrossOf b * downOf b) 4 small, h)
-
-    module _ (distinct : apart (take (f .channels) (f .ids)) ≡ true) where
-      pub three-second : (byte b 10 ≡ 17 → ⊥) → false ≡ threeFit b f
-      three-second h = rw (le-leb (acrossOf b * downOf b) 4 small, distinct, ne-eqb (byte b 10) 17 h)
-
-      pub three-third : byte b 10 ≡ 17 → eqb (byte b 13) 17 ≡ threeFit b f
-      three-third h = rw (le-leb (acrossOf b * downOf b) 4 small, distinct, eq-eqb (byte b 10) 17 h)
+  pub known-count : 6 ≤ length b → byte b 0 ≡ 8 → within 1 4 (byte b 5) ≡ frameKnown b
+  known-count h n = rw (le-leb 6 (length b) h, eq-eqb (byte b 0) 8 n)
 
 -- a frame's test by the outcome of each of its parts
 module _ (b : List ℕ) (f : Frame) where
@@ -128,38 +112,40 @@ module _ (b : List ℕ) (f : Frame) where
     fits-high h = rw (lt-ltb 0 (f .width) (omega arith), le-ltb 0 (f .height) (omega arith))
 
     module _ (high : f .height ≡ 0 → ⊥) where
-      sides : (r : Bool) → (within 1 4 (acrossOf b) and within 1 4 (downOf b) and quantsFit f and (eqb (f .channels) 1 or threeFit b f)) ≡ r → r ≡ frameFits b f
+      sides : (r : Bool)
+          → (samplingFits b (f .channels) and quantsFit f and leb (areas (shapeOf f .factors)) 10 and apart (take (f .channels) (f .ids))) ≡ r
+          → r ≡ frameFits b f
       sides r e = rw (lt-ltb 0 (f .width) (omega arith), lt-ltb 0 (f .height) (omega arith)) (sym e)
 
-      pub fits-across : within 1 4 (acrossOf b) ≡ false → false ≡ frameFits b f
-      fits-across h = sides false (and-no (within 1 4 (acrossOf b)) _ h)
+      pub fits-sampling : samplingFits b (f .channels) ≡ false → false ≡ frameFits b f
+      fits-sampling h = sides false (and-no (samplingFits b (f .channels)) _ h)
 
-      module _ (across : within 1 4 (acrossOf b) ≡ true) where
-        pub fits-down : within 1 4 (downOf b) ≡ false → false ≡ frameFits b f
-        fits-down h = sides false (and-on (within 1 4 (acrossOf b)) _ false across (and-no (within 1 4 (downOf b)) _ h))
+      module _ (sampling : samplingFits b (f .channels) ≡ true) where
+        pub fits-quants : quantsFit f ≡ false → false ≡ frameFits b f
+        fits-quants h = sides false (and-on (samplingFits b (f .channels)) _ false sampling (and-no (quantsFit f) _ h))
 
-        module _ (down : within 1 4 (downOf b) ≡ true) where
-          nibbles : (r : Bool) → (quantsFit f and (eqb (f .channels) 1 or threeFit b f)) ≡ r → r ≡ frameFits b f
-          nibbles r e = sides r (and-on (within 1 4 (acrossOf b)) _ r across (and-on (within 1 4 (downOf b)) _ r down e))
+        module _ (quants : quantsFit f ≡ true) where
+          read : (r : Bool) → (leb (areas (shapeOf f .factors)) 10 and apart (take (f .channels) (f .ids))) ≡ r → r ≡ frameFits b f
+          read r e = sides r (and-on (samplingFits b (f .channels)) _ r sampling (and-on (quantsFit f) _ r quants e))
 
-          pub fits-quants : quantsFit f ≡ false → false ≡ frameFits b f
-          fits-quants h = nibbles false (and-no (quantsFit f) _ h)
+          pub fits-blocks : leb (areas (shapeOf f .factors)) 10 ≡ false → false ≡ frameFits b f
+          fits-blocks h = read false (and-no (leb (areas (shapeOf f .factors)) 10) _ h)
 
-          module _ (quants : quantsFit f ≡ true) where
-            pub fits-one : f .channels ≡ 1 → true ≡ frameFits b f
-            fits-one h = nibbles true (and-on (quantsFit f) _ true quants (rw (eq-eqb (f .channels) 1 h)))
-
-            pub fits-three : (f .channels ≡ 1 → ⊥) → threeFit b f ≡ frameFits b f
-            fits-three h = nibbles (threeFit b f) (and-on (quantsFit f) _ (threeFit b f) quants (rw (ne-eqb (f .channels) 1 h)))
+          pub fits-ids : leb (areas (shapeOf f .factors)) 10 ≡ true → apart (take (f .channels) (f .ids)) ≡ frameFits b f
+          fits-ids h = read _ (and-on (leb (areas (shapeOf f .factors)) 10) _ _ h refl)
 
 -- the frame, as the code puts it together
 pub frame-made :
-    (b : List ℕ) (c s w h hs vs : ℕ) (ids qids : List ℕ)
-    → c ≡ byte b 5 → s ≡ byte b 7 → w ≡ word b 3 → h ≡ word b 1
-    → hs ≡ cond (eqb c 1) 1 (s / 16) → vs ≡ cond (eqb c 1) 1 (s % 16)
-    → ids ≡ each c (λ k. byte b (6 + 3 * k)) → qids ≡ each c (λ k. byte b (8 + 3 * k))
-    → record { width = w; height = h; channels = c; hs = hs; vs = vs; ids = ids; qids = qids } ≡ frameOf b
-frame-made b c s w h hs vs ids qids ec es ew eh ehs evs ei eq = rw (ew, eh, ehs, evs, ei, eq, es, ec)
+    (b : List ℕ) (c w h : ℕ) (across down ids qids : List ℕ)
+    → c ≡ byte b 5
+    → w ≡ word b 3
+    → h ≡ word b 1
+    → across ≡ each c (λ k. counted c (acrossOf b k))
+    → down ≡ each c (λ k. counted c (downOf b k))
+    → ids ≡ each c (λ k. byte b (6 + 3 * k))
+    → qids ≡ each c (λ k. byte b (8 + 3 * k))
+    → record { width = w; height = h; channels = c; across = across; down = down; ids = ids; qids = qids } ≡ frameOf b
+frame-made b c w h across down ids qids ec ew eh ea ed ei eq = rw (ew, eh, ea, ed, ei, eq, ec)
 
 -- ---- the scan's tests
 
@@ -186,6 +172,9 @@ module _ (b : List ℕ) (ch : ℕ) where
         scan-last h = last-three (eqb (byte b (3 + 2 * ch)) 0) (rw (eq-eqb (byte b (1 + 2 * ch)) 0 start, eq-eqb (byte b (2 + 2 * ch)) 63 h))
 
 -- what is asked of one channel
+abbrev pub sampledAt : List ℕ → ℕ → Bool
+sampledAt b c = within 1 4 (acrossOf b c) and within 1 4 (downOf b c)
+
 abbrev pub quantFits : List ℕ → ℕ → Bool
 quantFits qids c = leb (getD qids c 0) 3
 

@@ -3,15 +3,17 @@
 // reader asks for no length. The header's steps stand on these.
 ghost use mathlib.Core.Path.{_≡_};
 ghost use mathlib.Core.Bool.{cond};
-ghost use mathlib.Core.List.{map};
-ghost use Prim.Native.Nat.{_+_, _*_, _/_, _%_};
+ghost use mathlib.Core.List.{[], _∷_, map};
+ghost use Prim.Native.Nat.{_+_, _*_, _/_, _%_, min};
 ghost use lib.Dec.{ltb, eqb};
 ghost use lib.ListN.{take};
-ghost use Rattle.reading.specs.Tests.{_and_, isNone, placeOf, apart, all};
+ghost use Rattle.reading.specs.Tests.{_and_, within, isNone, placeOf, apart, all};
 ghost use Rattle.reading.specs.Huffman.{sum};
 ghost use Rattle.reading.specs.Tables.{chosen};
-ghost use Rattle.reading.specs.Header.{byte, word, each, quantizerFits, countsOf, listable, tableFits, frameKnown, frameOf, quantsFit, threeFit, frameFits, scanKnown, inOrder, selected, complete};
+ghost use Rattle.reading.specs.Header.{byte, word, each, quantizerFits, countsOf, listable, tableFits};
+ghost use Rattle.reading.specs.Header.{frameKnown, frameOf, samplingFits, quantsFit, frameFits, scanKnown, inOrder, selected, complete};
 use reading::Frame;
+use reading::Mcu;
 use reading::Record;
 
 // ---- bytes; 0 behind the end
@@ -37,13 +39,13 @@ pub fn word_at(body: &[u8], place: usize) -> usize
 
 // ---- what a frame and a scan say of each channel
 
-// a byte for each of three channels, the first one's at a place and each other's a step behind; 0 behind the last channel
-pub fn each(body: &[u8], channels: usize, place: u8, step: u8) -> [usize; 3]
+// a byte for each of four channels, the first one's at a place and each other's a step behind; 0 behind the last channel
+pub fn each(body: &[u8], channels: usize, place: u8, step: u8) -> [usize; 4]
     ensures { λ r. ⌜ r ≡ each channels (λ c. byte (now (body .entry)) (place + step * c)) ⌝ }
 {
-    let mut bytes = [0usize; 3];
+    let mut bytes = [0usize; 4];
     let mut c: usize = 0;
-    while c < 3 {
+    while c < 4 {
         if channels <= c {
             return bytes;
         }
@@ -54,12 +56,12 @@ pub fn each(body: &[u8], channels: usize, place: u8, step: u8) -> [usize; 3]
 }
 
 // the high half of each byte
-pub fn high_halves(bytes: [usize; 3]) -> [usize; 3]
+pub fn high_halves(bytes: [usize; 4]) -> [usize; 4]
     ensures { λ r. ⌜ r ≡ map (λ x. x / 16) bytes ⌝ }
 {
     let mut halves = bytes;
     let mut c: usize = 0;
-    while c < 3 {
+    while c < 4 {
         halves[c] = bytes[c] / 16;
         c += 1;
     }
@@ -67,12 +69,12 @@ pub fn high_halves(bytes: [usize; 3]) -> [usize; 3]
 }
 
 // the low half of each byte
-pub fn low_halves(bytes: [usize; 3]) -> [usize; 3]
+pub fn low_halves(bytes: [usize; 4]) -> [usize; 4]
     ensures { λ r. ⌜ r ≡ map (λ x. x % 16) bytes ⌝ }
 {
     let mut halves = bytes;
     let mut c: usize = 0;
-    while c < 3 {
+    while c < 4 {
         halves[c] = bytes[c] % 16;
         c += 1;
     }
@@ -190,7 +192,7 @@ pub fn table_fits(body: &[u8]) -> bool
 
 // ---- the frame
 
-// long enough to hold a count, 8 bits, one channel or three
+// long enough to hold a count, 8 bits, one to four channels
 pub fn frame_known(body: &[u8]) -> bool
     ensures { λ r. ⌜ r ≡ frameKnown (now (body .entry)) ⌝ }
 {
@@ -200,36 +202,56 @@ pub fn frame_known(body: &[u8]) -> bool
     if byte_at(body, 0) != 8 {
         return false;
     }
-    let channels = byte_at(body, 5);
-    if channels == 1 {
-        return true;
-    }
-    channels == 3
+    reading::within(1, 4, byte_at(body, 5))
 }
 
-// one channel counts as 1 x 1
-fn factor(channels: usize, sampling: usize) -> usize
-    ensures { λ r. ⌜ r ≡ cond (eqb channels 1) 1 sampling ⌝ }
+// the factors of the channels: a single one counts as 1 x 1
+fn counted(channels: usize, factors: [usize; 4]) -> [usize; 4]
+    ensures { λ r. ⌜ r ≡ cond (eqb channels 1) (1 ∷ 0 ∷ 0 ∷ 0 ∷ []) factors ⌝ }
 {
-    if channels == 1 { 1 } else { sampling }
+    if channels == 1 {
+        return [1, 0, 0, 0];
+    }
+    factors
 }
 
 pub fn frame_of(body: &[u8]) -> Frame
     ensures { λ r. ⌜ r ≡ frameOf (now (body .entry)) ⌝ }
 {
     let channels = byte_at(body, 5);
-    let sampling = byte_at(body, 7);
+    let sampling = each(body, channels, 7, 3);
+    let across = counted(channels, high_halves(sampling));
+    let down = counted(channels, low_halves(sampling));
     let ids = each(body, channels, 6, 3);
     let qids = each(body, channels, 8, 3);
     Frame {
         width: word_at(body, 3),
         height: word_at(body, 1),
         channels: channels,
-        hs: factor(channels, sampling / 16),
-        vs: factor(channels, sampling % 16),
+        across: across,
+        down: down,
         ids: ids,
         qids: qids,
     }
+}
+
+// the sampling of every channel is 1..4, across and down
+fn sampling_fits(body: &[u8]) -> bool
+    ensures { λ r. ⌜ r ≡ samplingFits (now (body .entry)) (byte (now (body .entry)) 5) ⌝ }
+{
+    let channels = byte_at(body, 5);
+    let mut c: usize = 0;
+    while c < channels {
+        let sampling = byte_at(body, 7 + 3 * c);
+        if !reading::within(1, 4, sampling / 16) {
+            return false;
+        }
+        if !reading::within(1, 4, sampling % 16) {
+            return false;
+        }
+        c += 1;
+    }
+    true
 }
 
 // quantizer ids 0..3, for every channel
@@ -276,59 +298,48 @@ fn apart(list: &[usize]) -> bool
     true
 }
 
-// the component ids of the channels are apart; any count may come in, and behind the last id there is none
+// how many ids there are: any count of channels may come in, and behind the fourth there is none
+fn up_to_four(channels: usize) -> usize
+    ensures { λ r. ⌜ r ≡ min channels 4 ⌝ }
+{
+    if 3 < channels {
+        return 4;
+    }
+    channels
+}
+
+// the component ids of the channels are apart
 fn ids_apart(frame: Frame) -> bool
     ensures { λ r. ⌜ r ≡ apart (take (frame .channels) (frame .ids)) ⌝ }
 {
     let ids = frame.ids;
-    let channels = frame.channels;
-    if 3 < channels {
-        return apart(&ids);
-    }
-    apart(&ids[..channels])
+    let count = up_to_four(frame.channels);
+    apart(&ids[..count])
 }
 
-// in three channels: a sampling product up to 4, component ids apart, second and third sampling byte 17
-fn three_fit(body: &[u8], frame: Frame) -> bool
-    ensures { λ r. ⌜ r ≡ threeFit (now (body .entry)) frame ⌝ }
+// no zero side, sampling 1..4, quantizer ids 0..3, at most ten blocks in an MCU, component ids apart. A count of channels that no frame
+// has does not fit: its MCU has no block
+pub fn frame_fits(body: &[u8]) -> bool
+    ensures { λ r. ⌜ r ≡ (within 1 4 (byte (now (body .entry)) 5) and frameFits (now (body .entry)) (frameOf (now (body .entry)))) ⌝ }
 {
-    let sampling = byte_at(body, 7);
-    if 4 < (sampling / 16) * (sampling % 16) {
-        return false;
-    }
-    if !ids_apart(frame) {
-        return false;
-    }
-    if byte_at(body, 10) != 17 {
-        return false;
-    }
-    byte_at(body, 13) == 17
-}
-
-// no zero side, sampling 1..4, quantizer ids 0..3, and what three channels ask
-pub fn frame_fits(body: &[u8], frame: Frame) -> bool
-    ensures { λ r. ⌜ r ≡ frameFits (now (body .entry)) frame ⌝ }
-{
+    let frame = frame_of(body);
     if frame.width == 0 {
         return false;
     }
     if frame.height == 0 {
         return false;
     }
-    let sampling = byte_at(body, 7);
-    if !reading::within(1, 4, sampling / 16) {
-        return false;
-    }
-    if !reading::within(1, 4, sampling % 16) {
+    if !sampling_fits(body) {
         return false;
     }
     if !quants_fit(frame) {
         return false;
     }
-    if frame.channels == 1 {
-        return true;
+    let mcu = Mcu::of(frame);
+    if mcu.blocks == 0 {
+        return false;
     }
-    three_fit(body, frame)
+    ids_apart(frame)
 }
 
 // ---- the scan

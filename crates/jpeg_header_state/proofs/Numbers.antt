@@ -1,106 +1,117 @@
 -- The test of a frame's numbers says what the sizes of its record stand on, and a frame of the rules passes it.
-use Prim.Native.Nat.{ℕ, zero, suc, _*_, _<_, _≤_}
-use mathlib.Core.Path.{_≡_, refl, subst⁻¹}
-use mathlib.Core.Bool.{Bool, true, false, cond}
-use mathlib.Core.List.{[], _∷_}
-use mathlib.Core.Logic.{_⊎_, inl, inr, ⊎-elim}
+use Prim.Native.Nat.{ℕ, _*_, _≤_}
+use mathlib.Core.Path.{_≡_, refl, ap, _∙_}
+use mathlib.Core.Bool.{Bool, true, false}
 use native.Mathlib.Omega.{arith}
 use native.Mathlib.Nat.{mul-le-mul}
-use lib.Dec.{T, leb, eqb, lit<, lit≤, leb→le, eqb→eq}
-use lib.ListN.{getD}
-use borrow.Author.Tests.{le-leb}
+use lib.Dec.{T, ltb}
+use borrow.Author.Tests.{lt-ltb}
 use Rattle.reading.specs.declared.Frame.{Frame}
+use Rattle.reading.specs.declared.Mcu.{Mcu}
 use Rattle.reading.specs.Tests.{_and_, within}
-use Rattle.reading.proofs.Plain.{and-left, and-right}
-use Rattle.reading.proofs.Fits.{within-known}
+use Rattle.reading.specs.Layout.{areas, widest, highest, mcusAcross, mcusDown, perMcu, blockCount, outputLength}
+use Rattle.reading.specs.Tables.{shapeOf}
+use Rattle.reading.specs.Code.Mcus.{mcusOf, sampled, measured}
+use Rattle.reading.proofs.Plain.{and-left, and-right, is-true}
+use Rattle.reading.proofs.Fits.{so, within-known}
+use Rattle.reading.proofs.McuCounts.{between, mcus-asked}
+use Rattle.reading.proofs.Sampling.{Sampling, sampled-says, sampled-so, measured-is, blocks-least, wide-least, wide-most, high-least, high-most, channels-are}
 use Rattle.reading.proofs.Frames.{FrameOk}
-use Rattle.jpeg_header_state.specs.Segments.{mostOf, numbersFit}
+use Rattle.reading.proofs.Accepted.{ceiling-small}
+use Rattle.jpeg_header_state.specs.Segments.{numbersFit}
 
--- ---- how many channels, by the blocks that the first has
-
-module _ (h v ch : ℕ) (p : 1 ≤ h) (q : 1 ≤ v) (most : h * v ≤ mostOf ch) where
-  some : 1 * 1 ≤ h * v
-  some = mul-le-mul p q
-
-  across-most : h * 1 ≤ h * v
-  across-most = mul-le-mul {n₁ = h} {n₂ = h} (omega arith) q
-
-  down-most : 1 * v ≤ h * v
-  down-most = mul-le-mul {m₁ = v} {m₂ = v} p (omega arith)
-
-  counted : ((ch ≡ 1) × (h ≡ 1) × (v ≡ 1)) ⊎ ((ch ≡ 3) × (h * v ≤ 4))
-  counted = go (eqb ch 3) refl (eqb ch 1) refl most
-    where
-      go : (x : Bool) → eqb ch 3 ≡ x → (y : Bool) → eqb ch 1 ≡ y → h * v ≤ cond x 4 (cond y 1 0) → ((ch ≡ 1) × (h ≡ 1) × (v ≡ 1)) ⊎ ((ch ≡ 3) × (h * v ≤ 4))
-      go true i y j m = inr (eqb→eq ch 3 (subst⁻¹ T i tt), m)
-      go false i true j m = inl (eqb→eq ch 1 (subst⁻¹ T j tt), omega (arith, m, p, across-most), omega (arith, m, q, down-most))
-      go false i false j m = absurd (omega (arith, m, some))
-
--- ---- the sizes hang on the numbers alone: a frame of the rules that has them
-
-abbrev pub alike : Frame → Frame
-alike f =
-    record { width = f .width; height = f .height; channels = f .channels; hs = f .hs; vs = f .vs; ids = 0 ∷ 1 ∷ 2 ∷ []; qids = 0 ∷ 0 ∷ 0 ∷ [] }
-
-id-small : (c : ℕ) → getD (0 ∷ 1 ∷ 2 ∷ []) c 0 < 256
-id-small zero = lit< tt
-id-small (suc zero) = lit< tt
-id-small (suc (suc zero)) = lit< tt
-id-small (suc (suc (suc c))) = lit< tt
-
-qid-small : (c : ℕ) → getD (0 ∷ 0 ∷ 0 ∷ []) c 0 ≤ 3
-qid-small zero = lit≤ tt
-qid-small (suc zero) = lit≤ tt
-qid-small (suc (suc zero)) = lit≤ tt
-qid-small (suc (suc (suc c))) = lit≤ tt
+-- what the test says. (Of a single channel it asks no factors of 1: the sizes stand on less than a frame of the rules has)
+pub record Numbers (f : Frame) : Type 0 where
+  pub wide : (1 ≤ f .width) × (f .width ≤ 65535)
+  pub high : (1 ≤ f .height) × (f .height ≤ 65535)
+  pub sampling : Sampling f
 
 module _ (f : Frame) where
-  pub alike-ok : numbersFit f ≡ true → FrameOk (alike f)
+  pub numbers-say : numbersFit f ≡ true → Numbers f
   unfolding numbersFit
-  alike-ok e =
-      let a : T (within 1 65535 (f .width) and within 1 65535 (f .height) and within 1 4 (f .hs) and within 1 4 (f .vs) and leb (f .hs * f .vs) (mostOf (f .channels))) = subst⁻¹ T e tt in
+  numbers-say e =
+      let a : T (within 1 65535 (f .width) and within 1 65535 (f .height) and sampled f) = so e in
       let b = and-right (within 1 65535 (f .width)) _ a in
-      let c = and-right (within 1 65535 (f .height)) _ b in
-      let d = and-right (within 1 4 (f .hs)) _ c in
-      let wide = within-known 1 65535 (f .width) (and-left (within 1 65535 (f .width)) _ a) in
-      let high = within-known 1 65535 (f .height) (and-left (within 1 65535 (f .height)) _ b) in
-      let across = within-known 1 4 (f .hs) (and-left (within 1 4 (f .hs)) _ c) in
-      let down = within-known 1 4 (f .vs) (and-left (within 1 4 (f .vs)) _ d) in
-      let k = counted (f .hs) (f .vs) (f .channels) (across .0) (down .0) (leb→le _ _ (and-right (within 1 4 (f .vs)) _ d)) in
       record {
-        wide = (wide .0, omega (arith, wide .1));
-        high = (high .0, omega (arith, high .1));
-        count = ⊎-elim (λ p. inl (p .0)) (λ p. inr (p .0)) k;
-        few = ⊎-elim (λ p. (omega (arith, p .0), omega (arith, p .0))) (λ p. (omega (arith, p .0), omega (arith, p .0))) k;
-        across = across;
-        down = down;
-        product = ⊎-elim (λ p. one-block (p .1) (p .2)) (λ p. p .1) k;
-        single = λ one. ⊎-elim (λ p. (p .1, p .2)) (λ p. absurd (omega (arith, one, p .0))) k;
-        ids = id-small;
-        qids = qid-small;
-        distinct = ⊎-elim (λ p. rw (p .0) tt) (λ p. rw (p .0) tt) k;
+        wide = within-known 1 65535 (f .width) (and-left (within 1 65535 (f .width)) _ a);
+        high = within-known 1 65535 (f .height) (and-left (within 1 65535 (f .height)) _ b);
+        sampling = sampled-says f (is-true (sampled f) (and-right (within 1 65535 (f .height)) _ b));
       }
-    where
-      one-block : f .hs ≡ 1 → f .vs ≡ 1 → f .hs * f .vs ≤ 4
-      one-block p q = rw (p, q) (lit≤ tt)
 
   -- a frame of the rules
   pub numbers-fit : FrameOk f → numbersFit f ≡ true
   unfolding numbersFit
   numbers-fit ok =
       rw (
-        le-leb 1 (f .width) (ok .wide .0),
-        le-leb (f .width) 65535 (omega (arith, ok .wide)),
-        le-leb 1 (f .height) (ok .high .0),
-        le-leb (f .height) 65535 (omega (arith, ok .high)),
-        le-leb 1 (f .hs) (ok .across .0),
-        le-leb (f .hs) 4 (ok .across .1),
-        le-leb 1 (f .vs) (ok .down .0),
-        le-leb (f .vs) 4 (ok .down .1),
-        le-leb (f .hs * f .vs) (mostOf (f .channels)) most,
+        between 1 65535 (f .width) (ok .wide .0) (omega (arith, ok .wide)),
+        between 1 65535 (f .height) (ok .high .0) (omega (arith, ok .high)),
+        sampled-so f (ok .sampling),
       ) refl
+
+  -- the test by its ways out
+  pub numbers-wide : within 1 65535 (f .width) ≡ false → false ≡ numbersFit f
+  unfolding numbersFit
+  numbers-wide e = rw e refl
+
+  module _ (wide : within 1 65535 (f .width) ≡ true) where
+    pub numbers-high : within 1 65535 (f .height) ≡ false → false ≡ numbersFit f
+    unfolding numbersFit
+    numbers-high e = rw (wide, e) refl
+
+    pub numbers-sampled : within 1 65535 (f .height) ≡ true → sampled f ≡ numbersFit f
+    unfolding numbersFit
+    numbers-sampled e = rw (wide, e) refl
+
+  -- an MCU was measured where there is a block in it
+  pub measured-test : ltb 0 (measured f .blocks) ≡ sampled f
+  unfolding measured
+  measured-test = go (sampled f) refl
     where
-      most : f .hs * f .vs ≤ mostOf (f .channels)
-      most =
-          ⊎-elim (λ e. subst⁻¹ (λ n. f .hs * f .vs ≤ mostOf n) e (rw (ok .single e .0, ok .single e .1) (lit≤ tt)))
-          (λ e. subst⁻¹ (λ n. f .hs * f .vs ≤ mostOf n) e (ok .product)) (ok .count)
+      go : (t : Bool) → sampled f ≡ t → ltb 0 (measured f .blocks) ≡ t
+      go true e =
+          let ok = sampled-says f e in
+          lt-ltb 0 (measured f .blocks) (omega (arith, ap (λ m. m .blocks) (measured-is f ok), blocks-least f ok, ok .some))
+      go false e = rw e refl
+
+-- ---- the sizes are small
+
+module _ (f : Frame) (ok : Numbers f) where
+  pub mcus-small : mcusAcross (shapeOf f) * mcusDown (shapeOf f) ≤ 67108864
+  mcus-small =
+      mul-le-mul {n₂ = 8192} {m₂ = 8192}
+      (ceiling-small (f .width) (8 * widest (shapeOf f .factors)) (omega (arith, ok .wide)) (omega (arith, wide-least f (ok .sampling))))
+      (ceiling-small (f .height) (8 * highest (shapeOf f .factors)) (omega (arith, ok .high)) (omega (arith, high-least f (ok .sampling))))
+
+  pub count-small : blockCount (shapeOf f) ≤ 671088640
+  unfolding blockCount perMcu
+  count-small = mul-le-mul {n₂ = 67108864} {m₂ = 10} mcus-small (ok .sampling .blocks)
+
+  pub bytes-are : outputLength (shapeOf f) ≡ f .width * f .height * f .channels
+  unfolding outputLength
+  bytes-are = ap (λ k. f .width * f .height * k) (channels-are f)
+
+  pub pixels-small : f .width * f .height ≤ 4294836225
+  pixels-small = mul-le-mul {n₂ = 65535} {m₂ = 65535} (ok .wide .1) (ok .high .1)
+
+  pub output-small : f .width * f .height * f .channels ≤ 17179344900
+  output-small = mul-le-mul {n₂ = 4294836225} {m₂ = 4} pixels-small (ok .sampling .few)
+
+-- ---- the count of blocks, as the code makes it of the MCU that was measured
+
+module _ (f : Frame) (ok : Numbers f) {m : Mcu} (mcu : m ≡ measured f) where
+  measured-so : m ≡ record { across = widest (shapeOf f .factors); down = highest (shapeOf f .factors); blocks = areas (shapeOf f .factors) }
+  measured-so = mcu ∙ measured-is f (ok .sampling)
+
+  pub across-counted : {n : ℕ} → n ≡ mcusOf (f .width) (m .across) → n ≡ mcusAcross (shapeOf f)
+  across-counted e =
+      mcus-asked (f .width) (widest (shapeOf f .factors)) (e ∙ ap (λ k. mcusOf (f .width) (k .across)) measured-so)
+      (ok .wide .1) (wide-least f (ok .sampling)) (wide-most f (ok .sampling))
+
+  pub down-counted : {n : ℕ} → n ≡ mcusOf (f .height) (m .down) → n ≡ mcusDown (shapeOf f)
+  down-counted e =
+      mcus-asked (f .height) (highest (shapeOf f .factors)) (e ∙ ap (λ k. mcusOf (f .height) (k .down)) measured-so)
+      (ok .high .1) (high-least f (ok .sampling)) (high-most f (ok .sampling))
+
+  pub blocks-counted : {x y : ℕ} → x ≡ mcusAcross (shapeOf f) → y ≡ mcusDown (shapeOf f) → x * y * m .blocks ≡ blockCount (shapeOf f)
+  unfolding blockCount perMcu
+  blocks-counted across down = rw (across, down) (ap (λ k. mcusAcross (shapeOf f) * mcusDown (shapeOf f) * k .blocks) measured-so)

@@ -4,16 +4,19 @@ use mathlib.Core.Path.{_≡_, sym, ap, _∙_}
 use mathlib.Core.Bool.{Bool, true, false, not, cond}
 use mathlib.Core.List.{List}
 use native.Mathlib.Omega.{arith}
-use lib.Dec.{eqb}
+use lib.Dec.{leb, eqb}
 use lib.ListN.{length, set}
 use borrow.Author.Tests.{lt-ltb, le-ltb, eq-eqb, ne-eqb}
 use Rattle.reading.specs.declared.Refusal.the-variants.{Malformed, Unsupported}
 use Rattle.reading.specs.declared.Case.the-variants.{Marker}
 use Rattle.reading.specs.declared.Header.{Header}
+use Rattle.reading.specs.Tests.{_and_, within}
 use Rattle.reading.specs.Huffman.{sum}
 use Rattle.reading.specs.Layout.{blockCount, outputLength}
 use Rattle.reading.specs.Tables.{shapeOf}
 use Rattle.reading.specs.Header.{Stage, more, done, stop, stop-if, byte, word, moved, each, withQuantizer, countsOf, withTable, frameKnown, frameOf, frameFits, withFrame, hasFrame, frame, withInterval, interval, dcId, acId, recordOf, complete, scanKnown, inOrder, selected, scanSegment}
+use Rattle.reading.proofs.Plain.{and-right, is-true}
+use Rattle.reading.proofs.Fits.{so}
 use Rattle.reading.proofs.Stages.{stop-yes, stop-go}
 use Rattle.reading.proofs.Accepted.{work-is}
 
@@ -111,6 +114,10 @@ module _ (b : List ℕ) (h : Header) (e : ℕ) where
             sym (stop-go (hasFrame h) Malformed _ (le-ltb 0 (h .frame .channels) first) ∙ stop-go (not (frameKnown b)) Unsupported _ (ap not known)
             ∙ stop-go (not (eqb (length b) (6 + 3 * byte b 5))) Malformed _ (ap not (eq-eqb (length b) (6 + 3 * byte b 5) whole))
             ∙ stop-go (not (frameFits b (frameOf b))) Unsupported _ (ap not q))
+
+        -- the frame's test asks for the count of channels once more
+        pub fits-known : {r : Bool} → r ≡ (within 1 4 (byte b 5) and frameFits b (frameOf b)) → r ≡ frameFits b (frameOf b)
+        fits-known q = q ∙ ap (λ t. t and frameFits b (frameOf b)) (is-true (within 1 4 (byte b 5)) (and-right (eqb (byte b 0) 8) _ (and-right (leb 6 (length b)) _ (so known))))
 
   pub interval-bad : (length b ≡ 2 → ⊥) → stop Malformed ≡ interval b h e
   interval-bad q = sym (stop-yes (not (eqb (length b) 2)) Malformed _ (ap not (ne-eqb (length b) 2 q)))

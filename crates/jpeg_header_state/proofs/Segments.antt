@@ -1,6 +1,6 @@
 -- The definitions of specs/Segments by their ways out, and a state of the header itself passes both tests.
 use Prim.Native.Nat.{ℕ, _+_, _≤_}
-use mathlib.Core.Path.{_≡_, refl, sym, ap, _∙_}
+use mathlib.Core.Path.{_≡_, refl, sym, ap, ap₂, _∙_}
 use mathlib.Core.Bool.{Bool, true, false, not}
 use mathlib.Core.List.{List}
 use native.Mathlib.Omega.{arith}
@@ -44,7 +44,9 @@ module _ (h : Header) (st : Stage) where
 
   pub behind-odd : (h .frame .channels ≡ 0 → ⊥) → numbersFit (h .frame) ≡ false → stop Unsupported ≡ behindFrame h st
   unfolding behindFrame
-  behind-odd p q = sym (stop-yes (hasFrame h and not (numbersFit (h .frame))) Unsupported st (rw (lt-ltb 0 (h .frame .channels) (omega (arith, p)), q) refl))
+  behind-odd p q =
+      sym (stop-yes (hasFrame h and not (numbersFit (h .frame))) Unsupported st
+      (ap₂ (λ (s t : Bool). s and not t) (lt-ltb 0 (h .frame .channels) (omega (arith, p))) q))
 
   -- by the test that the frame passes where there is one
   behind : (hasFrame h ≡ true → numbersFit (h .frame) ≡ true) → behindFrame h st ≡ st

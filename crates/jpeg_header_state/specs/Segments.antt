@@ -1,14 +1,15 @@
 -- What a segment makes of the header's state, as the code answers it, for every state: the two tests that a state of the header
 -- itself always passes, and a stage as an answer.
-use Prim.Native.Nat.{ℕ, _+_, _*_}
-use mathlib.Core.Bool.{Bool, not, cond}
+use Prim.Native.Nat.{ℕ, _+_}
+use mathlib.Core.Bool.{Bool, not}
 use mathlib.Core.List.{List}
-use lib.Dec.{leb, eqb}
+use lib.Dec.{leb}
 use lib.ListN.{length}
 use Rattle.reading.specs.declared.Refusal.the-variants.{Malformed, Unsupported}
 use Rattle.reading.specs.declared.Frame.{Frame}
 use Rattle.reading.specs.declared.Header.{Header}
 use Rattle.reading.specs.Tests.{_and_, within}
+use Rattle.reading.specs.Code.Mcus.{sampled}
 use Rattle.reading.specs.Header.{Stage, more, done, stop, stop-if, hasFrame, opening, noRecord}
 use Rattle.jpeg_header_state.specs.declared.Progress.the-variants.{More, Done, Stop}
 use Rattle.jpeg_header_state.specs.declared.Stepped.{Stepped}
@@ -24,15 +25,10 @@ unfoldable pub inSegment : List ℕ → Header → ℕ → Stage → Stage
 unfolding stop-if
 inSegment b h e st = stop-if (not (leb (h .at + length b) e)) Malformed st
 
--- the most blocks that the first channel has in an MCU: 4 of three channels, 1 of a single one; no other count is read
-abbrev pub mostOf : ℕ → ℕ
-mostOf ch = cond (eqb ch 3) 4 (cond (eqb ch 1) 1 0)
-
--- the numbers of a frame that is read: sides of two bytes and not 0, sampling 1..4, and so many blocks in an MCU
+-- the numbers of a frame that is read: sides of two bytes and not 0, and sampling that a frame can have
 unfoldable pub numbersFit : Frame → Bool
-numbersFit f =
-    within 1 65535 (f .width) and within 1 65535 (f .height) and within 1 4 (f .hs) and within 1 4 (f .vs)
-    and leb (f .hs * f .vs) (mostOf (f .channels))
+unfolding sampled
+numbersFit f = within 1 65535 (f .width) and within 1 65535 (f .height) and sampled f
 
 -- a scan behind a frame with other numbers is not read
 unfoldable pub behindFrame : Header → Stage → Stage

@@ -10,12 +10,13 @@ ghost use Rattle.reading.specs.declared.Refusal.the-variants.{Malformed};
 ghost use Rattle.reading.specs.Layout.{blockCount, outputLength};
 ghost use Rattle.reading.specs.Tables.{shapeOf};
 ghost use Rattle.reading.specs.Header.{more, done, stop, stop-if, moved, quantizer, huffman, frame, interval, recordOf, scanSegment};
-ghost use Rattle.jpeg_header_state.specs.Segments.{stepped, inSegment, mostOf, numbersFit, behindFrame};
+ghost use Rattle.jpeg_header_state.specs.Segments.{stepped, inSegment, numbersFit, behindFrame};
 use reading::Budget;
 use reading::Case;
 use reading::Frame;
 use reading::Header;
 use reading::Limits;
+use reading::Mcu;
 use reading::Record;
 use reading::Refusal;
 
@@ -176,10 +177,10 @@ pub fn frame(body: &[u8], state: Header, end: usize) -> Stepped
     if body.len() != 6 + 3 * channels {
         return Stepped::stop(Refusal::Malformed); // a length that is not the channels'
     }
-    let found = jpeg_header_rules::frame_of(body);
-    if !jpeg_header_rules::frame_fits(body, found) {
+    if !jpeg_header_rules::frame_fits(body) {
         return Stepped::stop(Refusal::Unsupported); // sides, sampling or ids
     }
+    let found = jpeg_header_rules::frame_of(body);
     Stepped::more(state.with_frame(end, found))
 }
 
@@ -196,19 +197,6 @@ pub fn interval(body: &[u8], state: Header, end: usize) -> Stepped
 
 // ---- the scan, and the record that it gives
 
-// the most blocks that the first channel has in an MCU
-fn most_of(channels: usize) -> usize
-    ensures { λ r. ⌜ r ≡ mostOf channels ⌝ }
-{
-    if channels == 3 {
-        return 4;
-    }
-    if channels == 1 {
-        return 1;
-    }
-    0
-}
-
 // The numbers of a frame that is read: behind this test no size of the record wraps.
 fn numbers_fit(frame: Frame) -> bool
     ensures { λ r. ⌜ r ≡ numbersFit frame ⌝ }
@@ -219,13 +207,8 @@ fn numbers_fit(frame: Frame) -> bool
     if !reading::within(1, Limits::SIDE, frame.height) {
         return false;
     }
-    if !reading::within(1, 4, frame.hs) {
-        return false;
-    }
-    if !reading::within(1, 4, frame.vs) {
-        return false;
-    }
-    frame.hs * frame.vs <= most_of(frame.channels)
+    let mcu = Mcu::of(frame);
+    0 < mcu.blocks
 }
 
 // the blocks of a picture: its MCUs across, times those down, times the blocks of one
@@ -233,9 +216,10 @@ fn block_count(frame: Frame) -> usize
     requires { ⌜ numbersFit frame ≡ true ⌝ }
     ensures { λ r. ⌜ r ≡ blockCount (shapeOf frame) ⌝ }
 {
-    let across = reading::mcus(frame.width, frame.hs);
-    let down = reading::mcus(frame.height, frame.vs);
-    across * down * reading::mcu_blocks(frame.hs, frame.vs, frame.channels)
+    let mcu = Mcu::of(frame);
+    let across = reading::mcus(frame.width, mcu.across);
+    let down = reading::mcus(frame.height, mcu.down);
+    across * down * mcu.blocks
 }
 
 // the bytes of a picture

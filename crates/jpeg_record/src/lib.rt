@@ -21,12 +21,6 @@ fn same_list(a: &[usize], b: &[usize]) -> bool
     true
 }
 
-fn same_three(a: [usize; 3], b: [usize; 3]) -> bool
-    ensures { λ r. ⌜ r ≡ eqList a b ⌝ }
-{
-    same_list(&a, &b)
-}
-
 fn same_four(a: [usize; 4], b: [usize; 4]) -> bool
     ensures { λ r. ⌜ r ≡ eqList a b ⌝ }
 {
@@ -45,20 +39,24 @@ fn same_frame(a: Frame, b: Frame) -> bool
     if a.channels != b.channels {
         return false;
     }
-    if a.hs != b.hs {
+    let a1 = a.across;
+    let b1 = b.across;
+    if !same_four(a1, b1) {
         return false;
     }
-    if a.vs != b.vs {
+    let a2 = a.down;
+    let b2 = b.down;
+    if !same_four(a2, b2) {
         return false;
     }
-    let a1 = a.ids;
-    let b1 = b.ids;
-    if !same_three(a1, b1) {
+    let a3 = a.ids;
+    let b3 = b.ids;
+    if !same_four(a3, b3) {
         return false;
     }
-    let a2 = a.qids;
-    let b2 = b.qids;
-    same_three(a2, b2)
+    let a4 = a.qids;
+    let b4 = b.qids;
+    same_four(a4, b4)
 }
 
 fn same_tables(a: Tables, b: Tables) -> bool
@@ -84,12 +82,12 @@ fn same_scan(a: Record, b: Record) -> bool
 {
     let a1 = a.dcids;
     let b1 = b.dcids;
-    if !same_three(a1, b1) {
+    if !same_four(a1, b1) {
         return false;
     }
     let a2 = a.acids;
     let b2 = b.acids;
-    if !same_three(a2, b2) {
+    if !same_four(a2, b2) {
         return false;
     }
     if a.interval != b.interval {

@@ -105,10 +105,19 @@ rows-over p channels width n k d h e l =
 
 -- ---- the code's stores
 
--- a pixel's one channel
-pub one-channel : (x a n : ℕ) (d : List ℕ) → set d (a + n) x ≡ written (λ c. x) (a + n * 1) 1 d
+-- a pixel's one, two and four channels
+pub one-of : (f : ℕ → ℕ) (a n : ℕ) (d : List ℕ) {x : ℕ} → x ≡ f 0 → set d (a + n) x ≡ written f (a + n * 1) 1 d
 unfolding written
-one-channel x a n d = rw (add-zero, mul-one)
+one-of f a n d p = rw (add-zero, mul-one, p)
+
+pub two-of : (f : ℕ → ℕ) (a : ℕ) (d : List ℕ) {x y : ℕ} → x ≡ f 0 → y ≡ f 1 → set (set d a x) (a + 1) y ≡ written f a 2 d
+unfolding written
+two-of f a d p q = rw (add-zero, p, q)
+
+pub four-of : (f : ℕ → ℕ) (a : ℕ) (d : List ℕ) {x y z w : ℕ} → x ≡ f 0 → y ≡ f 1 → z ≡ f 2 → w ≡ f 3
+    → set (set (set (set d a x) (a + 1) y) (a + 2) z) (a + 3) w ≡ written f a 4 d
+unfolding written
+four-of f a d p q r s = rw (add-zero, p, q, r, s)
 
 -- one byte at several places
 pub once : (x a : ℕ) (d : List ℕ) → set d a x ≡ written (λ _. x) a 1 d

@@ -1,5 +1,6 @@
 -- Laws of rendering.
 pub mod Drawing
+pub mod Lanes
 pub mod Shades
 pub mod RowPlaces
 pub mod Spreading

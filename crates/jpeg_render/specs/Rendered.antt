@@ -2,19 +2,18 @@
 use Prim.Native.Nat.{ℕ, _*_}
 use mathlib.Core.Bool.{Bool, cond}
 use mathlib.Core.List.{List}
-use lib.Dec.{eqb, leb}
+use lib.Dec.{leb}
 use lib.ListN.{length}
 use Rattle.reading.specs.declared.Frame.{Frame}
-use Rattle.reading.specs.Tests.{_and_, _or_, within, over}
+use Rattle.reading.specs.Tests.{_and_, over}
 use Rattle.reading.specs.Layout.{blockCount}
 use Rattle.reading.specs.Tables.{shapeOf}
 use Rattle.reading.specs.Reading.{picture}
+use Rattle.reading.specs.Code.Mcus.{sampled}
 
--- the frame's numbers: three channels, or one that is one block wide in an MCU; sampling factors; sides of two bytes
+-- the frame's numbers: one to four channels with sampling factors that a frame can have; sides of two bytes
 unfoldable pub framed : Frame → Bool
-framed f =
-    (eqb (f .channels) 3 or (eqb (f .channels) 1 and eqb (f .hs) 1))
-    and within 1 4 (f .hs) and within 1 4 (f .vs) and leb (f .width) 65535 and leb (f .height) 65535
+framed f = sampled f and leb (f .width) 65535 and leb (f .height) 65535
 
 -- the picture has room in so many bytes, and so many samples are those of all blocks
 unfoldable pub fits : Frame → ℕ → ℕ → Bool

@@ -25,7 +25,6 @@ use Rattle.jpeg_scan_plan.specs.declared.Plan.{Plan}
 use Rattle.jpeg_scan_plan.specs.Plans.{chan, Stands, Quantizes}
 use Rattle.jpeg_scan_plan.specs.Marks.{brokeIn}
 use Rattle.jpeg_scan.specs.Steps.{ahead, resumed, before, placed, inked, Passed}
-use Rattle.jpeg_scan_plan.proofs.Standing.{chan-below}
 use Rattle.jpeg_scan_plan.proofs.Marks.{broke-first, broke-later}
 use Rattle.jpeg_scan.proofs.Onward.{before-none, before-before, before-broke, ahead-none, resumed-none, inside, channel-here, blockAt, past, block-stop, block-next, block-reach}
 use Rattle.jpeg_scan.proofs.Samples.{inked-not, inked-none, inked-more, inked-one, painted-length}
@@ -50,8 +49,8 @@ pub record Along (n : Plan) (from q : ScanCursor) (j : ℕ) : Type 0 where
 pub along-none : (n : Plan) (q : ScanCursor) → Along n q q 0
 along-none n q = record { place = omega arith; few = omega arith; left = omega arith }
 
-pub below : (lumas j : ℕ) {c : ℕ} → c ≡ chan lumas j → c < 3
-below lumas j {c} u = subst⁻¹ (λ (k : ℕ). k < 3) u (chan-below lumas j)
+pub below : (order j : ℕ) {c : ℕ} → c ≡ chan order j → c < 4
+below order j {c} u = omega (arith, u)
 
 module _ {n : Plan} {from q : ScanCursor} {j : ℕ} (a : Along n from q j) where
   pub along-at : (m : ℕ) → from .done ≡ m * n .per → q .done ≡ m * n .per + j
@@ -171,9 +170,9 @@ module _ {s : List ℕ} {n : Plan} {write : Bool} {old : List ℕ} {from : ScanC
     behind : (turn : ScanCursor) → j < n .per → entered j (ahead s p (n .blocks) q) (resumed s p (n .blocks) turn q) ≡ resumed s p (n .blocks) (turnOf j turn q) q
     behind turn h = entered-here j _ (λ (c : ScanCursor). resumed s p (n .blocks) c q) turn q (λ (l : 0 < j). inside st s m j (n .blocks) q at l h)
 
-    module _ (h : j < n .per) (i : q .done < n .blocks) {c : ℕ} (u : c ≡ chan (n .lumas) j) {x : BlockRead} (v : x ≡ said (blockAt (head n s) n s c q)) where
-      few-c : c < 3
-      few-c = below (n .lumas) j u
+    module _ (h : j < n .per) (i : q .done < n .blocks) {c : ℕ} (u : c ≡ chan (n .order) j) {x : BlockRead} (v : x ≡ said (blockAt (head n s) n s c q)) where
+      few-c : c < 4
+      few-c = below (n .order) j u
 
       abbrev own : ℕ → List ℕ
       own c = take 64 (drop (getD (n .quants) c 0) (head n s))
@@ -207,7 +206,7 @@ module _ {s : List ℕ} {n : Plan} {write : Bool} {old : List ℕ} {from : ScanC
                 ∙ inked-more (p .shape) quant write (from .done) (o .levels) (l ∷ []) old (λ (t : write ≡ true). omega (arith, room t, w .along .place));
           }
 
-  pub further : j < n .per → q .done < n .blocks → {c : ℕ} → c ≡ chan (n .lumas) j → {x : BlockRead} → x ≡ said (blockAt (head n s) n s c q)
+  pub further : j < n .per → q .done < n .blocks → {c : ℕ} → c ≡ chan (n .order) j → {x : BlockRead} → x ≡ said (blockAt (head n s) n s c q)
       → {b : Bits} {z : ℤ} {k : ℕ} → x ≡ Got b z k → {l : List ℤ} → l ≡ levelsOf (blockAt (head n s) n s c q) → {new′ : List ℕ} → new′ ≡ paintedAt n s c q write l k new
       → (write ≡ true → 64 * n .blocks ≤ length old) → Walk s n write old from new′ (past q c z b) (j + 1)
   further h i {c} u v {k = k} g {l} y d room =

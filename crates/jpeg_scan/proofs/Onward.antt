@@ -162,7 +162,7 @@ module _ {t : List ℕ} {n : Plan} {p : scan.Plan} (st : Stands t n p) (s : List
     place-in : k % perMcu (p .shape) ≡ j
     place-in = ap₂ (λ (a b : ℕ). a % b) e (st .per-is) ∙ mul-add-mod-self-right m (n .per) j ∙ mod-eq-of-lt h
 
-    pub channel-here : channelOf (p .shape) k ≡ chan (n .lumas) j
+    pub channel-here : channelOf (p .shape) k ≡ chan (n .order) j
     unfolding channelOf
     channel-here = ap (λ (i : ℕ). channelIn (p .shape .factors) i) place-in ∙ st .channel-is j h
 
@@ -187,7 +187,7 @@ module _ {t : List ℕ} {n : Plan} {p : scan.Plan} (st : Stands t n p) (s : List
           (turn-block (file s) p k (cursorOf q) (q .predictors) c (block (file s .next) (p .channels c .dc) (p .channels c .ac) (getD (q .predictors) c (pos 0)) (q .bits)))
 
   -- the block at a cursor
-  module _ (m j N : ℕ) (turn q : ScanCursor) (e : q .done ≡ m * n .per + j) (h : j < n .per) (i : q .done < N) (c : ℕ) (u : c ≡ chan (n .lumas) j) (few : c < 3) where
+  module _ (m j N : ℕ) (turn q : ScanCursor) (e : q .done ≡ m * n .per + j) (h : j < n .per) (i : q .done < N) (c : ℕ) (u : c ≡ chan (n .order) j) (few : c < 4) where
     abbrev B : Read Bits (List ℤ)
     B = blockAt t n s c q
 

@@ -15,6 +15,8 @@ use Rattle.reading.specs.Layout.{Shape, channelOf}
 use Rattle.reading.specs.Scan as scan
 use Rattle.reading.specs.Scan.{Cursor, Scanned, whole, broke, here, onwards}
 use Rattle.reading.specs.Code.Scans.{cursorOf, scanOf}
+use Rattle.reading.specs.Tables.{shapeOf, quantizersOf}
+use Rattle.reading.specs.Code.Painted.{drawn}
 use Rattle.reading.specs.Reading.{dequantized, blockSamples, samplesOf}
 use Rattle.jpeg_scan_plan.specs.declared.Plan.{Plan}
 use Rattle.jpeg_scan_plan.specs.declared.Halt.{Halt}
@@ -88,3 +90,7 @@ abbrev pub Left : Bool → List ℕ → Record → List ℕ → List ℕ → Typ
 Left false s r old new = new ≡ old
 Left true s r old new =
     (ls : List (List ℤ)) (b : Bits) → scanOf s r ≡ whole ls b → new ≡ over (samplesOf s r ls) old
+
+-- and what is left where it is read twice, so that a fault writes nothing
+abbrev pub drawnFor : List ℕ → Record → List ℕ → List ℕ
+drawnFor s r old = drawn (shapeOf (r .frame)) (quantizersOf s r) (r .blocks) (scanOf s r) old

@@ -4,11 +4,11 @@ ghost use mathlib.Core.Path.{_≡_};
 ghost use mathlib.Core.Bool.{true, cond};
 ghost use Prim.Native.Nat.{_+_, _*_, _≤_};
 ghost use lib.ListN.{length, take, drop};
-ghost use Rattle.reading.specs.Tables.{shapeOf, quantizersOf};
-ghost use Rattle.reading.specs.Code.Painted.{samplesTo, drawn};
+ghost use Rattle.reading.specs.Code.Painted.{samplesTo};
 ghost use Rattle.reading.specs.Code.Scans.{scanOf};
 ghost use Rattle.reading.specs.Code.Answers.{scanRead};
-ghost use Rattle.jpeg_scan.specs.Steps.{placed, Went, Left};
+ghost use Rattle.jpeg_scan_plan.specs.Plans.{planFor};
+ghost use Rattle.jpeg_scan.specs.Steps.{placed, Went, Left, drawnFor};
 use jpeg_scan_plan::CursorRead;
 use jpeg_scan_plan::Halt;
 use jpeg_scan_plan::Plan;
@@ -55,6 +55,7 @@ fn mcu(s: &[u8], plan: Plan, from: ScanCursor, write: bool, scratch: &mut [u8]) 
     let dcs = plan.dcs;
     let acs = plan.acs;
     let quants = plan.quants;
+    let mut order = plan.order;
     let mut levels = [0i16; 64];
     let mut bits = from.bits;
     let mut predictors = from.predictors;
@@ -67,7 +68,7 @@ fn mcu(s: &[u8], plan: Plan, from: ScanCursor, write: bool, scratch: &mut [u8]) 
         if plan.blocks <= done {
             break 'walk Halt::No;
         }
-        let c = jpeg_scan_plan::channel(j, plan.lumas);
+        let c = jpeg_scan_plan::channel(order);
         let dc = dcs[c];
         let ac = acs[c];
         let prediction = predictors[c];
@@ -81,6 +82,7 @@ fn mcu(s: &[u8], plan: Plan, from: ScanCursor, write: bool, scratch: &mut [u8]) 
                 bits = b;
             }
         }
+        order = order / 4;
         done += 1;
         j += 1;
     };
@@ -94,12 +96,12 @@ fn mcu(s: &[u8], plan: Plan, from: ScanCursor, write: bool, scratch: &mut [u8]) 
     }
 }
 
-// The whole scan of a record, with or without its samples.
-fn run(s: &[u8], found: Record, write: bool, scratch: &mut [u8]) -> ScanRead
-    requires { ⌜ (write ≡ true → 64 * found .blocks ≤ length (now scratch)) ⌝ }
+// The whole scan of a record, with or without its samples. Its plan is made by the caller: made here it costs some per cent of the time,
+// since the loop over blocks is then compiled with it.
+fn run(s: &[u8], found: Record, plan: Plan, write: bool, scratch: &mut [u8]) -> ScanRead
+    requires { ⌜ (plan ≡ planFor (now s) found) × (write ≡ true → 64 * found .blocks ≤ length (now scratch)) ⌝ }
     ensures { λ r. ⌜ (r ≡ scanRead (scanOf (now (s .entry)) found)) × Left write (now (s .entry)) found (now (scratch .entry)) (now (scratch .exit)) ⌝ }
 {
-    let plan = Plan::of(s, found);
     let interval = plan.interval;
     let blocks = plan.blocks;
     if plan.per == 0 {
@@ -142,22 +144,24 @@ pub fn validate(s: &[u8], found: Record) -> ScanRead
     ensures { λ r. ⌜ r ≡ scanRead (scanOf (now (s .entry)) found) ⌝ }
 {
     let mut none = [0u8; 1];
-    run(s, found, false, &mut none)
+    let plan = Plan::of(s, found);
+    run(s, found, plan, false, &mut none)
 }
 
 // The scan of a record is read, and then, where it was accepted and the scratch has room for all blocks, read again with its
 // samples: so a refusal writes nothing.
 pub fn draw(s: &[u8], found: Record, scratch: &mut [u8]) -> ScanRead
-    ensures { λ r. ⌜ (r ≡ scanRead (scanOf (now (s .entry)) found)) × (now (scratch .exit) ≡ drawn (shapeOf (found .frame)) (quantizersOf (now (s .entry)) found) (found .blocks) (scanOf (now (s .entry)) found) (now (scratch .entry))) ⌝ }
+    ensures { λ r. ⌜ (r ≡ scanRead (scanOf (now (s .entry)) found)) × (now (scratch .exit) ≡ drawnFor (now (s .entry)) found (now (scratch .entry))) ⌝ }
 {
     let blocks = found.blocks;
-    match run(s, found, false, scratch) {
+    let plan = Plan::of(s, found);
+    match run(s, found, plan, false, scratch) {
         ScanRead::Stop(f) => ScanRead::Stop(f),
         ScanRead::Done => {
             if scratch.len() / 64 < blocks {
                 return ScanRead::Done;
             }
-            run(s, found, true, scratch)
+            run(s, found, plan, true, scratch)
         }
     }
 }

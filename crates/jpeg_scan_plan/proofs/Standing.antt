@@ -1,121 +1,161 @@
 -- The numbers that are gathered from a record stand for the plan of the rules.
-use mathlib.Core.List.{List}
+use mathlib.Core.List.{List, [], _∷_}
 use mathlib.Core.Path.{_≡_, refl, sym, _∙_, ap, subst⁻¹}
-use mathlib.Core.Bool.{Bool, true, false, cond}
-use Prim.Native.Nat.{ℕ, zero, suc, _+_, _-_, _*_, _<_, _≤_}
-use native.Mathlib.Nat.{not-suc-le-zero, le-of-suc-le-suc, mul-le-mul}
+use mathlib.Core.Bool.{Bool, true, false, not, cond}
+use Prim.Native.Nat.{ℕ, zero, suc, _+_, _-_, _*_, _/_, _%_, _^_, _<_, _≤_}
+use native.Mathlib.Nat.{not-suc-le-zero, le-of-suc-le-suc, pow-suc, pow-succ', div-one, div-div-eq-div-mul}
 use native.Mathlib.Omega.{arith}
 use lib.Dec.{T, leb, ltb, eqb, leb→le}
 use lib.ListN.{length, getD, take, drop}
-use borrow.Author.Tests.{lt-ltb, le-ltb, eq-eqb, ne-eqb, ltb-false, eqb-true, eqb-false}
+use borrow.Author.Tests.{le-leb, lt-leb, lt-ltb, le-ltb, eqb-true, eqb-false}
 use Rattle.reading.specs.declared.Record.{Record}
-use Rattle.reading.specs.Tests.{_and_, within}
+use Rattle.reading.specs.Tests.{_and_}
 use Rattle.reading.specs.Huffman.{tableAt}
-use Rattle.reading.specs.Tables.{quantAt, dcAt, acAt, quantizersOf}
+use Rattle.reading.specs.Layout.{Factors, areas, perMcu, channelIn}
+use Rattle.reading.specs.Tables.{factorsIn, factorsFrom, shapeOf, quantAt, dcAt, acAt, quantizersOf}
 use Rattle.reading.specs.Scan.{planOf, broke}
+use Rattle.reading.specs.Code.Mcus.{sampled, measured}
 use Rattle.reading.specs.Code.Scans.{nowhere, readable, scanOf}
 use Rattle.reading.proofs.Plain.{and-left, and-right}
-use Rattle.reading.proofs.Fits.{within-known}
-use Rattle.reading.proofs.Places.{per-is, channel-at}
+use Rattle.reading.proofs.Sampling.{Sampling, sampled-says, measured-none, measured-some, blocks-least, channel-below, channels-are}
 use Rattle.jpeg_scan_plan.specs.declared.Plan.{Plan}
-use Rattle.jpeg_scan_plan.specs.Plans.{three, noPlan, planIn, planFor, chan, Stands, Quantizes}
+use Rattle.jpeg_scan_plan.specs.Plans.{four, digits, noPlan, planIn, planFor, chan, Stands, Quantizes}
 
 -- ---- a readable record
 
 pub record Readable (s : List ℕ) (r : Record) : Type 0 where
   pub inside : r .start ≤ length s
-  pub hs-some : 1 ≤ r .frame .hs
-  pub hs-few : r .frame .hs ≤ 4
-  pub vs-some : 1 ≤ r .frame .vs
-  pub vs-few : r .frame .vs ≤ 4
-  pub channels-some : 1 ≤ r .frame .channels
-  pub channels-few : r .frame .channels ≤ 3
+  pub fine : sampled (r .frame) ≡ true
+  pub sampling : Sampling (r .frame)
 
 pub readable-says : (s : List ℕ) (r : Record) → readable s r ≡ true → Readable s r
 unfolding readable
-readable-says s r e =
-    let all : T (leb (r .start) (length s) and within 1 4 (r .frame .hs) and within 1 4 (r .frame .vs) and within 1 3 (r .frame .channels)) = subst⁻¹ T e tt in
-    let three = and-right (leb (r .start) (length s)) (within 1 4 (r .frame .hs) and within 1 4 (r .frame .vs) and within 1 3 (r .frame .channels)) all in
-    let hs = and-left (within 1 4 (r .frame .hs)) (within 1 4 (r .frame .vs) and within 1 3 (r .frame .channels)) three in
-    let two = and-right (within 1 4 (r .frame .hs)) (within 1 4 (r .frame .vs) and within 1 3 (r .frame .channels)) three in
-    let vs = and-left (within 1 4 (r .frame .vs)) (within 1 3 (r .frame .channels)) two in
-    let ch = and-right (within 1 4 (r .frame .vs)) (within 1 3 (r .frame .channels)) two in
-    record {
-      inside = leb→le (r .start) (length s) (and-left (leb (r .start) (length s)) (within 1 4 (r .frame .hs) and within 1 4 (r .frame .vs) and within 1 3 (r .frame .channels)) all);
-      hs-some = within-known 1 4 (r .frame .hs) hs .0;
-      hs-few = within-known 1 4 (r .frame .hs) hs .1;
-      vs-some = within-known 1 4 (r .frame .vs) vs .0;
-      vs-few = within-known 1 4 (r .frame .vs) vs .1;
-      channels-some = within-known 1 3 (r .frame .channels) ch .0;
-      channels-few = within-known 1 3 (r .frame .channels) ch .1;
-    }
+readable-says s r e = go (sampled (r .frame)) refl (subst⁻¹ T e tt)
+  where
+    go : (t : Bool) → sampled (r .frame) ≡ t → T (leb (r .start) (length s) and t) → Readable s r
+    go true p all =
+        record {
+          inside = leb→le (r .start) (length s) (and-left (leb (r .start) (length s)) true all);
+          fine = p;
+          sampling = sampled-says (r .frame) p;
+        }
+    go false p all = absurd (and-right (leb (r .start) (length s)) false all)
 
-module _ {s : List ℕ} {r : Record} (a : Readable s r) where
-  pub lumas-some : 1 ≤ r .frame .hs * r .frame .vs
-  lumas-some = mul-le-mul (a .hs-some) (a .vs-some)
+-- the tests of the code
+module _ (s : List ℕ) (r : Record) where
+  pub unreadable-long : length s < r .start → false ≡ readable s r
+  unfolding readable
+  unreadable-long h = rw (lt-leb (r .start) (length s) h)
 
-  pub lumas-few : r .frame .hs * r .frame .vs ≤ 16
-  lumas-few = mul-le-mul (a .hs-few) (a .vs-few)
+  pub readable-is : r .start ≤ length s → {n : ℕ} → n ≡ measured (r .frame) .blocks → not (eqb n 0) ≡ readable s r
+  unfolding readable
+  readable-is h {n} e = rw (le-leb (r .start) (length s) h) (go (eqb n 0) refl)
+    where
+      go : (t : Bool) → eqb n 0 ≡ t → not t ≡ sampled (r .frame)
+      go true p = sym (measured-none (r .frame) (sym e ∙ eqb-true n 0 p))
+      go false p = sym (measured-some (r .frame) (λ z. eqb-false n 0 p (e ∙ z)))
 
 -- ---- the channel of a block
 
-pub chan-luma : (lumas j : ℕ) → j < lumas → 0 ≡ chan lumas j
-unfolding chan
-chan-luma lumas j h = rw (lt-ltb j lumas h)
+-- what was passed of the channels before c, and what is left of the place
+module _ (ch : ℕ) (across down : List ℕ) (j : ℕ) where
+  abbrev pub Passing : ℕ → ℕ → Type 0
+  Passing left c = channelIn (factorsFrom across down 0 ch) j ≡ c + channelIn (factorsFrom across down c (ch - c)) left
 
-pub chan-second : (lumas j : ℕ) → lumas ≤ j → j ≡ lumas → 1 ≡ chan lumas j
-unfolding chan
-chan-second lumas j h e = rw (le-ltb j lumas h, eq-eqb j lumas e)
+  pub passing-begin : Passing j 0
+  passing-begin =
+      let z : ch - 0 ≡ ch = omega arith in
+      ap (λ n. channelIn (factorsFrom across down 0 n) j) (sym z) ∙ omega arith
 
-pub chan-third : (lumas j : ℕ) → lumas ≤ j → (j ≡ lumas → ⊥) → 2 ≡ chan lumas j
-unfolding chan
-chan-third lumas j h e = rw (le-ltb j lumas h, ne-eqb j lumas e)
+  module _ (left c : ℕ) (w : Passing left c) where
+    abbrev here : ℕ
+    here = getD across c 0 * getD down c 0
 
-pub chan-below : (lumas j : ℕ) → chan lumas j < 3
-unfolding chan
-chan-below lumas j = go (ltb j lumas) (eqb j lumas)
-  where
-    go : (t u : Bool) → cond t 0 (cond u 1 2) < 3
-    go true u = omega arith
-    go false true = omega arith
-    go false false = omega arith
+    split : c < ch → channelIn (factorsFrom across down c (ch - c)) left
+        ≡ cond (ltb left here) 0 (suc (channelIn (factorsFrom across down (suc c) (ch - (c + 1))) (left - here)))
+    split h =
+        let one-more : ch - c ≡ suc (ch - (c + 1)) = omega arith in
+        ap (λ n. channelIn (factorsFrom across down c n) left) one-more
 
--- among at most two chroma blocks
-chan-is : (lumas j : ℕ) → j < lumas + 2 → cond (ltb j lumas) 0 (j - lumas + 1) ≡ chan lumas j
-unfolding chan
-chan-is lumas j h = go (ltb j lumas) refl (eqb j lumas) refl
-  where
-    go : (t : Bool) → ltb j lumas ≡ t → (u : Bool) → eqb j lumas ≡ u → cond t 0 (j - lumas + 1) ≡ cond t 0 (cond u 1 2)
-    go true l u e = refl
-    go false l true e = omega (arith, eqb-true j lumas e)
-    go false l false e = late (eqb-false j lumas e) (ltb-false j lumas l)
-      where
-        late : (j ≡ lumas → ⊥) → lumas ≤ j → j - lumas + 1 ≡ 2
-        late n i = omega arith
+    pub passing-here : c < ch → left < getD across c 0 * getD down c 0 → c ≡ channelIn (factorsFrom across down 0 ch) j
+    passing-here h l =
+        let first : channelIn (factorsFrom across down c (ch - c)) left ≡ 0 = split h ∙ rw (lt-ltb left (getD across c 0 * getD down c 0) l) refl in
+        omega (arith, w, first)
 
-three-at : (f : ℕ → ℕ) (c : ℕ) → c < 3 → f c ≡ getD (three f) c 0
-three-at f zero h = refl
-three-at f (suc zero) h = refl
-three-at f (suc (suc zero)) h = refl
-three-at f (suc (suc (suc c))) h = absurd (not-suc-le-zero (le-of-suc-le-suc (le-of-suc-le-suc (le-of-suc-le-suc h))))
+    pub passing-on : c < ch → getD across c 0 * getD down c 0 ≤ left → Passing (left - getD across c 0 * getD down c 0) (c + 1)
+    passing-on h l =
+        let rest : ℕ → ℕ = λ k. channelIn (factorsFrom across down k (ch - (c + 1))) (left - here) in
+        let later : channelIn (factorsFrom across down c (ch - c)) left ≡ suc (rest (suc c)) = split h ∙ rw (le-ltb left here l) refl in
+        let same : rest (suc c) ≡ rest (c + 1) = ap rest (omega arith) in
+        omega (arith, w, later, same)
+
+    pub passing-out : ch ≤ c → c ≡ channelIn (factorsFrom across down 0 ch) j
+    passing-out h =
+        let none : ch - c ≡ 0 = omega arith in
+        let last : channelIn (factorsFrom across down c (ch - c)) left ≡ 0 = ap (λ n. channelIn (factorsFrom across down c n) left) none in
+        omega (arith, w, last)
+
+-- behind a digit stand the others
+pub next-digit : (order j : ℕ) → order / 4 ^ suc j ≡ order / 4 / 4 ^ j
+next-digit order j = ap (λ k. order / k) (pow-succ' 4 j) ∙ sym (div-div-eq-div-mul order 4 (4 ^ j))
+
+pub later-digit : (order j : ℕ) → order / 4 ^ j / 4 ≡ order / 4 ^ (j + 1)
+later-digit order j =
+    let next : suc j ≡ j + 1 = omega arith in
+    div-div-eq-div-mul order (4 ^ j) 4 ∙ ap (λ k. order / k) (sym (pow-suc 4 j)) ∙ ap (λ k. order / 4 ^ k) next
+
+pub first-digit : (order : ℕ) → order ≡ order / 4 ^ 0
+first-digit order = sym (div-one order)
+
+four-at : (f : ℕ → ℕ) (c : ℕ) → c < 4 → f c ≡ getD (four f) c 0
+four-at f zero h = refl
+four-at f (suc zero) h = refl
+four-at f (suc (suc zero)) h = refl
+four-at f (suc (suc (suc zero))) h = refl
+four-at f (suc (suc (suc (suc c)))) h = absurd (not-suc-le-zero (le-of-suc-le-suc (le-of-suc-le-suc (le-of-suc-le-suc (le-of-suc-le-suc h)))))
 
 -- ---- the plan
 
+-- the digits of base 4: n of them are below 4^n, and digit j is f j
+pub digits-below : (f : ℕ → ℕ) (j n : ℕ) → digits f j n < 4 ^ n
+digits-below f j zero = omega arith
+digits-below f j (suc n) = omega (arith, digits-below f (suc j) n, pow-suc 4 n)
+
+digit-at : (f : ℕ → ℕ) (i n j : ℕ) → j < n → digits f i n / 4 ^ j % 4 ≡ f (i + j) % 4
+digit-at f i zero j h = absurd (not-suc-le-zero h)
+digit-at f i (suc n) zero h =
+    let one : digits f i (suc n) / 4 ^ 0 ≡ digits f i (suc n) = div-one (digits f i (suc n)) in
+    let same : f (i + 0) ≡ f i = ap f (omega arith) in
+    omega (arith, one, same)
+digit-at f i (suc n) (suc j) h =
+    let behind : digits f i (suc n) / 4 ≡ digits f (suc i) n = omega arith in
+    let same : f (suc i + j) ≡ f (i + suc j) = ap f (omega arith) in
+    ap (λ k. k % 4) (next-digit (digits f i (suc n)) j ∙ ap (λ k. k / 4 ^ j) behind) ∙ digit-at f (suc i) n j (omega arith) ∙ ap (λ k. k % 4) same
+
+-- block j of an MCU, in the plan's digits
+order-at : (r : Record) → Sampling (r .frame) → (j : ℕ) → j < areas (shapeOf (r .frame) .factors)
+    → channelIn (shapeOf (r .frame) .factors) j ≡ chan (planIn r .order) j
+order-at r ok j h =
+    let order : ℕ → ℕ = channelIn (shapeOf (r .frame) .factors) in
+    let same : order (0 + j) ≡ order j = ap order (omega arith) in
+    let is : chan (planIn r .order) j ≡ order (0 + j) % 4 = digit-at order 0 10 j (omega (arith, ok .blocks)) in
+    omega (arith, same, is, channel-below (shapeOf (r .frame) .factors) j h, channels-are (r .frame), ok .few)
+
 stands-in : (s : List ℕ) (r : Record) → Readable s r → Stands (take (r .start) s) (planIn r) (planOf s r)
+unfolding perMcu
 stands-in s r a =
-    let some : 1 ≤ r .frame .hs * r .frame .vs = lumas-some a in
     record {
-      some = omega arith;
-      per-is = per-is (r .frame .width) (r .frame .height) (r .frame .hs) (r .frame .vs) (r .frame .channels);
+      some = omega (arith, blocks-least (r .frame) (a .sampling), a .sampling .some);
+      per-is = refl;
       interval-is = refl;
-      channel-is = λ j h. channel-at (r .frame .width) (r .frame .height) (r .frame .hs) (r .frame .vs) (r .frame .channels) j h ∙ chan-is (r .frame .hs * r .frame .vs) j (omega (arith, a .channels-few));
-      dc-is = λ c h. ap (tableAt (take (r .start) s)) (three-at (dcAt r) c h);
-      ac-is = λ c h. ap (tableAt (take (r .start) s)) (three-at (acAt r) c h);
+      channel-is = order-at r (a .sampling);
+      dc-is = λ c h. ap (tableAt (take (r .start) s)) (four-at (dcAt r) c h);
+      ac-is = λ c h. ap (tableAt (take (r .start) s)) (four-at (acAt r) c h);
     }
 
 -- the quantizers of a record
 pub quantizes-in : (s : List ℕ) (r : Record) → Quantizes (take (r .start) s) (planIn r) (quantizersOf s r)
-quantizes-in s r c h = ap (λ (k : ℕ). take 64 (drop k (take (r .start) s))) (three-at (quantAt r) c h)
+quantizes-in s r c h = ap (λ (k : ℕ). take 64 (drop k (take (r .start) s))) (four-at (quantAt r) c h)
 
 -- where the plan of a record has blocks in an MCU, it is that record's, and its numbers stand for the plan of the rules
 pub record Ready (s : List ℕ) (r : Record) (n : Plan) : Type 0 where
@@ -157,7 +197,7 @@ module _ (s : List ℕ) (r : Record) where
       go : (t : Bool) → readable s r ≡ t → scanOf s r ≡ broke nowhere
       go false x = rw x
       go true x =
-          let a : 1 ≤ r .frame .hs * r .frame .vs = lumas-some (readable-says s r x) in
-          let z : r .frame .hs * r .frame .vs + (r .frame .channels - 1) ≡ 0 = sym (ap (λ (k : Plan). k .per) (e ∙ plan-read x)) ∙ h in
-          let y : ⊥ = omega arith in
+          let a = readable-says s r x .sampling in
+          let z : areas (shapeOf (r .frame) .factors) ≡ 0 = sym (ap (λ (k : Plan). k .per) (e ∙ plan-read x)) ∙ h in
+          let y : ⊥ = omega (arith, z, blocks-least (r .frame) a, a .some) in
           absurd y

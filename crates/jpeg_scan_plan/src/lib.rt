@@ -1,28 +1,32 @@
 // The numbers that a scan is read by, and what stands between its blocks (the rules' 'MCUs, restarts, end'): the channel of a block, the
 // restart before an MCU, the end. Every reader of a scan goes by these; none of them reads a block.
 ghost use mathlib.Core.Path.{_≡_};
-ghost use Prim.Native.Nat.{_+_};
+ghost use mathlib.Core.Bool.{true};
+ghost use Prim.Native.Nat.{_+_, _%_};
 ghost use lib.ListN.{take, drop};
 ghost use Rattle.reading.specs.Bits.{padded, fulls, mark};
-ghost use Rattle.reading.specs.Layout.{dueBefore, restartBefore};
-ghost use Rattle.reading.specs.Tables.{chosen};
+ghost use Rattle.reading.specs.Layout.{channelIn, dueBefore, restartBefore};
+ghost use Rattle.reading.specs.Tables.{shapeOf, chosen};
+ghost use Rattle.reading.specs.Code.Mcus.{sampled};
 ghost use Rattle.reading.specs.Code.Scans.{readable};
-ghost use Rattle.jpeg_scan_plan.specs.Plans.{three, noPlan, planFor, chan};
+ghost use Rattle.jpeg_scan_plan.specs.Plans.{four, digits, noPlan, planFor};
 ghost use Rattle.jpeg_scan_plan.specs.Marks.{looked, closes, restarted, brokeIn};
 use reading::Bits;
 use reading::Break;
 use reading::Fault;
+use reading::Frame;
+use reading::Mcu;
 use reading::Record;
 use reading::ScanCursor;
 
-// The numbers that a scan is read by, gathered once from the record: the first coded byte, where each channel's tables stand, how
-// many blocks of an MCU are the first channel's, how many an MCU has, the restart interval, and how many blocks there are.
+// The numbers that a scan is read by, gathered once from the record: the first coded byte, where each channel's tables stand, the
+// channels of the blocks of an MCU as the digits of a number of base 4, the first block's last, how many blocks an MCU has, the restart interval, and how many blocks there are.
 pub struct Plan {
     pub start: usize,
-    pub dcs: [usize; 3],
-    pub acs: [usize; 3],
-    pub quants: [usize; 3],
-    pub lumas: usize,
+    pub dcs: [usize; 4],
+    pub acs: [usize; 4],
+    pub quants: [usize; 4],
+    pub order: usize,
     pub per: usize,
     pub interval: usize,
     pub blocks: usize,
@@ -53,23 +57,55 @@ fn readable(s: &[u8], found: Record) -> bool
     if s.len() < found.start {
         return false;
     }
-    if !reading::within(1, 4, found.frame.hs) {
-        return false;
-    }
-    if !reading::within(1, 4, found.frame.vs) {
-        return false;
-    }
-    reading::within(1, 3, found.frame.channels)
+    let frame = found.frame;
+    let m = Mcu::of(frame);
+    m.blocks != 0
 }
 
 // The place of each channel's table; 0 where there is none.
-fn chosen(places: [usize; 4], ids: [usize; 3]) -> [usize; 3]
-    ensures { λ r. ⌜ r ≡ three (chosen places ids) ⌝ }
+fn chosen(places: [usize; 4], ids: [usize; 4]) -> [usize; 4]
+    ensures { λ r. ⌜ r ≡ four (chosen places ids) ⌝ }
 {
     let a = reading::entry_at(&places, ids[0]);
     let b = reading::entry_at(&places, ids[1]);
     let c = reading::entry_at(&places, ids[2]);
-    [a, b, c]
+    let d = reading::entry_at(&places, ids[3]);
+    [a, b, c, d]
+}
+
+// The channel of block j of an MCU: the blocks of each channel stand behind those of the channels before it.
+fn channel_in(frame: Frame, j: usize) -> usize
+    requires { ⌜ sampled frame ≡ true ⌝ }
+    ensures { λ r. ⌜ r ≡ channelIn (shapeOf frame .factors) j ⌝ }
+{
+    let channels = frame.channels;
+    let across = frame.across;
+    let down = frame.down;
+    let mut left = j;
+    let mut c = 0usize;
+    while c < channels {
+        let blocks = across[c] * down[c];
+        if left < blocks {
+            return c;
+        }
+        left -= blocks;
+        c += 1;
+    }
+    c
+}
+
+// The channel of each block of an MCU, found once for each scan: ten digits of base 4.
+fn order(frame: Frame) -> usize
+    requires { ⌜ sampled frame ≡ true ⌝ }
+    ensures { λ r. ⌜ r ≡ digits (channelIn (shapeOf frame .factors)) 0 10 ⌝ }
+{
+    let mut list = 0usize;
+    let mut j = 10usize;
+    while 0 < j {
+        j -= 1;
+        list = 4 * list + channel_in(frame, j) % 4;
+    }
+    list
 }
 
 impl Plan {
@@ -79,10 +115,10 @@ impl Plan {
     {
         Self {
             start: 0,
-            dcs: [0; 3],
-            acs: [0; 3],
-            quants: [0; 3],
-            lumas: 0,
+            dcs: [0; 4],
+            acs: [0; 4],
+            quants: [0; 4],
+            order: 0,
             per: 0,
             interval: 0,
             blocks: 0,
@@ -107,14 +143,15 @@ impl Plan {
         let dcs = chosen(dc_places, dc_ids);
         let acs = chosen(ac_places, ac_ids);
         let quants = chosen(places, ids);
-        let lumas = frame.hs * frame.vs;
-        let per = reading::mcu_blocks(frame.hs, frame.vs, frame.channels);
+        let order = order(frame);
+        let m = Mcu::of(frame);
+        let per = m.blocks;
         Self {
             start: found.start,
             dcs: dcs,
             acs: acs,
             quants: quants,
-            lumas: lumas,
+            order: order,
             per: per,
             interval: found.interval,
             blocks: found.blocks,
@@ -122,17 +159,11 @@ impl Plan {
     }
 }
 
-// The channel of block j of an MCU: hs x vs first-channel blocks, then one per chroma channel.
-pub fn channel(j: usize, lumas: usize) -> usize
-    ensures { λ r. ⌜ r ≡ chan lumas j ⌝ }
+// The channel of the next block, by what is left of a plan's digits.
+pub fn channel(order: usize) -> usize
+    ensures { λ r. ⌜ r ≡ order % 4 ⌝ }
 {
-    if j < lumas {
-        return 0;
-    }
-    if j == lumas {
-        return 1;
-    }
-    2
+    order % 4
 }
 
 // The unread bits of the current byte are all ones.
@@ -240,7 +271,7 @@ pub fn restart(s: &[u8], from: ScanCursor, m: usize, interval: usize) -> CursorR
                     byte: 0,
                     left: 0,
                 },
-                predictors: [0; 3],
+                predictors: [0; 4],
                 done: from.done,
             },
         },

@@ -37,10 +37,10 @@ module _ (r : Record) (ws : List ℕ) (coded room : ℕ) where
   sure-short h = rw (lt-ltb room (2 * coded + 4 * r .blocks) h) refl
 
   module _ (h : 2 * coded + 4 * r .blocks ≤ room) where
-    pub sure-many : 3 < r .frame .channels → false ≡ sure r ws coded room
+    pub sure-many : 4 < r .frame .channels → false ≡ sure r ws coded room
     unfolding sure
-    sure-many k = rw (le-ltb room (2 * coded + 4 * r .blocks) h, lt-ltb 3 (r .frame .channels) k) refl
+    sure-many k = rw (le-ltb room (2 * coded + 4 * r .blocks) h, lt-ltb 4 (r .frame .channels) k) refl
 
-    pub sure-room : r .frame .channels ≤ 3 → zerosCoded ws (2 * r .frame .channels) ≡ sure r ws coded room
+    pub sure-room : r .frame .channels ≤ 4 → zerosCoded ws (2 * r .frame .channels) ≡ sure r ws coded room
     unfolding sure
-    sure-room k = rw (le-ltb room (2 * coded + 4 * r .blocks) h, le-ltb 3 (r .frame .channels) k) refl
+    sure-room k = rw (le-ltb room (2 * coded + 4 * r .blocks) h, le-ltb 4 (r .frame .channels) k) refl

@@ -1,4 +1,4 @@
--- The words of the six tables that a scan is written by, one list of 256 after the other; and what they say of the scan.
+-- The words of the eight tables that a scan is written by, one list of 256 after the other; and what they say of the scan.
 use Prim.Native.Nat.{ℕ, zero, suc, _+_, _*_}
 use mathlib.Core.List.{List, [], _∷_, _++_}
 use mathlib.Core.Bool.{Bool, true, false, cond}
@@ -28,4 +28,4 @@ unfoldable pub sure : Record → List ℕ → ℕ → ℕ → Bool
 unfolding zerosCoded
 sure r ws coded room =
     cond (ltb room (2 * coded + 4 * r .blocks)) false
-    (cond (ltb 3 (r .frame .channels)) false (zerosCoded ws (2 * r .frame .channels)))
+    (cond (ltb 4 (r .frame .channels)) false (zerosCoded ws (2 * r .frame .channels)))

@@ -1,5 +1,5 @@
 // The words of a table's codes: of each symbol its code and the code's length, in one number, so that a symbol is written at one look.
-// A sheet has the words of the six tables of a scan; whether the scan is sure to be written is told from it.
+// A sheet has the words of the eight tables of a scan; whether the scan is sure to be written is told from it.
 ghost use mathlib.Core.Path.{_≡_};
 ghost use Prim.Native.Nat.{_+_, _≤_};
 ghost use lib.ListN.{length, getD, replicate};
@@ -86,13 +86,13 @@ pub fn word_of(words: &[u32], x: usize) -> usize
     0
 }
 
-// The words of six tables, 256 for each.
-pub fn sheet(t: &[u8], places: [usize; 6]) -> [u32; 1536]
+// The words of eight tables, 256 for each.
+pub fn sheet(t: &[u8], places: [usize; 8]) -> [u32; 2048]
     ensures { λ r. ⌜ r ≡ sheet (now (t .entry)) places ⌝ }
 {
-    let mut words = [0u32; 1536];
+    let mut words = [0u32; 2048];
     let mut i = 0usize;
-    while i < 6 {
+    while i < 8 {
         let a = 256 * i;
         let e = a + 256;
         codes(t, places[i], &mut words[a..e]);
@@ -103,7 +103,7 @@ pub fn sheet(t: &[u8], places: [usize; 6]) -> [u32; 1536]
 
 // In each of the first tables of the sheet the symbol 0 has a word.
 fn zeros_coded(words: &[u32], tables: usize) -> bool
-    requires { ⌜ tables ≤ 6 ⌝ }
+    requires { ⌜ tables ≤ 8 ⌝ }
     ensures { λ r. ⌜ r ≡ zerosCoded (now (words .entry)) tables ⌝ }
 {
     let mut i = tables;
@@ -130,7 +130,7 @@ pub fn sure(found: Record, words: &[u32], coded: usize, room: usize) -> bool
     if half - ends < coded {
         return false;
     }
-    if 3 < found.frame.channels {
+    if 4 < found.frame.channels {
         return false;
     }
     zeros_coded(words, 2 * found.frame.channels)

@@ -107,7 +107,7 @@ module _ {t : List ℕ} {n : Plan} {p : scan.Plan} (st : Stands t n p) (s : List
   -- ---- a block
 
   module _ (m j N : ℕ) (turn q : ScanCursor) (ink : Outcome) (out : List ℕ)
-      (e : q .done ≡ m * n .per + j) (h : j < n .per) (i : q .done < N) (c : ℕ) (u : c ≡ chan (n .lumas) j) (few : c < 3)
+      (e : q .done ≡ m * n .per + j) (h : j < n .per) (i : q .done < N) (c : ℕ) (u : c ≡ chan (n .order) j) (few : c < 4)
       {x : BlockRead} (v : x ≡ said (blockAt t n s c q)) where
     pub resuming-stop : {f : Fault} → x ≡ read.Stop f → resuming s p N turn q ink out ≡ broke (brokeAt turn f)
     unfolding resuming

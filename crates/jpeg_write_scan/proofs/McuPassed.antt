@@ -75,9 +75,9 @@ module _ {s : List ℕ} {n : Plan} {from : ScanCursor} {pen : Outcome} {old new 
 
   -- ---- block j
 
-  module _ (h : j < n .per) (i : q .done < n .blocks) {c : ℕ} (u : c ≡ chan (n .lumas) j) {x : BlockRead} (v : x ≡ said (blockAt (head n s) n s c q)) where
-    few-c : c < 3
-    few-c = below (n .lumas) j u
+  module _ (h : j < n .per) (i : q .done < n .blocks) {c : ℕ} (u : c ≡ chan (n .order) j) {x : BlockRead} (v : x ≡ said (blockAt (head n s) n s c q)) where
+    few-c : c < 4
+    few-c = below (n .order) j u
 
     module _ (p : scan.Plan) (m : ℕ) (st : Stands (head n s) n p) (e : from .done ≡ m * n .per) where
       at : q .done ≡ m * n .per + j

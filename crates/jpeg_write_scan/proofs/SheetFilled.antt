@@ -17,22 +17,26 @@ use Rattle.jpeg_write_codes.proofs.SheetFilled.{sheet-length, sheet-part}
 use Rattle.jpeg_write_scan.specs.Sheets.{basesOf}
 use Rattle.jpeg_write_scan.proofs.Coders.{block-alike, words-alike}
 
-pub sheet-long : (t : List ℕ) (n : Plan) {ws : List ℕ} → ws ≡ sheet t (basesOf n) → length ws ≡ 1536
+pub sheet-long : (t : List ℕ) (n : Plan) {ws : List ℕ} → ws ≡ sheet t (basesOf n) → length ws ≡ 2048
 sheet-long t n w = ap length w ∙ sheet-length t (basesOf n)
 
-base-dc : (n : Plan) (c : ℕ) → c < 3 → getD (basesOf n) (2 * c) 0 ≡ getD (n .dcs) c 0
+base-dc : (n : Plan) (c : ℕ) → c < 4 → getD (basesOf n) (2 * c) 0 ≡ getD (n .dcs) c 0
 base-dc n zero h = refl
 base-dc n (suc zero) h = refl
 base-dc n (suc (suc zero)) h = refl
-base-dc n (suc (suc (suc c))) h = absurd (not-suc-le-zero (le-of-suc-le-suc (le-of-suc-le-suc (le-of-suc-le-suc h))))
+base-dc n (suc (suc (suc zero))) h = refl
+base-dc n (suc (suc (suc (suc c)))) h =
+    absurd (not-suc-le-zero (le-of-suc-le-suc (le-of-suc-le-suc (le-of-suc-le-suc (le-of-suc-le-suc h)))))
 
-base-ac : (n : Plan) (c : ℕ) → c < 3 → getD (basesOf n) (2 * c + 1) 0 ≡ getD (n .acs) c 0
+base-ac : (n : Plan) (c : ℕ) → c < 4 → getD (basesOf n) (2 * c + 1) 0 ≡ getD (n .acs) c 0
 base-ac n zero h = refl
 base-ac n (suc zero) h = refl
 base-ac n (suc (suc zero)) h = refl
-base-ac n (suc (suc (suc c))) h = absurd (not-suc-le-zero (le-of-suc-le-suc (le-of-suc-le-suc (le-of-suc-le-suc h))))
+base-ac n (suc (suc (suc zero))) h = refl
+base-ac n (suc (suc (suc (suc c)))) h =
+    absurd (not-suc-le-zero (le-of-suc-le-suc (le-of-suc-le-suc (le-of-suc-le-suc (le-of-suc-le-suc h)))))
 
-module _ {t : List ℕ} {n : Plan} {p : scan.Plan} {ws : List ℕ} (st : Stands t n p) (w : ws ≡ sheet t (basesOf n)) (c : ℕ) (h : c < 3) where
+module _ {t : List ℕ} {n : Plan} {p : scan.Plan} {ws : List ℕ} (st : Stands t n p) (w : ws ≡ sheet t (basesOf n)) (c : ℕ) (h : c < 4) where
   pub words-dc : wordsIn (512 * c) ws ≡ codeWords (tableAt t (getD (n .dcs) c 0)) 256
   words-dc =
       let place : 512 * c ≡ 256 * (2 * c) = omega arith in

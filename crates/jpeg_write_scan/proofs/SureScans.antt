@@ -30,11 +30,11 @@ use Rattle.reading.specs.Tables.{shapeOf}
 use Rattle.reading.specs.Tests.{isNone}
 use Rattle.reading.proofs.Counted.{scan-levels}
 use Rattle.reading.proofs.FileBytes.{AllBytes}
-use Rattle.reading.proofs.Places.{channel-in}
+use Rattle.reading.proofs.Sampling.{channel-in, channels-are, per-some}
 use Rattle.reading.proofs.SettledLength.{settled-short}
 use Rattle.reading.proofs.WantOfCode.{ZeroCoded, no-want}
 use Rattle.jpeg_scan_plan.specs.declared.Plan.{Plan}
-use Rattle.jpeg_scan_plan.proofs.Standing.{Readable, readable-says, lumas-some, Ready}
+use Rattle.jpeg_scan_plan.proofs.Standing.{Readable, readable-says, Ready}
 use Rattle.jpeg_write_codes.specs.Words.{wordOf, codeWords}
 use Rattle.jpeg_write_codes.specs.Sheets.{sheet, wordsIn, zerosCoded, sure}
 use Rattle.jpeg_write_scan.specs.Sheets.{basesOf}
@@ -63,9 +63,13 @@ coded-each ws (suc n) e i h = go (eqb (getD ws (256 * n) 0) 0) refl e (coded-eac
 module _ (r : Record) (ws : List ℕ) (coded room : ℕ) where
   sure-says : sure r ws coded room ≡ true → (2 * coded + 4 * r .blocks ≤ room) × (zerosCoded ws (2 * r .frame .channels) ≡ true)
   unfolding sure
-  sure-says e = go (ltb room (2 * coded + 4 * r .blocks)) refl (ltb 3 (r .frame .channels)) e
+  sure-says e = go (ltb room (2 * coded + 4 * r .blocks)) refl (ltb 4 (r .frame .channels)) e
     where
-      go : (t : Bool) → ltb room (2 * coded + 4 * r .blocks) ≡ t → (k : Bool) → cond t false (cond k false (zerosCoded ws (2 * r .frame .channels))) ≡ true → (2 * coded + 4 * r .blocks ≤ room) × (zerosCoded ws (2 * r .frame .channels) ≡ true)
+      go : (t : Bool)
+          → ltb room (2 * coded + 4 * r .blocks) ≡ t
+          → (k : Bool)
+          → cond t false (cond k false (zerosCoded ws (2 * r .frame .channels))) ≡ true
+          → (2 * coded + 4 * r .blocks ≤ room) × (zerosCoded ws (2 * r .frame .channels) ≡ true)
       go true q k f = absurd (suc-ne-zero 0 cc)
       go false q true f = absurd (suc-ne-zero 0 cc)
       go false q false f = (ltb-false room (2 * coded + 4 * r .blocks) q, f)
@@ -107,25 +111,25 @@ module _ {s : List ℕ} {r : Record} {n : Plan} (u : Ready s r n) {ws : List ℕ
   has = readable-says s r (u .readable-is)
 
   channel-few : (k : ℕ) → channelOf (shapeOf (r .frame)) k < r .frame .channels
-  channel-few k = channel-in (r .frame .width) (r .frame .height) (r .frame .hs) (r .frame .vs) (r .frame .channels) k (has .channels-some) (lumas-some has)
+  channel-few k = omega (arith, channel-in (shapeOf (r .frame)) k (per-some (r .frame) (has .sampling)), channels-are (r .frame))
 
   zero-coded : zerosCoded ws (2 * r .frame .channels) ≡ true → ZeroCoded (scan.planOf s r)
   zero-coded e = record { dcs = λ k. dc (channelOf (shapeOf (r .frame)) k) (channel-few k); acs = λ k. ac (channelOf (shapeOf (r .frame)) k) (channel-few k) }
     where
-      third : (c : ℕ) → c < r .frame .channels → c < 3
-      third c h = omega (arith, has .channels-few)
+      fourth : (c : ℕ) → c < r .frame .channels → c < 4
+      fourth c h = omega (arith, has .sampling .few)
 
       dc : (c : ℕ) → c < r .frame .channels → isNone (codeOf (scan.planOf s r .channels c .dc) 0) ≡ false
       dc c h =
           let place : 256 * (2 * c) ≡ 512 * c = omega arith in
-          subst⁻¹ (λ (t : Table). isNone (codeOf t 0) ≡ false) (u .numbers .dc-is c (third c h))
-          (word-coded (512 * c) ws _ (words-dc (u .numbers) w c (third c h)) (subst (λ (a : ℕ). getD ws a 0 ≡ 0 → ⊥) place (coded-each ws (2 * r .frame .channels) e (2 * c) (omega arith))))
+          subst⁻¹ (λ (t : Table). isNone (codeOf t 0) ≡ false) (u .numbers .dc-is c (fourth c h))
+          (word-coded (512 * c) ws _ (words-dc (u .numbers) w c (fourth c h)) (subst (λ (a : ℕ). getD ws a 0 ≡ 0 → ⊥) place (coded-each ws (2 * r .frame .channels) e (2 * c) (omega arith))))
 
       ac : (c : ℕ) → c < r .frame .channels → isNone (codeOf (scan.planOf s r .channels c .ac) 0) ≡ false
       ac c h =
           let place : 256 * (2 * c + 1) ≡ 512 * c + 256 = omega arith in
-          subst⁻¹ (λ (t : Table). isNone (codeOf t 0) ≡ false) (u .numbers .ac-is c (third c h))
-          (word-coded (512 * c + 256) ws _ (words-ac (u .numbers) w c (third c h)) (subst (λ (a : ℕ). getD ws a 0 ≡ 0 → ⊥) place (coded-each ws (2 * r .frame .channels) e (2 * c + 1) (omega arith))))
+          subst⁻¹ (λ (t : Table). isNone (codeOf t 0) ≡ false) (u .numbers .ac-is c (fourth c h))
+          (word-coded (512 * c + 256) ws _ (words-ac (u .numbers) w c (fourth c h)) (subst (λ (a : ℕ). getD ws a 0 ≡ 0 → ⊥) place (coded-each ws (2 * r .frame .channels) e (2 * c + 1) (omega arith))))
 
   sure-fits : r .blocks < 2 ^ 32 → AllBytes s → (room : ℕ) → sure r ws (length s - n .start) room ≡ true → Roomy (settledOf s r) room
   sure-fits few ab room e = subst⁻¹ (λ (o : Scanned Bits (Option (List ℕ))). Roomy o room) (settled-is u few) (go (scanOf s r) refl)

@@ -92,13 +92,22 @@ fn put_block(
     }
 }
 
-// Where the six tables stand: of each channel that of the first level and that of the later ones.
-fn bases(plan: Plan) -> [usize; 6]
+// Where the eight tables stand: of each channel that of the first level and that of the later ones.
+fn bases(plan: Plan) -> [usize; 8]
     ensures { λ r. ⌜ r ≡ basesOf plan ⌝ }
 {
     let dcs = plan.dcs;
     let acs = plan.acs;
-    [dcs[0], acs[0], dcs[1], acs[1], dcs[2], acs[2]]
+    [
+        dcs[0],
+        acs[0],
+        dcs[1],
+        acs[1],
+        dcs[2],
+        acs[2],
+        dcs[3],
+        acs[3],
+    ]
 }
 
 // A block of channel c behind what is written. After the want of a code nothing more is written.
@@ -111,7 +120,7 @@ fn put_on(
     pred: i32,
     reach: usize,
 ) -> Outcome
-    requires { ⌜ Fit ink × (c < 3) × (length (now words) ≡ 1536) × Quiet reach (now levels) ⌝ }
+    requires { ⌜ Fit ink × (c < 4) × (length (now words) ≡ 2048) × Quiet reach (now levels) ⌝ }
     ensures { λ r. ⌜ Moves (onto (blockBy (coderOf (wordsIn (512 * c) (now (words .entry)))) (coderOf (wordsIn (512 * c + 256) (now (words .entry)))) pred (now (levels .entry)))) ink (now (out .entry)) r (now (out .exit)) ⌝ }
 {
     let a = 512 * c;
@@ -166,6 +175,7 @@ fn mcu(s: &[u8], plan: Plan, words: &[u32], from: ScanCursor, pen: Outcome, out:
     let start = plan.start;
     let dcs = plan.dcs;
     let acs = plan.acs;
+    let mut order = plan.order;
     let mut levels = [0i16; 64];
     let mut bits = from.bits;
     let mut predictors = from.predictors;
@@ -179,7 +189,7 @@ fn mcu(s: &[u8], plan: Plan, words: &[u32], from: ScanCursor, pen: Outcome, out:
         if plan.blocks <= done {
             break 'walk Halt::No;
         }
-        let c = jpeg_scan_plan::channel(j, plan.lumas);
+        let c = jpeg_scan_plan::channel(order);
         let prediction = predictors[c];
         match jpeg_block::block(
             &s[..start],
@@ -199,6 +209,7 @@ fn mcu(s: &[u8], plan: Plan, words: &[u32], from: ScanCursor, pen: Outcome, out:
                 bits = b;
             }
         }
+        order = order / 4;
         done += 1;
         j += 1;
     };

@@ -20,13 +20,14 @@ use Rattle.reading.specs.declared.Frame.{Frame}
 use Rattle.reading.specs.declared.Header.{Header}
 use Rattle.reading.specs.declared.Record.{Record}
 use Rattle.reading.specs.Tests.{_and_, _or_, within, apart}
-use Rattle.reading.specs.Layout.{Shape, ceiling, blockCount, outputLength, workOf}
+use Rattle.reading.specs.Layout.{Shape, areas, widest, highest, ceiling, mcusAcross, mcusDown, perMcu, blockCount, outputLength, workOf}
 use Rattle.reading.specs.Tables.{shapeOf}
-use Rattle.reading.specs.Header.{Stage, more, done, stop, byte, word, moved, window, eachFrom, each, withQuantizer, withTable, frameKnown, acrossOf, downOf, quantsFit, threeFit, frameOf, frameFits, hasFrame, withFrame, withInterval, dcId, acId, recordOf, selected, kindOf, segment, segmentEnd, stepIn, step, opens, started, opening, header}
+use Rattle.reading.specs.Header.{Stage, more, done, stop, byte, word, moved, window, eachFrom, each, withQuantizer, withTable, frameKnown, acrossOf, downOf, counted, samplingFits, quantsFit, frameOf, frameFits}
+use Rattle.reading.specs.Header.{hasFrame, withFrame, withInterval, dcId, acId, recordOf, selected, kindOf, segment, segmentEnd, stepIn, step, opens, started, opening, header}
 use Rattle.reading.proofs.Plain.{and-left, and-right}
 use Rattle.reading.proofs.Stages.{stop-or, chosen-or, steps-hold}
 use Rattle.reading.proofs.HeaderEnds.{is-so}
-use Rattle.reading.proofs.Places.{count-is, output-is}
+use Rattle.reading.proofs.Sampling.{channels-are, wide-least, high-least, frame-sampling}
 use Rattle.reading.proofs.Fits.{within-known, all-at}
 use Rattle.reading.proofs.FileBytes.{AllBytes, byte-below, word-below, window-bytes}
 use Rattle.reading.proofs.Frames.{FrameOk, Shaped}
@@ -52,69 +53,35 @@ module _ (ch : ℕ) (f : ℕ → ℕ) where
 -- ---- the frame
 
 module _ (b : List ℕ) (y : AllBytes b) (known : T (frameKnown b)) (fits : T (frameFits b (frameOf b))) where
-  sides : T (within 1 4 (acrossOf b) and within 1 4 (downOf b) and quantsFit (frameOf b) and (eqb (byte b 5) 1 or threeFit b (frameOf b)))
-  sides = and-right (ltb 0 (word b 1)) _ (and-right (ltb 0 (word b 3)) _ fits)
-
-  tables : T (quantsFit (frameOf b) and (eqb (byte b 5) 1 or threeFit b (frameOf b)))
-  tables = and-right (within 1 4 (downOf b)) _ (and-right (within 1 4 (acrossOf b)) _ sides)
+  tested : T (samplingFits b (byte b 5) and quantsFit (frameOf b) and leb (areas (shapeOf (frameOf b) .factors)) 10 and apart (take (byte b 5) (frameOf b .ids)))
+  tested = and-right (ltb 0 (word b 1)) _ (and-right (ltb 0 (word b 3)) _ fits)
 
   quants : T (quantsFit (frameOf b))
-  quants = and-left (quantsFit (frameOf b)) _ tables
+  quants = and-left (quantsFit (frameOf b)) _ (and-right (samplingFits b (byte b 5)) _ tested)
 
   quant-ids : (c : ℕ) → getD (frameOf b .qids) c 0 ≤ 3
   quant-ids c = go (ltb c (byte b 5)) refl
     where
       go : (t : Bool) → ltb c (byte b 5) ≡ t → getD (frameOf b .qids) c 0 ≤ 3
       go true p = leb→le _ 3 (all-at (λ c. leb (getD (frameOf b .qids) c 0) 3) (byte b 5) 0 quants c zero-le (omega (arith, ltb-true c (byte b 5) p)))
-      go false p = omega (arith, each-past (byte b 5) (λ k. byte b (8 + 3 * k)) 3 0 c (omega (arith, ltb-false c (byte b 5) p)))
+      go false p = omega (arith, each-past (byte b 5) (λ k. byte b (8 + 3 * k)) 4 0 c (omega (arith, ltb-false c (byte b 5) p)))
 
-  counted : (byte b 5 ≡ 1) ⊎ (byte b 5 ≡ 3)
-  counted = go (eqb (byte b 5) 1) refl (and-right (eqb (byte b 0) 8) _ (and-right (leb 6 (length b)) _ known))
-    where
-      go : (t : Bool) → eqb (byte b 5) 1 ≡ t → T (t or eqb (byte b 5) 3) → (byte b 5 ≡ 1) ⊎ (byte b 5 ≡ 3)
-      go true p q = inl (eqb→eq _ _ (subst⁻¹ T p tt))
-      go false p q = inr (eqb→eq _ _ q)
-
-  few : (0 < byte b 5) × (byte b 5 ≤ 3)
-  few = ⊎-elim (λ e. (omega (arith, e), omega (arith, e))) (λ e. (omega (arith, e), omega (arith, e))) counted
-
-  factor-fits : (t : Bool) (n : ℕ) → T (within 1 4 n) → (0 < cond t 1 n) × (cond t 1 n ≤ 4)
-  factor-fits true n h = (lit< tt, lit≤ tt)
-  factor-fits false n h = within-known 1 4 n h
-
-  product-fits : (t : Bool) → T (t or threeFit b (frameOf b)) → cond t 1 (acrossOf b) * cond t 1 (downOf b) ≤ 4
-  product-fits true h = lit≤ tt
-  product-fits false h = leb→le (acrossOf b * downOf b) 4 (and-left (leb (acrossOf b * downOf b) 4) _ h)
-
-  -- the ids of all channels: one is apart from none, and three are tested
-  ids-apart : T (apart (take (byte b 5) (frameOf b .ids)))
-  ids-apart = ⊎-elim one three counted
-    where
-      one : byte b 5 ≡ 1 → T (apart (take (byte b 5) (frameOf b .ids)))
-      one e = subst⁻¹ (λ n. T (apart (take n (each n (λ c. byte b (6 + 3 * c)))))) e tt
-
-      three : byte b 5 ≡ 3 → T (apart (take (byte b 5) (frameOf b .ids)))
-      three e = and-left (apart (take (byte b 5) (frameOf b .ids))) _ (and-right (leb (acrossOf b * downOf b) 4) _ tested)
-        where
-          tested : T (threeFit b (frameOf b))
-          tested =
-              subst (λ t. T (t or threeFit b (frameOf b))) (ne-eqb (byte b 5) 1 (λ k. omega (arith, e, k)))
-              (and-right (quantsFit (frameOf b)) _ tables)
+  -- a single channel's factors
+  one : (g : ℕ → ℕ) → byte b 5 ≡ 1 → getD (each (byte b 5) (λ c. counted (byte b 5) (g c))) 0 0 ≡ 1
+  one g e = subst⁻¹ (λ n. getD (each n (λ c. counted n (g c))) 0 0 ≡ 1) e refl
 
   pub frame-ok : FrameOk (frameOf b)
   frame-ok =
       record {
         wide = (ltb→lt 0 _ (and-left (ltb 0 (word b 3)) _ fits), word-below b y 3);
         high = (ltb→lt 0 _ (and-left (ltb 0 (word b 1)) _ (and-right (ltb 0 (word b 3)) _ fits)), word-below b y 1);
-        count = counted;
-        few = few;
-        across = factor-fits (eqb (byte b 5) 1) (acrossOf b) (and-left (within 1 4 (acrossOf b)) _ sides);
-        down = factor-fits (eqb (byte b 5) 1) (downOf b) (and-left (within 1 4 (downOf b)) _ (and-right (within 1 4 (acrossOf b)) _ sides));
-        product = product-fits (eqb (byte b 5) 1) (and-right (quantsFit (frameOf b)) _ tables);
-        single = λ e. (ap (λ t. cond t 1 (acrossOf b)) (eq-eqb (byte b 5) 1 e), ap (λ t. cond t 1 (downOf b)) (eq-eqb (byte b 5) 1 e));
-        ids = λ c. omega (arith, each-most (byte b 5) (λ k. byte b (6 + 3 * k)) 255 (λ k h. omega (arith, byte-below b y (6 + 3 * k))) 3 0 c);
+        sampling = frame-sampling b known fits;
+        single = λ e. (one (acrossOf b) e, one (downOf b) e);
+        ids = λ c. omega (arith, each-most (byte b 5) (λ k. byte b (6 + 3 * k)) 255 (λ k h. omega (arith, byte-below b y (6 + 3 * k))) 4 0 c);
         qids = quant-ids;
-        distinct = ids-apart;
+        distinct =
+            and-right (leb (areas (shapeOf (frameOf b) .factors)) 10) _
+            (and-right (quantsFit (frameOf b)) _ (and-right (samplingFits b (byte b 5)) _ tested));
       }
 
 -- ---- sizes
@@ -127,26 +94,25 @@ unfolding workOf
 work-is p = refl
 
 module _ (f : Frame) (ok : FrameOk f) where
-  pub mcus-small : ceiling (f .width) (8 * f .hs) * ceiling (f .height) (8 * f .vs) ≤ 67108864
+  pub mcus-small : mcusAcross (shapeOf f) * mcusDown (shapeOf f) ≤ 67108864
   mcus-small =
       mul-le-mul {n₂ = 8192} {m₂ = 8192}
-      (ceiling-small (f .width) (8 * f .hs) (ok .wide .1) (omega (arith, ok .across)))
-      (ceiling-small (f .height) (8 * f .vs) (ok .high .1) (omega (arith, ok .down)))
-
-  pub blocks-are : blockCount (shapeOf f) ≡ ceiling (f .width) (8 * f .hs) * ceiling (f .height) (8 * f .vs) * (f .hs * f .vs + (f .channels - 1))
-  blocks-are = count-is (f .width) (f .height) (f .hs) (f .vs) (f .channels) (ok .across .0) (ok .down .0)
+      (ceiling-small (f .width) (8 * widest (shapeOf f .factors)) (ok .wide .1) (omega (arith, wide-least f (ok .sampling))))
+      (ceiling-small (f .height) (8 * highest (shapeOf f .factors)) (ok .high .1) (omega (arith, high-least f (ok .sampling))))
 
   pub bytes-are : outputLength (shapeOf f) ≡ f .width * f .height * f .channels
-  bytes-are = output-is (f .width) (f .height) (f .hs) (f .vs) (f .channels) (ok .few .0)
+  unfolding outputLength
+  bytes-are = ap (λ k. f .width * f .height * k) (channels-are f)
 
-  pub count-small : ceiling (f .width) (8 * f .hs) * ceiling (f .height) (8 * f .vs) * (f .hs * f .vs + (f .channels - 1)) ≤ 402653184
-  count-small = mul-le-mul {n₂ = 67108864} {m₂ = 6} mcus-small (omega (arith, ok .product, ok .few .1))
+  pub count-small : blockCount (shapeOf f) ≤ 671088640
+  unfolding blockCount perMcu
+  count-small = mul-le-mul {n₂ = 67108864} {m₂ = 10} mcus-small (ok .sampling .blocks)
 
   pub pixels-small : f .width * f .height ≤ 4294836225
   pixels-small = mul-le-mul {n₂ = 65535} {m₂ = 65535} (omega (arith, ok .wide .1)) (omega (arith, ok .high .1))
 
-  pub output-small : f .width * f .height * f .channels ≤ 12884508675
-  output-small = mul-le-mul {n₂ = 4294836225} {m₂ = 3} pixels-small (ok .few .1)
+  pub output-small : f .width * f .height * f .channels ≤ 17179344900
+  output-small = mul-le-mul {n₂ = 4294836225} {m₂ = 4} pixels-small (ok .sampling .few)
 
 -- ---- the record
 
@@ -162,13 +128,13 @@ pub record Accepted (colour : Bool) (r : Record) : Type 0 where
   pub interval : r .interval < 65536
 
 module _ (colour : Bool) (r : Record) (a : Accepted colour r) where
-  pub blocks-below : r .blocks < 2 ^ 29
-  blocks-below = omega (arith, a .blocks, blocks-are (r .frame) (a .frame), count-small (r .frame) (a .frame))
+  pub blocks-below : r .blocks < 2 ^ 30
+  blocks-below = omega (arith, a .blocks, count-small (r .frame) (a .frame))
 
-  pub output-below : r .output < 2 ^ 34
+  pub output-below : r .output < 2 ^ 35
   output-below = omega (arith, a .output, output-small (r .frame) (a .frame))
 
-  pub work-below : r .work < 2 ^ 41
+  pub work-below : r .work < 2 ^ 42
   work-below = omega (arith, a .work, blocks-below, output-below)
 
 module _ (colour : Bool) where
@@ -176,8 +142,8 @@ module _ (colour : Bool) where
   found-ok b h e ok n t =
       record {
         frame = ok;
-        dcids = each-most (h .frame .channels) (dcId b) 3 (λ c p. leb→le (dcId b c) 3 (and-left (leb (dcId b c) 3) _ (both c p))) 3 0;
-        acids = each-most (h .frame .channels) (acId b) 3 (λ c p. leb→le (acId b c) 3 (and-right (leb (dcId b c) 3) _ (both c p))) 3 0;
+        dcids = each-most (h .frame .channels) (dcId b) 3 (λ c p. leb→le (dcId b c) 3 (and-left (leb (dcId b c) 3) _ (both c p))) 4 0;
+        acids = each-most (h .frame .channels) (acId b) 3 (λ c p. leb→le (acId b c) 3 (and-right (leb (dcId b c) 3) _ (both c p))) 4 0;
         blocks = refl;
         scratch = refl;
         output = bytes-are (h .frame) ok;

@@ -53,7 +53,7 @@ unfolding same
 same-self r =
     let f = r .frame in
     let t = r .tables in
-    rw (self (f .width), self (f .height), self (f .channels), self (f .hs), self (f .vs), lself (f .ids), lself (f .qids))
+    rw (self (f .width), self (f .height), self (f .channels), lself (f .across), lself (f .down), lself (f .ids), lself (f .qids))
     (rw (lself (t .quants), lself (t .dcs), lself (t .acs), lself (r .dcids), lself (r .acids), self (r .interval), self (r .start))
     (rw (self (r .blocks), self (r .scratch), self (r .output), self (r .work), bself (r .colour)) refl))
 
@@ -66,19 +66,19 @@ frames-equal a b t =
     let f1 = both (eqb (a .width) (b .width)) _ t in
     let f2 = both (eqb (a .height) (b .height)) _ (f1 .1) in
     let f3 = both (eqb (a .channels) (b .channels)) _ (f2 .1) in
-    let f4 = both (eqb (a .hs) (b .hs)) _ (f3 .1) in
-    let f5 = both (eqb (a .vs) (b .vs)) _ (f4 .1) in
+    let f4 = both (eqList (a .across) (b .across)) _ (f3 .1) in
+    let f5 = both (eqList (a .down) (b .down)) _ (f4 .1) in
     let f6 = both (eqList (a .ids) (b .ids)) (eqList (a .qids) (b .qids)) (f5 .1) in
     made a b
-    (eqb→eq _ _ (f1 .0)) (eqb→eq _ _ (f2 .0)) (eqb→eq _ _ (f3 .0)) (eqb→eq _ _ (f4 .0)) (eqb→eq _ _ (f5 .0))
+    (eqb→eq _ _ (f1 .0)) (eqb→eq _ _ (f2 .0)) (eqb→eq _ _ (f3 .0)) (lists-equal _ _ (f4 .0)) (lists-equal _ _ (f5 .0))
     (lists-equal _ _ (f6 .0)) (lists-equal _ _ (f6 .1))
   where
     made : (a b : Frame)
-        → a .width ≡ b .width → a .height ≡ b .height → a .channels ≡ b .channels → a .hs ≡ b .hs → a .vs ≡ b .vs
+        → a .width ≡ b .width → a .height ≡ b .height → a .channels ≡ b .channels → a .across ≡ b .across → a .down ≡ b .down
         → a .ids ≡ b .ids → a .qids ≡ b .qids
         → _≡_ {A = Frame}
-        (record { width = a .width; height = a .height; channels = a .channels; hs = a .hs; vs = a .vs; ids = a .ids; qids = a .qids })
-        (record { width = b .width; height = b .height; channels = b .channels; hs = b .hs; vs = b .vs; ids = b .ids; qids = b .qids })
+        (record { width = a .width; height = a .height; channels = a .channels; across = a .across; down = a .down; ids = a .ids; qids = a .qids })
+        (record { width = b .width; height = b .height; channels = b .channels; across = b .across; down = b .down; ids = b .ids; qids = b .qids })
     made a b e1 e2 e3 e4 e5 e6 e7 = rw (e1, e2, e3, e4, e5, e6, e7) refl
 
 tables-equal : (a b : Tables) → T (sameTables a b) → a ≡ b

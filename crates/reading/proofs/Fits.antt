@@ -7,7 +7,7 @@ use lib.Dec.{T, leb, eqb, leb→le, eqb→eq}
 use lib.ListN.{length, getD}
 use Rattle.reading.specs.Tests.{within, apart, all}
 use Rattle.reading.specs.Huffman.{sum, codesFit}
-use Rattle.reading.specs.Header.{byte, each, quantizerFits, countsOf, symbolsOf, listable, tableFits, scanKnown}
+use Rattle.reading.specs.Header.{byte, quantizerFits, countsOf, symbolsOf, listable, tableFits, scanKnown}
 use Rattle.reading.proofs.Plain.{and-left, and-right}
 pub use Rattle.whole.specs.Tests.{all-at}
 
@@ -52,7 +52,3 @@ module _ (b : List ℕ) where
 
   pub scan-few : (ch : ℕ) → T (scanKnown b ch) → byte b 0 ≡ ch
   scan-few ch t = eqb→eq (byte b 0) ch (and-left (eqb (byte b 0) ch) _ t)
-
--- three bytes of a body, one for each channel
-pub each-made : (n i j k : ℕ) (f : ℕ → ℕ) → i ≡ f 0 → j ≡ f 1 → k ≡ f 2 → each n (λ c. getD (i ∷ j ∷ k ∷ []) c 0) ≡ each n f
-each-made n i j k f p q r = rw (p, q, r)

@@ -1,23 +1,20 @@
 -- What the rules say of the numbers of a frame that was read, and of a header's state.
-use Prim.Native.Nat.{ℕ, _*_, _<_, _≤_}
+use Prim.Native.Nat.{ℕ, _<_, _≤_}
 use mathlib.Core.Path.{_≡_}
-use mathlib.Core.Logic.{_⊎_}
 use lib.Dec.{T}
 use lib.ListN.{getD, take}
 use Rattle.reading.specs.declared.Frame.{Frame}
 use Rattle.reading.specs.declared.Header.{Header}
 use Rattle.reading.specs.Tests.{apart}
+use Rattle.reading.proofs.Sampling.{Sampling}
 
 pub record FrameOk (f : Frame) : Type 0 where
   pub wide : (0 < f .width) × (f .width < 65536)
   pub high : (0 < f .height) × (f .height < 65536)
-  pub count : (f .channels ≡ 1) ⊎ (f .channels ≡ 3)
-  pub few : (0 < f .channels) × (f .channels ≤ 3)
-  pub across : (0 < f .hs) × (f .hs ≤ 4)
-  pub down : (0 < f .vs) × (f .vs ≤ 4)
-  pub product : f .hs * f .vs ≤ 4
+  -- one to four channels, factors 1 to 4, at most ten blocks in an MCU
+  pub sampling : Sampling f
   -- one channel counts as 1 x 1
-  pub single : f .channels ≡ 1 → (f .hs ≡ 1) × (f .vs ≡ 1)
+  pub single : f .channels ≡ 1 → (getD (f .across) 0 0 ≡ 1) × (getD (f .down) 0 0 ≡ 1)
   pub ids : (c : ℕ) → getD (f .ids) c 0 < 256
   pub qids : (c : ℕ) → getD (f .qids) c 0 ≤ 3
   -- no two channels have one component id

@@ -7,7 +7,7 @@ use native.Mathlib.Omega.{arith}
 use native.Mathlib.Nat.{not-suc-le-zero, le-trans, mul-pos}
 use native.Mathlib.Numerals.{add-one}
 use Rattle.reading.specs.Layout.{blockCount, channelOf}
-use Rattle.reading.proofs.Places.{channel-in}
+use Rattle.reading.proofs.Sampling.{Sampling, channel-in, channels-are, per-some, frame-sampling}
 use Rattle.reading.specs.Scan.{planOf}
 use Rattle.reading.specs.Tables.{shapeOf, quantAt, dcAt, acAt}
 use Rattle.reading.proofs.ScanWritten.{GoodPlan}
@@ -24,7 +24,8 @@ use Rattle.reading.specs.declared.Header.{Header}
 use Rattle.reading.specs.declared.Record.{Record}
 use Rattle.reading.specs.Tests.{_and_, _or_, within, apart, all}
 use Rattle.reading.specs.Huffman.{tableAt, sum, codesFit}
-use Rattle.reading.specs.Header.{Stage, more, done, stop, byte, word, moved, window, quantizerFits, withQuantizer, countsOf, symbolsOf, listable, put, tableFits, withTable, frame, frameOf, frameFits, withFrame, withInterval, recordOf, complete, hasFrame, kindOf, segment, segmentEnd, marker, stepIn, step, opens, started, opening, header}
+use Rattle.reading.specs.Header.{Stage, more, done, stop, byte, word, moved, window, quantizerFits, withQuantizer, countsOf, symbolsOf, listable, put, tableFits, withTable, frame, frameOf, frameKnown, frameFits}
+use Rattle.reading.specs.Header.{withFrame, withInterval, recordOf, complete, hasFrame, kindOf, segment, segmentEnd, marker, stepIn, step, opens, started, opening, header}
 use Rattle.reading.proofs.Plain.{and-left, and-right, Good}
 use Rattle.reading.proofs.Fits.{within-known, TableKnown, table-known, all-at}
 use Rattle.reading.proofs.HeaderEnds.{is-so, segment-room, window-short, header-within}
@@ -71,15 +72,14 @@ module _ (s : List ℕ) (colour : Bool) where
     pub dcs : Places (TableOk 0 s (h .at)) (h .tables .dcs)
     pub acs : Places (TableOk 1 s (h .at)) (h .tables .acs)
     pub quants : Places (QuantOk s (h .at)) (h .tables .quants)
-    pub lum : 0 < h .frame .channels → 0 < h .frame .hs * h .frame .vs
+    pub sampling : 0 < h .frame .channels → Sampling (h .frame)
 
   pub record Ready (r : Record) : Type 0 where
     pub dcs : Places (TableOk 0 s (r .start)) (r .tables .dcs)
     pub acs : Places (TableOk 1 s (r .start)) (r .tables .acs)
     pub quants : Places (QuantOk s (r .start)) (r .tables .quants)
     pub whole : T (complete r)
-    pub some-channel : 0 < r .frame .channels
-    pub lum : 0 < r .frame .hs * r .frame .vs
+    pub sampling : Sampling (r .frame)
     pub count : r .blocks ≡ blockCount (shapeOf (r .frame))
 
   pub data Kept : Stage → Type 0 where
@@ -94,33 +94,32 @@ module _ (s : List ℕ) (colour : Bool) where
   later-q a b h x t = record { nonzero = t .nonzero; by = le-trans (t .by) h }
 
   -- tables kept at a later place
-  kept : (h : Header) → Inv h → (i : Header) → h .tables .dcs ≡ i .tables .dcs → h .tables .acs ≡ i .tables .acs → h .tables .quants ≡ i .tables .quants → h .at ≤ i .at → (0 < i .frame .channels → 0 < i .frame .hs * i .frame .vs) → Inv i
-  kept h v i d a q k l = record { lum = l; quants = subst (Places (QuantOk s (i .at))) q (places-map _ _ (later-q (h .at) (i .at) k) (h .tables .quants) (v .quants)); dcs = subst (Places (TableOk 0 s (i .at))) d (places-map _ _ (later (h .at) (i .at) k) (h .tables .dcs) (v .dcs)); acs = subst (Places (TableOk 1 s (i .at))) a (places-map _ _ (later (h .at) (i .at) k) (h .tables .acs) (v .acs)) }
-
-  frame-lum : (b : List ℕ) → T (frameFits b (frameOf b)) → 0 < frameOf b .hs * frameOf b .vs
-  frame-lum b t = go (eqb (byte b 5) 1)
-    where
-      third : (a b c d e : Bool) → T (a and b and c and d and e) → T c × T d
-      third true true c d e t = (and-left c (d and e) t, and-left d e (and-right c (d and e) t))
-      third true false c d e t = absurd t
-      third false b c d e t = absurd t
-
-      nibbles : T (within 1 4 (byte b 7 / 16)) × T (within 1 4 (byte b 7 % 16))
-      nibbles = third (ltb 0 (frameOf b .width)) (ltb 0 (frameOf b .height)) (within 1 4 (byte b 7 / 16)) (within 1 4 (byte b 7 % 16)) _ t
-
-      go : (c : Bool) → 0 < cond c 1 (byte b 7 / 16) * cond c 1 (byte b 7 % 16)
-      go true = lit< tt
-      go false = mul-pos (within-known 1 4 (byte b 7 / 16) (nibbles .0) .0) (within-known 1 4 (byte b 7 % 16) (nibbles .1) .0)
+  kept : (h : Header)
+      → Inv h
+      → (i : Header)
+      → h .tables .dcs ≡ i .tables .dcs
+      → h .tables .acs ≡ i .tables .acs
+      → h .tables .quants ≡ i .tables .quants
+      → h .at ≤ i .at
+      → (0 < i .frame .channels → Sampling (i .frame))
+      → Inv i
+  kept h v i d a q k l =
+      record {
+        sampling = l;
+        quants = subst (Places (QuantOk s (i .at))) q (places-map _ _ (later-q (h .at) (i .at) k) (h .tables .quants) (v .quants));
+        dcs = subst (Places (TableOk 0 s (i .at))) d (places-map _ _ (later (h .at) (i .at) k) (h .tables .dcs) (v .dcs));
+        acs = subst (Places (TableOk 1 s (i .at))) a (places-map _ _ (later (h .at) (i .at) k) (h .tables .acs) (v .acs));
+      }
 
   segment-kept : (h : Header) → Inv h → (k : Kind) (b : List ℕ) (a e : ℕ) → h .at ≤ a → a ≤ e → Kept (segment colour h k b a e)
-  segment-kept h v Quants b a e p q = stop-or Kept off (eqb a e) Malformed _ (λ t. on _ (kept h v (moved h a (Quantizers e)) refl refl refl p (v .lum)))
-  segment-kept h v Tables b a e p q = stop-or Kept off (eqb a e) Malformed _ (λ t. on _ (kept h v (moved h a (Huffman e)) refl refl refl p (v .lum)))
+  segment-kept h v Quants b a e p q = stop-or Kept off (eqb a e) Malformed _ (λ t. on _ (kept h v (moved h a (Quantizers e)) refl refl refl p (v .sampling)))
+  segment-kept h v Tables b a e p q = stop-or Kept off (eqb a e) Malformed _ (λ t. on _ (kept h v (moved h a (Huffman e)) refl refl refl p (v .sampling)))
   segment-kept h v Frames b a e p q =
       stop-or Kept off _ _ _
       (λ t1. stop-or Kept off _ _ _
       (λ t2. stop-or Kept off _ _ _
       (λ t3. stop-or Kept off _ _ _
-      (λ t4. on _ (kept h v (withFrame h e (frameOf b)) refl refl refl (le-trans p q) (λ _. frame-lum b (is-so (frameFits b (frameOf b)) t4)))))))
+      (λ t4. on _ (kept h v (withFrame h e (frameOf b)) refl refl refl (le-trans p q) (λ _. frame-sampling b (is-so (frameKnown b) t2) (is-so (frameFits b (frameOf b)) t4)))))))
   segment-kept h v Scans b a e p q =
       stop-or Kept off _ _ _
       (λ t1. stop-or Kept off _ _ _
@@ -129,12 +128,11 @@ module _ (s : List ℕ) (colour : Bool) where
         acs = places-map _ _ (later (h .at) e (le-trans p q)) (h .tables .acs) (v .acs);
         quants = places-map _ _ (later-q (h .at) e (le-trans p q)) (h .tables .quants) (v .quants);
         whole = is-so (complete (recordOf b colour h e)) t5;
-        some-channel = ltb→lt 0 (h .frame .channels) (is-so (hasFrame h) t1);
-        lum = v .lum (ltb→lt 0 (h .frame .channels) (is-so (hasFrame h) t1));
+        sampling = v .sampling (ltb→lt 0 (h .frame .channels) (is-so (hasFrame h) t1));
         count = refl;
       }))))))
-  segment-kept h v Intervals b a e p q = stop-or Kept off _ _ _ (λ t. on _ (kept h v (withInterval h e (word b 0)) refl refl refl (le-trans p q) (v .lum)))
-  segment-kept h v Skips b a e p q = on _ (kept h v (moved h e Marker) refl refl refl (le-trans p q) (v .lum))
+  segment-kept h v Intervals b a e p q = stop-or Kept off _ _ _ (λ t. on _ (kept h v (withInterval h e (word b 0)) refl refl refl (le-trans p q) (v .sampling)))
+  segment-kept h v Skips b a e p q = on _ (kept h v (moved h e Marker) refl refl refl (le-trans p q) (v .sampling))
   segment-kept h v Others b a e p q = off Unsupported
 
   drop-next : (l : List ℕ) (p : ℕ) → drop 1 (drop p l) ≡ drop (p + 1) l
@@ -163,10 +161,14 @@ module _ (s : List ℕ) (colour : Bool) where
   table-kept : (h : Header) → Inv h → (e : ℕ) → T (tableFits (window s (h .at) e)) → Inv (withTable (window s (h .at) e) h)
   table-kept h v e t =
       record {
-        dcs = put-kept (eqb (byte w 0 / 16) 0) (h .at + (17 + sum (countsOf w))) (h .tables .dcs) (byte w 0 % 16) (h .at + 1) (places-map _ _ (later (h .at) (h .at + (17 + sum (countsOf w))) (omega arith)) (h .tables .dcs) (v .dcs)) (λ c. ok 0 (eqb→eq _ 0 (subst⁻¹ T c tt)));
-        acs = put-kept (eqb (byte w 0 / 16) 1) (h .at + (17 + sum (countsOf w))) (h .tables .acs) (byte w 0 % 16) (h .at + 1) (places-map _ _ (later (h .at) (h .at + (17 + sum (countsOf w))) (omega arith)) (h .tables .acs) (v .acs)) (λ c. ok 1 (eqb→eq _ 1 (subst⁻¹ T c tt)));
+        dcs =
+            put-kept (eqb (byte w 0 / 16) 0) (h .at + (17 + sum (countsOf w))) (h .tables .dcs) (byte w 0 % 16) (h .at + 1)
+            (places-map _ _ (later (h .at) (h .at + (17 + sum (countsOf w))) (omega arith)) (h .tables .dcs) (v .dcs)) (λ c. ok 0 (eqb→eq _ 0 (subst⁻¹ T c tt)));
+        acs =
+            put-kept (eqb (byte w 0 / 16) 1) (h .at + (17 + sum (countsOf w))) (h .tables .acs) (byte w 0 % 16) (h .at + 1)
+            (places-map _ _ (later (h .at) (h .at + (17 + sum (countsOf w))) (omega arith)) (h .tables .acs) (v .acs)) (λ c. ok 1 (eqb→eq _ 1 (subst⁻¹ T c tt)));
         quants = places-map _ _ (later-q (h .at) (h .at + (17 + sum (countsOf w))) (omega arith)) (h .tables .quants) (v .quants);
-        lum = v .lum;
+        sampling = v .sampling;
       }
     where
       w : List ℕ
@@ -197,7 +199,7 @@ module _ (s : List ℕ) (colour : Bool) where
         dcs = places-map _ _ (later (h .at) (h .at + 65) (omega arith)) (h .tables .dcs) (v .dcs);
         acs = places-map _ _ (later (h .at) (h .at + 65) (omega arith)) (h .tables .acs) (v .acs);
         quants = places-set (QuantOk s (h .at + 65)) (h .tables .quants) (byte w 0) (h .at + 1) (places-map _ _ (later-q (h .at) (h .at + 65) (omega arith)) (h .tables .quants) (v .quants)) ok;
-        lum = v .lum;
+        sampling = v .sampling;
       }
     where
       w : List ℕ
@@ -215,7 +217,7 @@ module _ (s : List ℕ) (colour : Bool) where
   marker-kept : (h : Header) → Inv h → Kept (marker s colour h)
   marker-kept h v =
       stop-or Kept off (ltb (length s) (h .at + 2) or not (eqb (byte s (h .at)) 255)) Malformed _
-      (λ t1. chosen-or Kept (eqb (byte s (h .at + 1)) 255) _ _ (λ t2. on _ (kept h v (moved h (h .at + 1) Marker) refl refl refl (omega arith) (v .lum)))
+      (λ t1. chosen-or Kept (eqb (byte s (h .at + 1)) 255) _ _ (λ t2. on _ (kept h v (moved h (h .at + 1) Marker) refl refl refl (omega arith) (v .sampling)))
       (λ t2. stop-or Kept off (eqb (byte s (h .at + 1)) 217) Malformed _
       (λ t3. stop-or Kept off (ltb (length s) (h .at + 4) or ltb (word s (h .at + 2)) 2 or ltb (length s) (segmentEnd s (h .at))) CutShort _
       (λ t4. segment-kept h v (kindOf (byte s (h .at + 1))) (window s (h .at + 4) (segmentEnd s (h .at))) (h .at + 4) (segmentEnd s (h .at)) (omega arith)
@@ -226,18 +228,18 @@ module _ (s : List ℕ) (colour : Bool) where
   stepIn-kept h v Marker = marker-kept h v
   stepIn-kept h v (Quantizers e) =
       chosen-or Kept (eqb (h .at) e) _ _
-      (λ t. on _ (kept h v (moved h e Marker) refl refl refl (omega (arith, eqb→eq (h .at) e (subst⁻¹ T t tt))) (v .lum)))
+      (λ t. on _ (kept h v (moved h e Marker) refl refl refl (omega (arith, eqb→eq (h .at) e (subst⁻¹ T t tt))) (v .sampling)))
       (λ t. stop-or Kept off (not (quantizerFits (window s (h .at) e))) Malformed _ (λ u. on _ (quant-kept h v e (is-so (quantizerFits (window s (h .at) e)) u))))
   stepIn-kept h v (Huffman e) =
       chosen-or Kept (eqb (h .at) e) _ _
-      (λ t. on _ (kept h v (moved h e Marker) refl refl refl (omega (arith, eqb→eq (h .at) e (subst⁻¹ T t tt))) (v .lum)))
+      (λ t. on _ (kept h v (moved h e Marker) refl refl refl (omega (arith, eqb→eq (h .at) e (subst⁻¹ T t tt))) (v .sampling)))
       (λ t. stop-or Kept off _ Malformed _ (λ u. on _ (table-kept h v e (is-so (tableFits (window s (h .at) e)) u))))
 
   pub step-kept : (h : Header) → Inv h → Kept (step s colour h)
   step-kept h v = stepIn-kept h v (h .case)
 
   pub opening-kept : Inv opening
-  opening-kept = record { dcs = zero-places; acs = zero-places; quants = zero-quants; lum = λ k. absurd (not-suc-le-zero k) }
+  opening-kept = record { dcs = zero-places; acs = zero-places; quants = zero-quants; sampling = λ k. absurd (not-suc-le-zero k) }
     where
       zero-quants : Places (QuantOk s 2) (replicate 4 0)
       zero-quants = ((λ k. absurd (not-suc-le-zero k)), ((λ k. absurd (not-suc-le-zero k)), ((λ k. absurd (not-suc-le-zero k)), ((λ k. absurd (not-suc-le-zero k)), tt))))
@@ -302,7 +304,11 @@ tables-stand s colour r e k =
     none n = omega arith
 
     there : T (ltb 0 (quantAt r (channelOf (shapeOf (r .frame)) k)) and ltb 0 (dcAt r (channelOf (shapeOf (r .frame)) k)) and ltb 0 (acAt r (channelOf (shapeOf (r .frame)) k)))
-    there = all-at (λ c. ltb 0 (quantAt r c) and ltb 0 (dcAt r c) and ltb 0 (acAt r c)) (r .frame .channels) 0 (q .whole) (channelOf (shapeOf (r .frame)) k) zero-le (subst (λ i. channelOf (shapeOf (r .frame)) k < i) (sym (none (r .frame .channels))) (channel-in (r .frame .width) (r .frame .height) (r .frame .hs) (r .frame .vs) (r .frame .channels) k (q .some-channel) (q .lum)))
+    there =
+        all-at (λ c. ltb 0 (quantAt r c) and ltb 0 (dcAt r c) and ltb 0 (acAt r c)) (r .frame .channels) 0 (q .whole)
+        (channelOf (shapeOf (r .frame)) k) zero-le
+        (subst (λ i. channelOf (shapeOf (r .frame)) k < i) (channels-are (r .frame) ∙ sym (none (r .frame .channels)))
+        (channel-in (shapeOf (r .frame)) k (per-some (r .frame) (q .sampling))))
 
 pub good-plan : (s : List ℕ) (colour : Bool) (r : Record) → header s colour ≡ done r → GoodPlan (planOf s r)
 good-plan s colour r e =

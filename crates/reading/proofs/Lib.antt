@@ -17,6 +17,7 @@ pub mod Same
 pub mod Stages
 pub mod Fits
 pub mod McuCounts
+pub mod Sampling
 pub mod HeaderEnds
 pub mod Unstuffed
 pub mod Packed

@@ -1,4 +1,4 @@
--- Laws of the MCUs of a side and of the blocks of an MCU: for a frame's numbers they are the rules' own.
+-- Laws of the MCUs of a side: for a frame's numbers they are the rules' own.
 use mathlib.Core.Path.{_≡_, refl, sym, _∙_, subst⁻¹}
 use mathlib.Core.Bool.{Bool, true, false, not}
 use Prim.Native.Nat.{ℕ, _+_, _*_, _-_, _<_, _≤_}
@@ -7,7 +7,7 @@ use borrow.Author.Tests.{le-leb, lt-leb, not-true, not-false}
 use lib.Dec.{T, leb}
 use Rattle.reading.specs.Tests.{_and_, within}
 use Rattle.reading.specs.Layout.{ceiling}
-use Rattle.reading.specs.Code.Mcus.{mcusOf, blocksOf}
+use Rattle.reading.specs.Code.Mcus.{mcusOf}
 use Rattle.reading.proofs.Fits.{within-known}
 
 -- ---- a test that was made
@@ -40,40 +40,8 @@ pub mcus-none : (side factor : ℕ) → side ≤ 65535 → within 1 4 factor ≡
 unfolding mcusOf
 mcus-none side factor a e = rw (le-leb side 65535 a, e) refl
 
--- ---- the blocks of an MCU
-
--- the first channel has at most 16 of them
-pub few : (hs vs : ℕ) → hs ≤ 4 → vs ≤ 4 → hs * vs ≤ 16
-few hs vs a b = mul-le-mul a b
-
-module _ (hs vs channels : ℕ) where
-  pub blocks-no-hs : within 1 4 hs ≡ false → 0 ≡ blocksOf hs vs channels
-  unfolding blocksOf
-  blocks-no-hs e = rw e refl
-
-  module _ (e1 : within 1 4 hs ≡ true) where
-    pub blocks-no-vs : within 1 4 vs ≡ false → 0 ≡ blocksOf hs vs channels
-    unfolding blocksOf
-    blocks-no-vs e = rw (e1, e) refl
-
-    module _ (e2 : within 1 4 vs ≡ true) where
-      pub blocks-no-channels : within 1 3 channels ≡ false → 0 ≡ blocksOf hs vs channels
-      unfolding blocksOf
-      blocks-no-channels e = rw (e1, e2, e) refl
-
-      pub blocks-by-tests : within 1 3 channels ≡ true → hs * vs + (channels - 1) ≡ blocksOf hs vs channels
-      unfolding blocksOf
-      blocks-by-tests e = rw (e1, e2, e) refl
-
-  pub blocks-are : 1 ≤ hs → hs ≤ 4 → 1 ≤ vs → vs ≤ 4 → 1 ≤ channels → channels ≤ 3 → hs * vs + (channels - 1) ≡ blocksOf hs vs channels
-  blocks-are a b c d e f = blocks-by-tests (between 1 4 hs a b) (between 1 4 vs c d) (between 1 3 channels e f)
-
 -- ---- a count that was asked for, in the rules' words
 
 module _ (side factor : ℕ) {n : ℕ} (e : n ≡ mcusOf side factor) where
   pub mcus-asked : side ≤ 65535 → 1 ≤ factor → factor ≤ 4 → n ≡ ceiling side (8 * factor)
   mcus-asked a b c = e ∙ sym (mcus-are side factor a b c)
-
-module _ (hs vs channels : ℕ) {n : ℕ} (e : n ≡ blocksOf hs vs channels) where
-  pub blocks-asked : 1 ≤ hs → hs ≤ 4 → 1 ≤ vs → vs ≤ 4 → 1 ≤ channels → channels ≤ 3 → n ≡ hs * vs + (channels - 1)
-  blocks-asked a b c d f g = e ∙ sym (blocks-are hs vs channels a b c d f g)

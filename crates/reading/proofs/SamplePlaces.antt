@@ -5,8 +5,12 @@ use Prim.Native.Nat.{ℕ, zero, suc, _+_, _*_, _-_, _/_, _%_, _<_, _≤_}
 use mathlib.Core.Path.{_≡_, refl, ap, ap₂, _∙_}
 use native.Mathlib.Omega.{arith}
 use native.Mathlib.Nat.{dvd-mul-right, mod-lt, mod-mod-of-dvd, mul-div-cancel, mul-one, div-add-mod', div-lt-iff-lt-mul, mul-le-mul-right, not-suc-le-zero}
+use mathlib.Core.List.{List, [], _∷_}
 use lib.ListN.{getD, take, replicate}
-use Rattle.reading.specs.Layout.{Shape, Factors, oneByOne, ceiling, areas, perMcu, blockCount, factorsAt, before, scaled, sampleAt}
+use Rattle.reading.specs.declared.Frame.{Frame}
+use Rattle.reading.specs.Tables.{factorsIn, factorsFrom, shapeOf}
+use Rattle.reading.specs.Words.{Sampled, OldLayout}
+use Rattle.reading.specs.Layout.{Shape, Factors, oneByOne, factorsOf, ceiling, areas, perMcu, blockCount, factorsAt, before, scaled, sampleAt}
 use Rattle.reading.proofs.Places.{shape, per-is, widest-is, highest-is, count-is}
 
 -- ---- one channel's place in an MCU
@@ -109,3 +113,34 @@ module _ (w h hs vs ch : ℕ) (hp : 0 < hs) (vp : 0 < vs) where
       let all : (y / (8 * vs) * ceiling w (8 * hs) + x / (8 * hs) + 1) * (hs * vs + (ch - 1)) ≤ ceiling w (8 * hs) * ceiling h (8 * vs) * (hs * vs + (ch - 1))
       = mul-le-mul-right (hs * vs + (ch - 1)) (omega arith) in
       omega (arith, all, count-is w h hs vs ch hp vp)
+
+-- ---- a frame with that sampling
+
+-- the channels behind the first are 1 x 1
+others-are : (across down : List ℕ) (c n : ℕ) → ((i : ℕ) → c ≤ i → i < c + n → (getD across i 0 ≡ 1) × (getD down i 0 ≡ 1))
+    → factorsFrom across down c n ≡ replicate n oneByOne
+others-are across down c zero h = refl
+others-are across down c (suc n) h =
+    ap₂ (λ (f : Factors) fs. f ∷ fs) (ap₂ (λ a b. record { across = a; down = b }) (h c (omega arith) (omega arith) .0) (h c (omega arith) (omega arith) .1))
+    (others-are across down (suc c) n (λ i p q. h i (omega arith) (omega arith)))
+
+module _ (f : Frame) (hs vs : ℕ) (s : Sampled f hs vs) where
+  factors-same : factorsFrom (f .across) (f .down) 0 (f .channels) ≡ factorsOf hs vs (f .channels)
+  factors-same =
+      let one-more : f .channels ≡ suc (f .channels - 1) = omega (arith, s .some) in
+      ap (factorsFrom (f .across) (f .down) 0) one-more
+      ∙ ap₂ (λ (g : Factors) gs. g ∷ gs) (ap₂ (λ a b. record { across = a; down = b }) (s .across) (s .down))
+      (others-are (f .across) (f .down) 1 (f .channels - 1) (λ i p q. s .others i (omega arith) (omega arith)))
+
+  same : shapeOf f ≡ shape (f .width) (f .height) hs vs (f .channels)
+  same = ap (λ fs. record { width = f .width; height = f .height; factors = fs }) factors-same
+
+  pub old-layout : OldLayout f hs vs
+  old-layout =
+      record {
+        blocks = ap blockCount same ∙ count-is (f .width) (f .height) hs vs (f .channels) (s .wide) (s .high);
+        first =
+            λ x y. ap (λ p. sampleAt p x y 0) same ∙ first-channel-place (f .width) (f .height) hs vs (f .channels) (s .wide) (s .high) x y;
+        others =
+            λ x y c h. ap (λ p. sampleAt p x y (suc c)) same ∙ chroma-place (f .width) (f .height) hs vs (f .channels) (s .wide) (s .high) x y c h;
+      }

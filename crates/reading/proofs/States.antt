@@ -15,6 +15,7 @@ use Rattle.reading.specs.declared.Record.{Record}
 use Rattle.reading.specs.Tests.{within}
 use Rattle.reading.specs.Code.Scans.{readable}
 use Rattle.reading.specs.Header.{Stage, more, done, stop, step, steps, opens, started, opening, header}
+use Rattle.reading.proofs.Sampling.{sampled-so}
 use Rattle.reading.proofs.Stages.{stop-or, steps-hold}
 use Rattle.reading.proofs.HeaderEnds.{Ok, Down, left, opens-two, step-down}
 use Rattle.reading.proofs.HeaderEnds as ends
@@ -64,16 +65,11 @@ module _ (s : List ℕ) (colour : Bool) where
     header-fits r e = subst Holds e (steps-valid (2 * length s + 1))
 
 -- its scan can be read
-within-yes : (a b n : ℕ) → a ≤ n → n ≤ b → within a b n ≡ true
-within-yes a b n p q = rw (le-leb a n p, le-leb n b q) refl
-
 pub header-readable : (s : List ℕ) → AllBytes s → (colour : Bool) (r : Record) → header s colour ≡ done r → readable s r ≡ true
 unfolding readable
 header-readable s y colour r e =
     let f = header-fits s colour y r e in
     rw (
       le-leb (r .start) (length s) (f .within),
-      within-yes 1 4 (r .frame .hs) (f .accepted .frame .across .0) (f .accepted .frame .across .1),
-      within-yes 1 4 (r .frame .vs) (f .accepted .frame .down .0) (f .accepted .frame .down .1),
-      within-yes 1 3 (r .frame .channels) (f .accepted .frame .few .0) (f .accepted .frame .few .1),
+      sampled-so (r .frame) (f .accepted .frame .sampling),
     ) refl

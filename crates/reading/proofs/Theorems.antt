@@ -13,6 +13,7 @@ use lib.ListN.{getD, length, take, drop}
 use Rattle.reading.specs.declared.Bits.{Bits}
 use Rattle.reading.specs.declared.Budget.{Budget}
 use Rattle.reading.specs.declared.Decoding.{Decoding}
+use Rattle.reading.specs.declared.Frame.{Frame}
 use Rattle.reading.specs.declared.Inspection.{Inspection}
 use Rattle.reading.specs.declared.Limits.{Limits}
 use Rattle.reading.specs.declared.Part.{Part}
@@ -37,7 +38,7 @@ use Rattle.reading.specs.Calls.{headerPrice, inspect, Decoded, decode, R
 use Rattle.reading.specs.Comments.{comments, commentPart, comment, hasComment}
 use Rattle.reading.specs.Prices.{filePrice, decodePrice}
 use Rattle.reading.specs.Files.{headIn, coefficientsIn, samplesIn, pictureIn, settledIn, lacksEndIn}
-use Rattle.reading.specs.Words.{Not, AllBytes, Careful, doubleSum, ReadsAs, reread, SettlesTo, cutAt, Enough, Roomy, InspectRefuses, Inspects, Priced, Alike}
+use Rattle.reading.specs.Words.{Not, AllBytes, Careful, doubleSum, Sampled, OldLayout, ReadsAs, reread, SettlesTo, cutAt, Enough, Roomy, InspectRefuses, Inspects, Priced, Alike}
 use Rattle.reading.proofs.HeaderEnds.{finished, header-ends}
 use Rattle.reading.proofs.Choice.{reading-choice}
 use Rattle.reading.proofs.Judgement as J
@@ -47,6 +48,7 @@ use Rattle.reading.proofs.Decodings as D
 use Rattle.reading.proofs.WholeFiles as F
 use Rattle.reading.proofs.SettledCalls as C
 use Rattle.reading.proofs.Prices as P
+use Rattle.reading.proofs.SamplePlaces as A
 use Rattle.reading.proofs.DoubleSum as S
 use Rattle.reading.proofs.SettledLength as L
 use Rattle.reading.proofs.Comments as N
@@ -258,6 +260,15 @@ pub inspected-decodes :
     → decode s r out scratch budget′ .answer .verdict ≡ Accepted
 inspected-decodes s colour l budget r out scratch budget′ v room paid =
     D.inspected-decodes s colour l budget r out scratch budget′ v room paid
+
+-- ---- The layout (`SamplePlaces`). `Sampled`: hs x vs in the first channel and 1 x 1 in the others; `OldLayout`: the blocks and the places then
+
+-- the layout is stated over the factors of each channel; where only the first channel has factors of its own, it is the old one
+pub old-layout :
+    (f : Frame) (hs vs : ℕ)
+    → Sampled f hs vs
+    → OldLayout f hs vs
+old-layout = A.old-layout
 
 -- ---- Samples (`DoubleSum`)
 

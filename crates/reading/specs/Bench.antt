@@ -15,7 +15,7 @@ use Rattle.reading.specs.Bits.{meaning}
 use Rattle.reading.specs.Block.{zeros}
 use Rattle.reading.specs.Colour.{red, green, blue}
 use Rattle.reading.specs.Transform.{clamped, coefficients, samples}
-use Rattle.reading.specs.Layout.{Shape, factorsOf, blockCount, outputLength, workOf}
+use Rattle.reading.specs.Layout.{Factors, Shape, factorsOf, blockCount, outputLength, workOf, sampleAt}
 use Rattle.reading.specs.Calls.{inspect, decode, settle, number, named, eqList}
 use Rattle.reading.specs.Comments.{comments, commentPart, comment, hasComment}
 
@@ -170,9 +170,15 @@ abbrev pub numbers : Record → List ℕ
 numbers r =
     let f = r .frame in
     let t = r .tables in
-    f .width ∷ f .height ∷ f .channels ∷ f .hs ∷ f .vs
-    ∷ f .ids ++ f .qids ++ r .dcids ++ r .acids ++ t .quants ++ t .dcs ++ t .acs
+    f .width ∷ f .height ∷ f .channels
+    ∷ f .across ++ f .down ++ f .ids ++ f .qids ++ r .dcids ++ r .acids ++ t .quants ++ t .dcs ++ t .acs
     ++ r .interval ∷ r .start ∷ r .blocks ∷ r .scratch ∷ r .output ∷ r .work ∷ flag (r .colour) ∷ []
+
+-- luma 2 x 2, chroma 1 x 2
+abbrev tall : Shape
+tall =
+    let chroma : Factors = record { across = 1; down = 2 } in
+    record { width = 32; height = 16; factors = record { across = 2; down = 2 } ∷ chroma ∷ chroma ∷ [] }
 
 -- ---- the table
 
@@ -205,7 +211,8 @@ table =
     ∷ gives (inspected F 3482) (2 ∷ 3199 ∷ [])
     ∷ gives (inspected F 282) (2 ∷ 282 ∷ [])
     ∷ gives (numbers (inspect F true wide plenty .found))
-    (8 ∷ 8 ∷ 1 ∷ 1 ∷ 1 ∷ 1 ∷ replicate 11 0 ++ 7 ∷ 0 ∷ 0 ∷ 0 ∷ 89 ∷ 0 ∷ 0 ∷ 0 ∷ 111 ∷ 0 ∷ 0 ∷ 0 ∷ 0 ∷ 138 ∷ 1 ∷ 64 ∷ 64 ∷ 3200 ∷ 1 ∷ [])
+    (8 ∷ 8 ∷ 1 ∷ 1 ∷ 0 ∷ 0 ∷ 0 ∷ 1 ∷ 0 ∷ 0 ∷ 0 ∷ 1 ∷ replicate 15 0
+    ++ 7 ∷ 0 ∷ 0 ∷ 0 ∷ 89 ∷ 0 ∷ 0 ∷ 0 ∷ 111 ∷ 0 ∷ 0 ∷ 0 ∷ 0 ∷ 138 ∷ 1 ∷ 64 ∷ 64 ∷ 3200 ∷ 1 ∷ [])
     ∷ gives (decoded F 65 3483) (0 ∷ 0 ∷ replicate 64 128 ++ 7 ∷ replicate 64 128 ++ 9 ∷ [])
     ∷ gives (decoded F 63 3483) (7 ∷ 3483 ∷ replicate 63 7 ++ replicate 63 9)
     -- P1: byte 63 in F is settled
@@ -249,9 +256,14 @@ table =
     -- prediction -2048 is taken, -2049 refused: 2047 and then 1 or 2 down
     ∷ gives (verdict (falling (0 ∷ 4 ∷ 127 ∷ []))) (0 ∷ [])
     ∷ gives (verdict (falling (0 ∷ 6 ∷ 95 ∷ []))) (4 ∷ [])
-    -- the largest picture at 1 x 1 sampling
+    -- the largest picture: four channels at 1 x 1 sampling; and of three
+    ∷ gives (let p : Shape = record { width = 65535; height = 65535; factors = factorsOf 1 1 4 } in blockCount p ∷ outputLength p ∷ workOf p ∷ [])
+    (268435456 ∷ 17179344900 ∷ 858992934916 ∷ [])
     ∷ gives (let p : Shape = record { width = 65535; height = 65535; factors = factorsOf 1 1 3 } in blockCount p ∷ outputLength p ∷ workOf p ∷ [])
     (201326592 ∷ 12884508675 ∷ 644244701187 ∷ [])
+    -- chroma 1 x 2 beside luma 2 x 2: samples of both chroma channels at the first and the last pixel of an MCU, and of the next MCU's first
+    ∷ gives (sampleAt tall 0 0 1 ∷ sampleAt tall 15 15 1 ∷ sampleAt tall 15 15 2 ∷ sampleAt tall 16 0 1 ∷ [])
+    (256 ∷ 383 ∷ 511 ∷ 768 ∷ [])
     -- a value at place 63: no end code is read or written, and the table has none
     ∷ gives (settled (long 1 (11 ∷ []))) (0 ∷ long 1 (11 ∷ []))
     -- a 240 that reaches place 64 ends its block; settled, the block wants an end code, and there is none

@@ -161,8 +161,8 @@ eqBool false false = true
 -- two records are equal in every field: the frame, the places of tables, what the scan says, and what follows from them
 abbrev pub sameFrame : Frame → Frame → Bool
 sameFrame a b =
-    eqb (a .width) (b .width) and eqb (a .height) (b .height) and eqb (a .channels) (b .channels) and eqb (a .hs) (b .hs)
-    and eqb (a .vs) (b .vs) and eqList (a .ids) (b .ids) and eqList (a .qids) (b .qids)
+    eqb (a .width) (b .width) and eqb (a .height) (b .height) and eqb (a .channels) (b .channels)
+    and eqList (a .across) (b .across) and eqList (a .down) (b .down) and eqList (a .ids) (b .ids) and eqList (a .qids) (b .qids)
 
 abbrev pub sameTables : Tables → Tables → Bool
 sameTables a b = eqList (a .quants) (b .quants) and eqList (a .dcs) (b .dcs) and eqList (a .acs) (b .acs)

@@ -18,7 +18,7 @@ use Rattle.reading.specs.Tests.{_and_, _or_, within, apart, all, allFrom
 use Rattle.reading.specs.Huffman.{sum, codesFit}
 use Rattle.reading.specs.Block.{dcTaken, acTaken}
 use Rattle.reading.specs.Tables.{shapeOf, quantAt, dcAt, acAt}
-use Rattle.reading.specs.Layout.{blockCount, outputLength, workOf}
+use Rattle.reading.specs.Layout.{areas, blockCount, outputLength, workOf}
 
 -- where the header stands: more to read, the scan with its record, or a refusal
 pub data Stage : Type 0 where
@@ -117,20 +117,24 @@ abbrev pub eachFrom : ℕ → ℕ → ℕ → (ℕ → ℕ) → List ℕ
 eachFrom zero c ch f = []
 eachFrom (suc n) c ch f = cond (ltb c ch) (f c) 0 ∷ eachFrom n (suc c) ch f
 
--- for each of three channels, f of it; 0 behind the last channel
+-- for each of four channels, f of it; 0 behind the last channel
 abbrev pub each : ℕ → (ℕ → ℕ) → List ℕ
-each ch f = eachFrom 3 0 ch f
+each ch f = eachFrom 4 0 ch f
 
 -- a property of each channel
 abbrev pub eachChannel : ℕ → (ℕ → Bool) → Bool
 eachChannel ch p = allFrom ch 0 p
 
--- the first channel's sampling, across and down
-abbrev pub acrossOf : List ℕ → ℕ
-acrossOf b = byte b 7 / 16
+-- the sampling of channel c, across and down
+abbrev pub acrossOf : List ℕ → ℕ → ℕ
+acrossOf b c = byte b (7 + 3 * c) / 16
 
-abbrev pub downOf : List ℕ → ℕ
-downOf b = byte b 7 % 16
+abbrev pub downOf : List ℕ → ℕ → ℕ
+downOf b c = byte b (7 + 3 * c) % 16
+
+-- a single channel counts as 1 x 1
+abbrev pub counted : ℕ → ℕ → ℕ
+counted ch factor = cond (eqb ch 1) 1 factor
 
 -- the frame of a body
 abbrev pub frameOf : List ℕ → Frame
@@ -140,30 +144,29 @@ frameOf b =
       width = word b 3;
       height = word b 1;
       channels = ch;
-      hs = cond (eqb ch 1) 1 (acrossOf b);
-      vs = cond (eqb ch 1) 1 (downOf b);
+      across = each ch (λ c. counted ch (acrossOf b c));
+      down = each ch (λ c. counted ch (downOf b c));
       ids = each ch (λ c. byte b (6 + 3 * c));
       qids = each ch (λ c. byte b (8 + 3 * c));
     }
 
--- in three channels: a sampling product up to 4, ids apart, chroma 17
-abbrev pub threeFit : List ℕ → Frame → Bool
-threeFit b f =
-    leb (acrossOf b * downOf b) 4 and apart (take (f .channels) (f .ids)) and eqb (byte b 10) 17 and eqb (byte b 13) 17
+-- the sampling of every channel is 1..4
+abbrev pub samplingFits : List ℕ → ℕ → Bool
+samplingFits b ch = eachChannel ch (λ c. within 1 4 (acrossOf b c) and within 1 4 (downOf b c))
 
 -- quantizer ids 0..3
 abbrev pub quantsFit : Frame → Bool
 quantsFit f = eachChannel (f .channels) (λ c. leb (getD (f .qids) c 0) 3)
 
--- the frame is one that is read: no zero side, sampling 1..4, quantizer ids 0..3, and what three channels ask
+-- the frame is one that is read: no zero side, sampling 1..4, quantizer ids 0..3, a sum of products up to 10, ids all different
 abbrev pub frameFits : List ℕ → Frame → Bool
 frameFits b f =
-    ltb 0 (f .width) and ltb 0 (f .height) and within 1 4 (acrossOf b) and within 1 4 (downOf b) and quantsFit f
-    and (eqb (f .channels) 1 or threeFit b f)
+    ltb 0 (f .width) and ltb 0 (f .height) and samplingFits b (f .channels) and quantsFit f
+    and leb (areas (shapeOf f .factors)) 10 and apart (take (f .channels) (f .ids))
 
--- the body can be read as a frame: long enough to hold a count, 8 bits, one channel or three
+-- the body can be read as a frame: long enough to hold a count, 8 bits, one to four channels
 abbrev pub frameKnown : List ℕ → Bool
-frameKnown b = leb 6 (length b) and eqb (byte b 0) 8 and (eqb (byte b 5) 1 or eqb (byte b 5) 3)
+frameKnown b = leb 6 (length b) and eqb (byte b 0) 8 and within 1 4 (byte b 5)
 
 abbrev pub hasFrame : Header → Bool
 hasFrame h = ltb 0 (h .frame .channels)
@@ -292,7 +295,7 @@ steps s colour (suc n) (done r) = done r
 steps s colour (suc n) (stop x) = stop x
 
 abbrev pub noFrame : Frame
-noFrame = record { width = 0; height = 0; channels = 0; hs = 0; vs = 0; ids = replicate 3 0; qids = replicate 3 0 }
+noFrame = record { width = 0; height = 0; channels = 0; across = replicate 4 0; down = replicate 4 0; ids = replicate 4 0; qids = replicate 4 0 }
 
 abbrev pub noTables : tables.Tables
 noTables = record { quants = replicate 4 0; dcs = replicate 4 0; acs = replicate 4 0 }
@@ -318,8 +321,8 @@ noRecord =
     record {
       frame = noFrame;
       tables = noTables;
-      dcids = replicate 3 0;
-      acids = replicate 3 0;
+      dcids = replicate 4 0;
+      acids = replicate 4 0;
       interval = 0;
       start = 0;
       blocks = 0;

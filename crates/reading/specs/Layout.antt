@@ -1,6 +1,6 @@
--- MCUs, blocks, restarts, and where each sample stands, stated over the sampling factors of each channel. The pictures that are
--- read today have the factors hs x vs and then 1 x 1 (`factorsOf`); the laws in proofs/Places and
--- proofs/SamplePlaces say what that instance is.
+-- MCUs, blocks, restarts, and where each sample stands, stated over the sampling factors of each channel. The layout that pictures had
+-- before each channel could have factors of its own, hs x vs and then 1 x 1 (`factorsOf`), is an instance: proofs/Places and
+-- proofs/SamplePlaces say what it is.
 use Prim.Native.Nat.{ℕ, zero, suc, _+_, _*_, _-_, _/_, _%_, max}
 use mathlib.Core.Bool.{Bool, cond}
 use mathlib.Core.List.{List, [], _∷_}
@@ -39,7 +39,7 @@ abbrev pub highest : List Factors → ℕ
 highest [] = 0
 highest (f ∷ fs) = max (f .down) (highest fs)
 
--- MCUs across = ceiling of width/(8hs); down likewise
+-- MCUs across = ceiling of width/(8 x largest factor across); down likewise
 abbrev pub mcusAcross : Shape → ℕ
 mcusAcross p = ceiling (p .width) (8 * widest (p .factors))
 
@@ -50,7 +50,7 @@ mcusDown p = ceiling (p .height) (8 * highest (p .factors))
 abbrev pub area : Factors → ℕ
 area f = f .across * f .down
 
--- the blocks of an MCU: hs x vs first-channel blocks, then one per chroma channel
+-- the blocks of an MCU: those of each channel, channel after channel
 abbrev pub areas : List Factors → ℕ
 areas [] = 0
 areas (f ∷ fs) = area f + areas fs

@@ -36,7 +36,7 @@ planOf s r =
     record { shape = shapeOf (r .frame); interval = r .interval; channels = channelAt head r }
 
 abbrev pub noPredictors : List ℤ
-noPredictors = zeros 3
+noPredictors = zeros 4
 
 -- before MCU m: where a restart is due, its marker, and the predictors become 0
 abbrev pub restart : {S : Type 0} → Source S → ℕ → ℕ → List ℤ → Reader S (List ℤ)

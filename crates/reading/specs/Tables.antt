@@ -1,14 +1,23 @@
 -- What a frame's shape is, and where the tables of a channel stand: the record has each channel's ids and, by id, the place of each table.
-use Prim.Native.Nat.{ℕ}
-use mathlib.Core.List.{List}
+use Prim.Native.Nat.{ℕ, zero, suc}
+use mathlib.Core.List.{List, [], _∷_}
 use lib.ListN.{getD, take, drop}
 use Rattle.reading.specs.declared.Frame.{Frame}
 use Rattle.reading.specs.declared.Record.{Record}
-use Rattle.reading.specs.Layout.{Shape, factorsOf}
+use Rattle.reading.specs.Layout.{Factors, Shape}
+
+-- the factors of channel c, by the numbers across and down of all channels
+abbrev pub factorsIn : List ℕ → List ℕ → ℕ → Factors
+factorsIn across down c = record { across = getD across c 0; down = getD down c 0 }
+
+-- those of n channels from channel c on
+abbrev pub factorsFrom : List ℕ → List ℕ → ℕ → ℕ → List Factors
+factorsFrom across down c zero = []
+factorsFrom across down c (suc n) = factorsIn across down c ∷ factorsFrom across down (suc c) n
 
 -- the sides of a frame and the factors of its channels
 abbrev pub shapeOf : Frame → Shape
-shapeOf f = record { width = f .width; height = f .height; factors = factorsOf (f .hs) (f .vs) (f .channels) }
+shapeOf f = record { width = f .width; height = f .height; factors = factorsFrom (f .across) (f .down) 0 (f .channels) }
 
 -- the place that a list of places has for channel c, by the channel's id
 abbrev pub chosen : List ℕ → List ℕ → ℕ → ℕ

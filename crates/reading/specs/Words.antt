@@ -1,6 +1,6 @@
 -- The words in which the theorems are said (proofs/Theorems): the codes of a table, what a file reads as, which limits, budget and room suffice for it, by which
 -- rule a call refuses, and what it means that an answer took its listed price. No call is defined by them.
-use Prim.Native.Nat.{ℕ, zero, suc, _+_, _*_, _^_, _<_, _≤_}
+use Prim.Native.Nat.{ℕ, zero, suc, _+_, _*_, _-_, _/_, _%_, _^_, _<_, _≤_}
 use mathlib.Core.Path.{_≡_}
 use mathlib.Core.Bool.{Bool, cond}
 use mathlib.Core.List.{List, [], _∷_}
@@ -8,10 +8,11 @@ use mathlib.Core.Logic.{_⊎_, _↔_}
 use mathlib.Core.Option.{Option, some}
 use lib.Dec.{T, ltb}
 use lib.IntN.{ℤ, pos, _+ℤ_, _*ℤ_}
-use lib.ListN.{length}
+use lib.ListN.{length, getD}
 use Rattle.reading.specs.declared.Bits.{Bits}
 use Rattle.reading.specs.declared.Break.{Break}
 use Rattle.reading.specs.declared.Budget.{Budget}
+use Rattle.reading.specs.declared.Frame.{Frame}
 use Rattle.reading.specs.declared.Limits.{Limits}
 use Rattle.reading.specs.declared.Record.{Record}
 use Rattle.reading.specs.declared.Refusal.{Refusal}
@@ -25,6 +26,8 @@ use Rattle.reading.specs.declared.Fault.the-variants.{RanOut, Broken}
 use Rattle.reading.specs.Reader.{Read, Reader, got, fault}
 use Rattle.reading.specs.Bits.{file, firstBit}
 use Rattle.reading.specs.Huffman.{Table, symbol, codeOf}
+use Rattle.reading.specs.Layout.{ceiling, blockCount, sampleAt}
+use Rattle.reading.specs.Tables.{shapeOf}
 use Rattle.reading.specs.Header.{done, stop, header}
 use Rattle.reading.specs.Scan.{Plan, planOf, ahead, Turn, turn, Cursor, broke, started, levels}
 use Rattle.reading.specs.Reading.{Reading, accepted, refused, reading}
@@ -78,6 +81,37 @@ sumOf (suc n) f = f 0 +ℤ sumOf n (λ j. f (suc j))
 unfoldable pub doubleSum : List ℤ → ℕ → ℕ → ℤ
 unfolding basis sumOf
 doubleSum c y x = sumOf 8 (λ v. sumOf 8 (λ u. at c (8 * v + u) *ℤ basisAt x u *ℤ basisAt y v))
+
+-- ---- the layout that pictures had before each channel could have factors of its own
+
+-- sampling hs x vs in the first channel of a frame, and 1 x 1 in each other
+pub record Sampled (f : Frame) (hs vs : ℕ) : Type 0 where
+  pub some : 0 < f .channels
+  pub wide : 0 < hs
+  pub high : 0 < vs
+  pub across : getD (f .across) 0 0 ≡ hs
+  pub down : getD (f .down) 0 0 ≡ vs
+  pub others : (c : ℕ) → 0 < c → c < f .channels → (getD (f .across) c 0 ≡ 1) × (getD (f .down) c 0 ≡ 1)
+
+-- the MCU of pixel (x, y) then
+abbrev pub mcuThen : Frame → ℕ → ℕ → ℕ → ℕ → ℕ
+mcuThen f hs vs x y = y / (8 * vs) * ceiling (f .width) (8 * hs) + x / (8 * hs)
+
+-- MCUs across = ceiling of width/(8hs), down likewise; an MCU has hs x vs first-channel blocks, then one of each other channel. Sample (x, y)
+-- of the first channel is in its block at (x mod 8, y mod 8), another channel's at ((x mod 8hs)/hs, (y mod 8vs)/vs), rounded down
+pub record OldLayout (f : Frame) (hs vs : ℕ) : Type 0 where
+  pub blocks :
+      blockCount (shapeOf f)
+      ≡ ceiling (f .width) (8 * hs) * ceiling (f .height) (8 * vs) * (hs * vs + (f .channels - 1))
+  pub first :
+      (x y : ℕ)
+      → sampleAt (shapeOf f) x y 0
+      ≡ 64 * (mcuThen f hs vs x y * (hs * vs + (f .channels - 1)) + (y % (8 * vs) / 8 * hs + x % (8 * hs) / 8)) + (8 * (y % 8) + x % 8)
+  pub others :
+      (x y c : ℕ)
+      → c < f .channels - 1
+      → sampleAt (shapeOf f) x y (suc c)
+      ≡ 64 * (mcuThen f hs vs x y * (hs * vs + (f .channels - 1)) + (hs * vs + c)) + (8 * (y % (8 * vs) / vs) + x % (8 * hs) / hs)
 
 -- ---- a file, limits, budget and room aside
 

@@ -1,12 +1,12 @@
 // What the code and the definitions of specs/ share: the types, their fresh values, the numbers that belong to them
 // (prices, clamp bounds, limits), and the small questions that several crates ask: whether a number lies between two others, what
-// stands at a place of a list, how many MCUs a side has and how many blocks an MCU.
+// stands at a place of a list, how many MCUs a side has and what an MCU holds.
 ghost use mathlib.Core.Path.{_≡_};
-ghost use Prim.Native.Nat.{_-_};
+ghost use Prim.Native.Nat.{_-_, max};
 ghost use lib.Dec.{leb};
 ghost use lib.ListN.{getD};
 ghost use Rattle.reading.specs.Tests.{within};
-ghost use Rattle.reading.specs.Code.Mcus.{mcusOf, blocksOf};
+ghost use Rattle.reading.specs.Code.Mcus.{mcusOf, noMcu, measured};
 ghost use Rattle.reading.specs.Header.{noFrame, noTables, opening, moved, withFrame, withInterval, noRecord, stop};
 ghost use Rattle.reading.specs.Code.Heads.{headed};
 ghost use Rattle.reading.specs.Bits.{firstBit};
@@ -43,7 +43,7 @@ pub fn entry_at(list: &[usize], place: usize) -> usize
     0
 }
 
-// The MCUs across of a width and the first channel's sampling across, or down of a height and its sampling down: the ceiling of
+// The MCUs across of a width and the largest sampling across, or down of a height and the largest sampling down: the ceiling of
 // side / 8 factor. 0 for a side or a factor that no frame has.
 pub fn mcus(side: usize, factor: usize) -> usize
     ensures { λ r. ⌜ r ≡ mcusOf side factor ⌝ }
@@ -56,22 +56,6 @@ pub fn mcus(side: usize, factor: usize) -> usize
     }
     let wide = 8 * factor;
     (side + (wide - 1)) / wide
-}
-
-// The blocks of an MCU: hs x vs of the first channel, then one for each other. 0 for numbers that no frame has.
-pub fn mcu_blocks(hs: usize, vs: usize, channels: usize) -> usize
-    ensures { λ r. ⌜ r ≡ blocksOf hs vs channels ⌝ }
-{
-    if !within(1, 4, hs) {
-        return 0;
-    }
-    if !within(1, 4, vs) {
-        return 0;
-    }
-    if !within(1, 3, channels) {
-        return 0;
-    }
-    hs * vs + (channels - 1)
 }
 
 // The bit place of a scan: the next byte of the file, the current byte, and how many of its low bits are unread.
@@ -94,10 +78,10 @@ impl Bits {
     }
 }
 
-// Each scan keeps the bit place, three predictors and the count of blocks done.
+// Each scan keeps the bit place, four predictors and the count of blocks done.
 pub struct ScanCursor {
     pub bits: Bits,
-    pub predictors: [i32; 3],
+    pub predictors: [i32; 4],
     pub done: usize,
 }
 
@@ -109,7 +93,7 @@ impl ScanCursor {
         let bits = Bits::first(at);
         Self {
             bits: bits,
-            predictors: [0; 3],
+            predictors: [0; 4],
             done: 0,
         }
     }
@@ -209,15 +193,84 @@ pub enum Case {
     Huffman(usize),
 }
 
-// The frame: one or three channels. Ids, quantizer ids; all zero where no frame was read.
+// The frame: its sides, one to four channels, and for each channel its sampling across and down, its id and its quantizer's, 0 behind the
+// last one. All zero where no frame was read.
 pub struct Frame {
     pub width: usize,
     pub height: usize,
     pub channels: usize,
-    pub hs: usize,
-    pub vs: usize,
-    pub ids: [usize; 3],
-    pub qids: [usize; 3],
+    pub across: [usize; 4],
+    pub down: [usize; 4],
+    pub ids: [usize; 4],
+    pub qids: [usize; 4],
+}
+
+// What the MCUs of a frame are: the largest sampling across and down, which an MCU is 8 times wide and high, and how many blocks it has.
+pub struct Mcu {
+    pub across: usize,
+    pub down: usize,
+    pub blocks: usize,
+}
+
+// The larger of two numbers.
+fn larger(a: usize, b: usize) -> usize
+    ensures { λ r. ⌜ r ≡ max a b ⌝ }
+{
+    if a < b {
+        return b;
+    }
+    a
+}
+
+impl Mcu {
+    fn none() -> Self
+        ensures { λ r. ⌜ r ≡ noMcu ⌝ }
+    {
+        Self {
+            across: 0,
+            down: 0,
+            blocks: 0,
+        }
+    }
+
+    // the MCUs of a frame; all zero for sampling that no frame has: more than four channels, a factor outside 1 to 4, or more than
+    // ten blocks
+    pub fn of(frame: Frame) -> Self
+        ensures { λ r. ⌜ r ≡ measured frame ⌝ }
+    {
+        let channels = frame.channels;
+        let across = frame.across;
+        let down = frame.down;
+        if !within(1, 4, channels) {
+            return Self::none();
+        }
+        let mut wide = 0usize;
+        let mut high = 0usize;
+        let mut blocks = 0usize;
+        let mut c = 0usize;
+        while c < channels {
+            let h = across[c];
+            let v = down[c];
+            if !within(1, 4, h) {
+                return Self::none();
+            }
+            if !within(1, 4, v) {
+                return Self::none();
+            }
+            wide = larger(wide, h);
+            high = larger(high, v);
+            blocks += h * v;
+            c += 1;
+        }
+        if 10 < blocks {
+            return Self::none();
+        }
+        Self {
+            across: wide,
+            down: high,
+            blocks: blocks,
+        }
+    }
 }
 
 // Where each table starts, by its id: quantizers, DC and AC tables. 0 where there is none.
@@ -241,8 +294,8 @@ pub struct Header {
 pub struct Record {
     pub frame: Frame,
     pub tables: Tables,
-    pub dcids: [usize; 3],
-    pub acids: [usize; 3],
+    pub dcids: [usize; 4],
+    pub acids: [usize; 4],
     pub interval: usize,
     pub start: usize,
     pub blocks: usize,
@@ -261,10 +314,10 @@ impl Frame {
             width: 0,
             height: 0,
             channels: 0,
-            hs: 0,
-            vs: 0,
-            ids: [0; 3],
-            qids: [0; 3],
+            across: [0; 4],
+            down: [0; 4],
+            ids: [0; 4],
+            qids: [0; 4],
         }
     }
 }
@@ -353,8 +406,8 @@ impl Record {
         Self {
             frame: frame,
             tables: tables,
-            dcids: [0; 3],
-            acids: [0; 3],
+            dcids: [0; 4],
+            acids: [0; 4],
             interval: 0,
             start: 0,
             blocks: 0,

@@ -45,15 +45,6 @@ fn size(list: &[u8], k: usize) -> usize {
     number(list, k) as usize
 }
 
-fn three(list: &[u8], k: usize) -> [usize; 3]
-    requires { ⌜ k < 100 ⌝ }
-{
-    let a = size(list, k);
-    let b = size(list, k + 1);
-    let c = size(list, k + 2);
-    [a, b, c]
-}
-
 fn four(list: &[u8], k: usize) -> [usize; 4]
     requires { ⌜ k < 100 ⌝ }
 {
@@ -64,16 +55,18 @@ fn four(list: &[u8], k: usize) -> [usize; 4]
     [a, b, c, d]
 }
 
-// The frame of a record, from the record's 36 numbers.
+// The frame of a record, from the record's 46 numbers.
 fn frame(list: &[u8]) -> Frame {
-    let ids = three(list, 5);
-    let qids = three(list, 8);
+    let across = four(list, 3);
+    let down = four(list, 7);
+    let ids = four(list, 11);
+    let qids = four(list, 15);
     Frame {
         width: size(list, 0),
         height: size(list, 1),
         channels: size(list, 2),
-        hs: size(list, 3),
-        vs: size(list, 4),
+        across: across,
+        down: down,
         ids: ids,
         qids: qids,
     }
@@ -81,9 +74,9 @@ fn frame(list: &[u8]) -> Frame {
 
 // The places of its tables.
 fn tables(list: &[u8]) -> Tables {
-    let quants = four(list, 17);
-    let dcs = four(list, 21);
-    let acs = four(list, 25);
+    let quants = four(list, 27);
+    let dcs = four(list, 31);
+    let acs = four(list, 35);
     Tables {
         quants: quants,
         dcs: dcs,
@@ -91,24 +84,24 @@ fn tables(list: &[u8]) -> Tables {
     }
 }
 
-// A record from its 36 numbers.
+// A record from its 46 numbers.
 fn record(list: &[u8]) -> Record {
     let frame = frame(list);
     let tables = tables(list);
-    let dcids = three(list, 11);
-    let acids = three(list, 14);
+    let dcids = four(list, 19);
+    let acids = four(list, 23);
     Record {
         frame: frame,
         tables: tables,
         dcids: dcids,
         acids: acids,
-        interval: size(list, 29),
-        start: size(list, 30),
-        blocks: size(list, 31),
-        scratch: size(list, 32),
-        output: size(list, 33),
-        work: number(list, 34),
-        colour: number(list, 35) == 1,
+        interval: size(list, 39),
+        start: size(list, 40),
+        blocks: size(list, 41),
+        scratch: size(list, 42),
+        output: size(list, 43),
+        work: number(list, 44),
+        colour: number(list, 45) == 1,
     }
 }
 
@@ -286,11 +279,11 @@ fn bad() -> bool {
 
 // A case with a given record.
 fn given(head: &[u8], s: &[u8], output: &mut [u8], scratch: &mut [u8]) -> bool {
-    let mut list = [0u8; 288];
-    if io::read_full(STDIN_FILENO, &mut list) < 288 {
+    let mut list = [0u8; 368];
+    if io::read_full(STDIN_FILENO, &mut list) < 368 {
         return bad();
     }
-    if 1 < number(&list, 35) {
+    if 1 < number(&list, 45) {
         return bad();
     }
     let found = record(&list);

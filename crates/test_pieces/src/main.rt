@@ -5,12 +5,22 @@ use reading::Budget;
 use reading::Limits;
 use reading::Verdict;
 
-// frames: 8 x 8 and 16 x 8 in one channel, and 65,535 x 65,535 in three
+// frames: 8 x 8 and 16 x 8 in one channel, 8 x 8 in two and in four, 16 x 16 in three, and 65,535 x 65,535 in three and in four
 const ONE_BLOCK: [u8; 13] = *b"\xff\xc0\0\x0b\x08\0\x08\0\x08\x01\x01\x11\0";
 
 const TWO_BLOCKS: [u8; 13] = *b"\xff\xc0\0\x0b\x08\0\x08\0\x10\x01\x01\x11\0";
 
+const TWO_CHANNELS: [u8; 16] = *b"\xff\xc0\0\x0e\x08\0\x08\0\x08\x02\x01\x11\0\x02\x11\0";
+
+const FOUR_CHANNELS: [u8; 22] =
+    *b"\xff\xc0\0\x14\x08\0\x08\0\x08\x04\x01\x11\0\x02\x11\0\x03\x11\0\x04\x11\0";
+
+const SQUARE: [u8; 19] = *b"\xff\xc0\0\x11\x08\0\x10\0\x10\x03\x01\x11\0\x02\x11\0\x03\x11\0";
+
 const LARGEST: [u8; 19] = *b"\xff\xc0\0\x11\x08\xff\xff\xff\xff\x03\x01\x11\0\x02\x11\0\x03\x11\0";
+
+const LARGEST_OF_FOUR: [u8; 22] =
+    *b"\xff\xc0\0\x14\x08\xff\xff\xff\xff\x04\x01\x11\0\x02\x11\0\x03\x11\0\x04\x11\0";
 
 // 16 x 8 in one channel, and a restart before the second block
 const RESTARTING: [u8; 19] = *b"\xff\xc0\0\x0b\x08\0\x08\0\x10\x01\x01\x11\0\xff\xdd\0\x04\0\x01";
@@ -27,10 +37,14 @@ const AC: [u8; 22] = *b"\xff\xc4\0\x14\x10\x01\0\0\0\0\0\0\0\0\0\0\0\0\0\0\0\0";
 
 const RUNS: [u8; 23] = *b"\xff\xc4\0\x15\x10\x01\x01\0\0\0\0\0\0\0\0\0\0\0\0\0\0\0\xf0";
 
-// heads of a scan: one channel and three
+// heads of a scan: one channel, two, three and four
 const ONE_SCAN: [u8; 10] = *b"\xff\xda\0\x08\x01\x01\0\0\x3f\0";
 
+const TWO_SCAN: [u8; 12] = *b"\xff\xda\0\x0a\x02\x01\0\x02\0\0\x3f\0";
+
 const THREE_SCAN: [u8; 14] = *b"\xff\xda\0\x0c\x03\x01\0\x02\0\x03\0\0\x3f\0";
+
+const FOUR_SCAN: [u8; 16] = *b"\xff\xda\0\x0e\x04\x01\0\x02\0\x03\0\x04\0\0\x3f\0";
 
 // A file into a buffer of ones: the start, a quantizer of 64 ones, which stand there already, the frame, the two tables, the scan's
 // head, its coded bytes and the end.
@@ -121,6 +135,19 @@ fn largest(s: &[u8]) {
         s,
         tillsparrow_streams::no_limits(),
         644244701490,
+    );
+}
+
+// the same size in four channels
+fn largest_of_four() {
+    let mut s = [1u8; 156];
+    file(&mut s, &LARGEST_OF_FOUR, &DC, &AC, &FOUR_SCAN, b"\x3f");
+    header(b"largest picture of four channels, header", &s);
+    inspect(
+        b"largest picture of four channels, one short of work",
+        &s,
+        tillsparrow_streams::no_limits(),
+        858992935228,
     );
 }
 
@@ -306,6 +333,60 @@ fn broken_behind_a_restart() {
     judge(b"a wrong restart behind fill", &more, 151);
 }
 
+// two and four channels with a block of zeros in each, at their price and one below it
+fn channels() {
+    let mut two = [1u8; 146];
+    file(&mut two, &TWO_CHANNELS, &DC, &AC, &TWO_SCAN, b"\x0f");
+    header(b"two channels, header", &two);
+    inspect(
+        b"two channels at 6693",
+        &two,
+        tillsparrow_streams::limits(),
+        6693,
+    );
+    let mut four = [1u8; 156];
+    file(&mut four, &FOUR_CHANNELS, &DC, &AC, &FOUR_SCAN, b"\0");
+    header(b"four channels, header", &four);
+    inspect(
+        b"four channels at 13113",
+        &four,
+        tillsparrow_streams::limits(),
+        13113,
+    );
+    inspect(
+        b"four channels at 13112",
+        &four,
+        tillsparrow_streams::limits(),
+        13112,
+    );
+    four[90] = 1;
+    header(b"four channels, two of one id", &four);
+}
+
+// the header of 16 x 16 in three channels whose sampling bytes are given
+fn sampled(name: &[u8], a: u8, b: u8, c: u8) {
+    let mut frame = SQUARE;
+    frame[11] = a;
+    frame[14] = b;
+    frame[17] = c;
+    let mut s = [1u8; 151];
+    file(&mut s, &frame, &DC, &AC, &THREE_SCAN, b"\x3f");
+    header(name, &s);
+}
+
+// sums of products up to 10 and above, and factors outside 1 to 4
+fn sampling() {
+    sampled(b"2 x 2, 1 x 1, 1 x 1", 0x22, 0x11, 0x11);
+    sampled(b"2 x 2, 1 x 2, 1 x 2", 0x22, 0x12, 0x12);
+    sampled(b"1 x 1, 2 x 2, 1 x 1", 0x11, 0x22, 0x11);
+    sampled(b"3 x 1, 2 x 2, 1 x 3", 0x31, 0x22, 0x13);
+    sampled(b"4 x 2, 1 x 1, 1 x 1", 0x42, 0x11, 0x11);
+    sampled(b"4 x 2, 1 x 1, 1 x 2", 0x42, 0x11, 0x12);
+    sampled(b"1 x 1, 1 x 1, 1 x 4", 0x11, 0x11, 0x14);
+    sampled(b"1 x 1, 1 x 1, 1 x 5", 0x11, 0x11, 0x15);
+    sampled(b"1 x 1, 0 x 1, 1 x 1", 0x11, 0x01, 0x11);
+}
+
 fn main() {
     let mut f = [1u8; 141];
     block(&mut f, &DC, &AC, b"\x3f");
@@ -349,6 +430,7 @@ fn main() {
     let mut s = [1u8; 151];
     file(&mut s, &LARGEST, &DC, &AC, &THREE_SCAN, b"\x3f");
     largest(&s);
+    largest_of_four();
     settled();
     tables();
     fill();
@@ -356,4 +438,6 @@ fn main() {
     stray();
     broken_at_once();
     broken_behind_a_restart();
+    channels();
+    sampling();
 }

@@ -8,7 +8,7 @@ ghost use lib.ListN.{length};
 ghost use Rattle.tillsparrow_streams.specs.Read.{Fills};
 ghost use Rattle.tillsparrow_streams.specs.Lines.{decimal, refused, kindOf, pictureHead, lineOf, fitting, placed, lineWith};
 ghost use Rattle.tillsparrow_streams.specs.Answers.{ownLimits, refusing};
-ghost use Rattle.tillsparrow_streams.specs.Numbers.{threeAt, fourAt, numbersOf};
+ghost use Rattle.tillsparrow_streams.specs.Numbers.{fourAt, numbersOf};
 use libc::STDIN_FILENO;
 use libc::STDOUT_FILENO;
 use reading::Limits;
@@ -205,19 +205,9 @@ pub fn no_limits() -> Limits
     }
 }
 
-// Three numbers into a list from a place on.
-fn three(list: &mut [usize; 36], at: usize, entries: [usize; 3])
-    requires { ⌜ at + 2 < 36 ⌝ }
-    ensures { λ _. ⌜ now (list .exit) ≡ threeAt (now (list .entry)) at entries ⌝ }
-{
-    list[at] = entries[0];
-    list[at + 1] = entries[1];
-    list[at + 2] = entries[2];
-}
-
 // Four numbers into a list from a place on.
-fn four(list: &mut [usize; 36], at: usize, entries: [usize; 4])
-    requires { ⌜ at + 3 < 36 ⌝ }
+fn four(list: &mut [usize; 46], at: usize, entries: [usize; 4])
+    requires { ⌜ at + 3 < 46 ⌝ }
     ensures { λ _. ⌜ now (list .exit) ≡ fourAt (now (list .entry)) at entries ⌝ }
 {
     list[at] = entries[0];
@@ -226,31 +216,31 @@ fn four(list: &mut [usize; 36], at: usize, entries: [usize; 4])
     list[at + 3] = entries[3];
 }
 
-// A record's 36 numbers in their order.
-pub fn numbers(found: Record) -> [usize; 36]
+// A record's 46 numbers in their order.
+pub fn numbers(found: Record) -> [usize; 46]
     ensures { λ r. ⌜ r ≡ numbersOf found ⌝ }
 {
     let frame = found.frame;
     let tables = found.tables;
-    let mut list = [0usize; 36];
+    let mut list = [0usize; 46];
     list[0] = frame.width;
     list[1] = frame.height;
     list[2] = frame.channels;
-    list[3] = frame.hs;
-    list[4] = frame.vs;
-    three(&mut list, 5, frame.ids);
-    three(&mut list, 8, frame.qids);
-    three(&mut list, 11, found.dcids);
-    three(&mut list, 14, found.acids);
-    four(&mut list, 17, tables.quants);
-    four(&mut list, 21, tables.dcs);
-    four(&mut list, 25, tables.acs);
-    list[29] = found.interval;
-    list[30] = found.start;
-    list[31] = found.blocks;
-    list[32] = found.scratch;
-    list[33] = found.output;
-    list[34] = found.work as usize;
-    list[35] = if found.colour { 1 } else { 0 };
+    four(&mut list, 3, frame.across);
+    four(&mut list, 7, frame.down);
+    four(&mut list, 11, frame.ids);
+    four(&mut list, 15, frame.qids);
+    four(&mut list, 19, found.dcids);
+    four(&mut list, 23, found.acids);
+    four(&mut list, 27, tables.quants);
+    four(&mut list, 31, tables.dcs);
+    four(&mut list, 35, tables.acs);
+    list[39] = found.interval;
+    list[40] = found.start;
+    list[41] = found.blocks;
+    list[42] = found.scratch;
+    list[43] = found.output;
+    list[44] = found.work as usize;
+    list[45] = if found.colour { 1 } else { 0 };
     list
 }

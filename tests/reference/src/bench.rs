@@ -1,6 +1,7 @@
 //! The bench pieces of the rules, run against this reader.
 
 mod broken;
+mod channels;
 mod fill;
 
 use crate::calls::{decode, inspect, settle, Limits, UNLIMITED};
@@ -93,9 +94,9 @@ fn file_f() {
         width: 8,
         height: 8,
         channels: 1,
-        hs: 1,
-        vs: 1,
-        ids: [1, 0, 0],
+        across: [1, 0, 0, 0],
+        down: [1, 0, 0, 0],
+        ids: [1, 0, 0, 0],
         quantizers: [7, 0, 0, 0],
         dc_tables: [89, 0, 0, 0],
         ac_tables: [111, 0, 0, 0],
@@ -437,8 +438,9 @@ fn header_refusals_of_f() {
     assert_eq!(changed(6, &[16]), 4);
     assert_eq!(changed(70, &[0]), 4);
     assert_eq!(changed(75, &[7]), 5);
-    assert_eq!(changed(80, &[3]), 4);
-    assert_eq!(changed(80, &[2]), 5);
+    // The body is that of one channel.
+    assert_eq!([2, 3, 4].map(|count| changed(80, &[count])), [4, 4, 4]);
+    assert_eq!([0, 5, 255].map(|count| changed(80, &[count])), [5, 5, 5]);
     assert_eq!(changed(82, &[0x44]), 0);
     assert_eq!(changed(82, &[0x51]), 5);
     assert_eq!(changed(83, &[1]), 4);

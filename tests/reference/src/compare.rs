@@ -3,6 +3,8 @@
 use crate::broken::{self, Place};
 use crate::cases::Case;
 use crate::fill;
+use crate::record::MOST_CHANNELS;
+use crate::shapes::{self, Rule, RULES};
 use std::fs::{self, File};
 use std::io::{self, BufRead, BufReader, Lines};
 
@@ -76,6 +78,45 @@ impl Broken {
     }
 }
 
+/// Cases whose header gives a record, by channels, and those whose frame is refused, by the
+/// rules that it breaks.
+#[derive(Default)]
+struct Channels {
+    cases: [u64; MOST_CHANNELS],
+    refused: [u64; RULES.len()],
+}
+
+impl Channels {
+    fn count(&mut self, case: &Case) {
+        if let Some(shape) = shapes::of(&case.file) {
+            self.cases[shape.len() - 1] += 1;
+        }
+        let broken = shapes::broken(&case.file);
+        for (rule, count) in RULES.iter().zip(&mut self.refused) {
+            *count += u64::from(broken.contains(rule));
+        }
+    }
+
+    fn show(&self) {
+        let [one, two, three, four] = self.cases;
+        println!(
+            "channels: one in {one} cases, two in {two} cases, three in {three} cases, \
+             four in {four} cases"
+        );
+        let words = RULES.iter().zip(self.refused).map(|(rule, count)| {
+            let why = match rule {
+                Rule::None => "no channel",
+                Rule::TooMany => "too many channels",
+                Rule::Factor => "a factor outside 1 to 4",
+                Rule::Blocks => "more than ten blocks",
+                Rule::Ids => "equal ids",
+            };
+            format!("{count} for {why}")
+        });
+        println!("frames refused: {}", words.collect::<Vec<_>>().join(", "));
+    }
+}
+
 /// True if every line agrees. Prints how many did, or the first differences.
 pub fn run(a: &str, b: &str, cases: &str) -> io::Result<bool> {
     let mut a = BufReader::new(File::open(a)?).lines();
@@ -83,10 +124,12 @@ pub fn run(a: &str, b: &str, cases: &str) -> io::Result<bool> {
     let mut input = BufReader::new(File::open(cases)?);
     let (mut index, mut different) = (0, 0);
     let (mut filled, mut broken) = (Filled::default(), Broken::default());
+    let mut channels = Channels::default();
     while let Ok(case) = Case::read(&mut input)? {
         let (left, right) = (next(&mut a)?, next(&mut b)?);
         filled.count(&case, left.as_deref().unwrap_or(""));
         broken.count(&case, left.as_deref().unwrap_or(""));
+        channels.count(&case);
         if left != right || left.is_none() {
             different += 1;
             show(index, left, right, &case, cases)?;
@@ -105,6 +148,7 @@ pub fn run(a: &str, b: &str, cases: &str) -> io::Result<bool> {
         println!("{index} lines agreed");
         filled.show();
         broken.show();
+        channels.show();
     }
     Ok(different == 0)
 }

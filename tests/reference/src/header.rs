@@ -2,7 +2,7 @@
 
 use crate::huffman;
 use crate::layout;
-use crate::record::Record;
+use crate::record::{Record, MOST_CHANNELS};
 
 const CUT_SHORT: u8 = 3;
 const MALFORMED: u8 = 4;
@@ -157,38 +157,44 @@ impl Header<'_> {
         require(!self.frame_seen, MALFORMED)?;
         require(body.len() >= 6, UNSUPPORTED)?;
         let channels = body[5] as usize;
-        require(body[0] == 8 && (channels == 1 || channels == 3), UNSUPPORTED)?;
+        require(body[0] == 8 && (1..=MOST_CHANNELS).contains(&channels), UNSUPPORTED)?;
         require(body.len() == 6 + 3 * channels, MALFORMED)?;
         self.record.height = two_bytes(body, 1);
         self.record.width = two_bytes(body, 3);
         require(self.record.width > 0 && self.record.height > 0, UNSUPPORTED)?;
         self.record.channels = channels as u64;
-        for channel in 0..channels {
-            let component = &body[6 + 3 * channel..9 + 3 * channel];
-            require(component[2] <= 3, UNSUPPORTED)?;
-            self.record.ids[channel] = u64::from(component[0]);
-            self.record.quantizer_ids[channel] = u64::from(component[2]);
+        for (channel, component) in body[6..].chunks(3).enumerate() {
+            self.component(channel, component)?;
         }
-        self.sampling(body)?;
+        self.components_together()?;
         self.frame_seen = true;
         Ok(())
     }
 
-    /// The frame's sampling bytes and component ids: every fault is 5.
-    fn sampling(&mut self, body: &[u8]) -> Result<(), u8> {
-        let (hs, vs) = (u64::from(body[7] / 16), u64::from(body[7] % 16));
-        require((1..=4).contains(&hs) && (1..=4).contains(&vs), UNSUPPORTED)?;
-        // "One channel counts as 1 x 1."
-        if self.record.channels == 1 {
-            (self.record.hs, self.record.vs) = (1, 1);
+    /// A channel's id, factors (across in the high nibble, down in the low one) and quantizer.
+    fn component(&mut self, channel: usize, bytes: &[u8]) -> Result<(), u8> {
+        let (across, down) = (u64::from(bytes[1] / 16), u64::from(bytes[1] % 16));
+        require((1..=4).contains(&across) && (1..=4).contains(&down), UNSUPPORTED)?;
+        require(bytes[2] <= 3, UNSUPPORTED)?;
+        self.record.ids[channel] = u64::from(bytes[0]);
+        self.record.across[channel] = across;
+        self.record.down[channel] = down;
+        self.record.quantizer_ids[channel] = u64::from(bytes[2]);
+        Ok(())
+    }
+
+    /// Several channels have at most 10 blocks in an MCU and no id twice. A single one counts
+    /// as 1 x 1, and nothing is asked of it.
+    fn components_together(&mut self) -> Result<(), u8> {
+        let channels = self.record.channels as usize;
+        if channels == 1 {
+            (self.record.across[0], self.record.down[0]) = (1, 1);
             return Ok(());
         }
-        require(hs * vs <= 4, UNSUPPORTED)?;
-        let [a, b, c] = self.record.ids;
-        require(a != b && a != c && b != c, UNSUPPORTED)?;
-        require(body[10] == 17 && body[13] == 17, UNSUPPORTED)?;
-        (self.record.hs, self.record.vs) = (hs, vs);
-        Ok(())
+        require(layout::blocks_per_mcu(&self.record) <= 10, UNSUPPORTED)?;
+        let ids = &self.record.ids[..channels];
+        let twice = |channel: usize| ids[..channel].contains(&ids[channel]);
+        require(!(1..channels).any(twice), UNSUPPORTED)
     }
 
     /// Scan: each test runs over all channels before the next.

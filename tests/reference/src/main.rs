@@ -17,22 +17,27 @@ mod random;
 mod record;
 mod scan;
 mod settle;
+mod shapes;
 mod transform;
 
 #[cfg(test)]
 mod bench;
 
 use calls::{Limits, UNLIMITED};
-use std::io::{self, BufReader, BufWriter, Read, Write};
+use cases::Case;
+use std::fs::File;
+use std::io::{self, BufRead, BufReader, BufWriter, Read, Write};
 use std::process::ExitCode;
 
 const USAGE: &str = "usage:
   reference answer < cases > lines
   reference generate --cases N --seed S [--part P] > cases
   reference compare A.lines B.lines cases
+  reference shapes A.lines cases
   reference header [--colour C] < file
   reference program < file > picture
   reference picture < file > picture
+  reference samples [--colour C] < file > bytes
   reference distance A.ppm B.ppm";
 
 fn main() -> ExitCode {
@@ -69,17 +74,21 @@ fn run(words: &[&str]) -> io::Result<bool> {
             drop(output);
             compare::run(a, b, cases)
         }
+        ["shapes", lines, cases] => show_shapes(lines, cases, &mut output),
         ["header", options @ ..] => {
-            let [colour] = numbers(options, ["--colour"])?;
-            let colour = colour.unwrap_or(1);
-            if colour > 1 {
-                return Err(usage());
-            }
+            let colour = colour(options)?;
             let line = answer::inspect_line(&input()?, colour, &Limits::NONE, UNLIMITED);
             writeln!(output, "{line}").map(|()| true)
         }
         ["program"] => show_picture(&picture::PROGRAM, &mut output),
         ["picture"] => show_picture(&Limits::NONE, &mut output),
+        ["samples", options @ ..] => {
+            let colour = colour(options)?;
+            match picture::samples(&input()?, colour) {
+                Ok(samples) => output.write_all(&samples).map(|()| true),
+                Err(number) => writeln!(output, "refused {number}").map(|()| false),
+            }
+        }
         ["distance", a, b] => show_distance(a, b, &mut output),
         _ => Err(usage()),
     }
@@ -107,8 +116,28 @@ fn numbers<const N: usize>(words: &[&str], names: [&str; N]) -> io::Result<[Opti
     Ok(values)
 }
 
+/// The colour choice, 1 if it is not given.
+fn colour(options: &[&str]) -> io::Result<u64> {
+    let [colour] = numbers(options, ["--colour"])?;
+    colour.map_or(Ok(1), |colour| if colour > 1 { Err(usage()) } else { Ok(colour) })
+}
+
 fn show_picture(limits: &Limits, output: &mut dyn Write) -> io::Result<bool> {
     output.write_all(&picture::written(&input()?, limits)).map(|()| true)
+}
+
+/// The shapes of the cases that these lines accept.
+fn show_shapes(lines: &str, cases: &str, output: &mut dyn Write) -> io::Result<bool> {
+    let mut lines = BufReader::new(File::open(lines)?).lines();
+    let mut input = BufReader::new(File::open(cases)?);
+    let mut accepted = shapes::Accepted::default();
+    while let (Ok(case), Some(line)) = (Case::read(&mut input)?, lines.next().transpose()?) {
+        accepted.count(&case, &line);
+    }
+    for line in accepted.lines() {
+        writeln!(output, "{line}")?;
+    }
+    Ok(true)
 }
 
 fn show_distance(a: &str, b: &str, output: &mut dyn Write) -> io::Result<bool> {

@@ -4,7 +4,7 @@
 use crate::bits::{meaning, Bits};
 use crate::huffman::Codes;
 use crate::layout;
-use crate::record::Record;
+use crate::record::{Record, MOST_CHANNELS};
 
 /// The values of one block in zigzag order, not yet multiplied by the quantizer.
 pub type Levels = [i32; 64];
@@ -39,7 +39,7 @@ pub fn read(
 ) -> Result<(), Broken> {
     let tables = Tables::of(file, record);
     let mut bits = Bits::new(file, record.first_coded as usize);
-    let mut predictors = [0; 3];
+    let mut predictors = [0; MOST_CHANNELS];
     let per_mcu = layout::blocks_per_mcu(record);
     for block in 0..record.blocks {
         let place = bits.place();
@@ -47,7 +47,7 @@ pub fn read(
         if block % per_mcu == 0 {
             if let Some(code) = layout::restart_before(record, block / per_mcu) {
                 bits.marker(code).ok_or(MALFORMED).map_err(broken)?;
-                predictors = [0; 3];
+                predictors = [0; MOST_CHANNELS];
             }
         }
         let channel = layout::channel_of(record, block % per_mcu);

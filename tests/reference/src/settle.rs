@@ -2,7 +2,7 @@
 
 use crate::huffman::Codes;
 use crate::layout;
-use crate::record::Record;
+use crate::record::{Record, MOST_CHANNELS};
 use crate::scan::{self, Levels};
 
 /// Writes bits highest first, with a 0 after every 255.
@@ -48,7 +48,7 @@ struct Settled<'a> {
     dc: Vec<Codes>,
     ac: Vec<Codes>,
     writer: Writer,
-    predictors: [i32; 3],
+    predictors: [i32; MOST_CHANNELS],
     /// Some block needs an end code that its table does not list: number 9.
     end_missing: bool,
 }
@@ -79,7 +79,7 @@ impl<'a> Settled<'a> {
             dc: dc.collect(),
             ac: ac.collect(),
             writer: Writer::default(),
-            predictors: [0; 3],
+            predictors: [0; MOST_CHANNELS],
             end_missing: false,
         }
     }
@@ -91,7 +91,7 @@ impl<'a> Settled<'a> {
         if block_in_mcu == 0 {
             if let Some(code) = layout::restart_before(self.record, mcu) {
                 self.writer.marker(code);
-                self.predictors = [0; 3];
+                self.predictors = [0; MOST_CHANNELS];
             }
         }
         let difference = levels[0] - self.predictors[channel];

@@ -100,13 +100,17 @@ pub fn with_fill(file: &[u8], start: usize) -> Vec<u8> {
 /// Real files of every form that is read, each with a name.
 pub fn accepted() -> Vec<(String, Vec<u8>)> {
     let mut files = vec![("docs/tray.jpg".to_string(), docs_tray())];
-    let forms: [&[&str]; 7] = [
+    let forms: [&[&str]; 11] = [
         &["-grayscale"],
         &["-sample", "1x1"],
         &["-sample", "2x1"],
         &["-sample", "1x2"],
         &["-sample", "2x2"],
+        &["-sample", "3x1"],
         &["-sample", "4x1"],
+        &["-sample", "2x2,1x2,1x2"],
+        &["-sample", "2x2,2x1,2x1"],
+        &["-sample", "1x1,2x1,2x1"],
         &["-grayscale", "-optimize"],
     ];
     let paints: [(&str, Paint, usize, usize); 3] =

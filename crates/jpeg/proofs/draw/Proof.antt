@@ -68,7 +68,8 @@ returns-3 : tie.Need-returns-3
 returns-3 c =
     let start = c .before .before .before .before .before .before .before .before .before .before .before .before .before .before .before .before .before in
     let a = start .args in
-    let bytes = all-bytes (a .s .now) (λ i. omega (arith, c .before .before .before .before .before .before .before .before .before .before .before .before .before .before .before .before .shared-slice-known .given i)) in
+    let known = c .before .before .before .before .before .before .before .before .before .before .before .before .before .before .before .before in
+    let bytes = all-bytes (a .s .now) (λ i. omega (arith, known .shared-slice-known .given i)) in
     let compared = c .before .before .before .before .before .before .before .before .before .before .before .before .before in
     let drew = c .before .before .before .before .before .before .before .before .before .before in
     draws-done (a .s .now) bytes (a .read) (a .found) (a .out .now) (a .scratch .now) (a .rest) (start .pre) _ (compared .same .ensures)

@@ -10,18 +10,18 @@ use Rattle.jpeg_header_rules.proofs.each.Statement.{statement}
 use Rattle.jpeg_header_rules.proofs.each.Tie as tie
 
 abbrev Inv-loop : tie.InvT-loop
-Inv-loop body channels place step bytes₀ c₀ bytes c = (c ≤ 3) × (c ≤ channels) × (bytes ≡ each c (λ k. byte body (place + step * k)))
+Inv-loop body channels place step bytes₀ c₀ bytes c = (c ≤ 4) × (c ≤ channels) × (bytes ≡ each c (λ k. byte body (place + step * k)))
 
 abbrev μ-loop : tie.MeasureT-loop
-μ-loop body channels place step bytes₀ c₀ bytes c = 3 - c
+μ-loop body channels place step bytes₀ c₀ bytes c = 4 - c
 
 -- the byte of a channel
 abbrev at : (start : tie.Start Inv-loop μ-loop) → ℕ → ℕ
 at start c = byte (start .args .body .now) (start .args .place + start .args .step * c)
 
 -- how far behind the first one a channel's byte stands
-few : (c : tie.In-loop Inv-loop μ-loop) → c .before .before .before .args .step * c .before .loop .c ≤ 255 * 3
-few c = mul-le-mul {n₂ = 255} {m₂ = 3} (omega (arith, c .before .before .before .fits .step)) (omega arith)
+few : (c : tie.In-loop Inv-loop μ-loop) → c .before .before .before .args .step * c .before .loop .c ≤ 255 * 4
+few c = mul-le-mul {n₂ = 255} {m₂ = 4} (omega (arith, c .before .before .before .fits .step)) (omega arith)
 
 loop-holds : tie.Need-loop-holds Inv-loop μ-loop
 loop-holds c = (omega arith, omega arith, refl)

@@ -1,67 +1,101 @@
+-- `frame_fits`: each test by its way out; where the MCU has no block, the count of channels or the sum is none that a frame has.
 use borrow.Author.Tests.{not-true, not-false}
 use mathlib.Core.Path.{_≡_, sym, ap, _∙_}
-use Prim.Native.Nat.{_/_, _%_}
-use Rattle.reading.specs.Tests.{within}
-use Rattle.reading.specs.Header.{acrossOf, downOf}
-use Rattle.jpeg_header_rules.proofs.Rules.{fits-wide, fits-high, fits-across, fits-down, fits-quants, fits-one, fits-three}
+use mathlib.Core.Bool.{true}
+use Rattle.reading.specs.Header.{byte, samplingFits, quantsFit}
+use Rattle.jpeg_header_rules.proofs.Rules.{fits-wide, fits-high, fits-sampling, fits-quants}
+use Rattle.jpeg_header_rules.proofs.Sampled.{read-no, read-blocks, read-ids}
 use Rattle.jpeg_header_rules.proofs.frame_fits.Statement.{statement}
 use Rattle.jpeg_header_rules.proofs.frame_fits.Tie as tie
 
-across-is : (c : tie.After-within) → c .within .result ≡ within 1 4 (acrossOf (c .before .before .before .before .before .before .before .args .body .now))
-across-is c = c .within .ensures ∙ ap (λ k. within 1 4 (k / 16)) (c .before .byte-at .ensures)
+-- the count of the frame is the body's
+count-is : (c : tie.After-frame-of) → byte (c .before .before .args .body .now) 5 ≡ c .frame-of .result .channels
+count-is c = sym (ap (λ f. f .channels) (c .frame-of .ensures))
 
-down-is : (c : tie.After-within2) → c .within2 .result ≡ within 1 4 (downOf (c .before .before .before .before .before .before .before .before .before .args .body .now))
-down-is c = c .within2 .ensures ∙ ap (λ k. within 1 4 (k % 16)) (c .before .before .before .byte-at .ensures)
+sampling-fit : (c : tie.Else3)
+    → (let body = c .before .before .before .before .before .before .before .before .args .body .now in samplingFits body (byte body 5) ≡ true)
+sampling-fit c = sym (c .before .sampling-fits .ensures) ∙ not-false _ (c .if3 .left)
+
+quants-fit : (c : tie.Else4) → quantsFit (c .before .before .before .before .before .before .before .before .frame-of .result) ≡ true
+quants-fit c = sym (c .before .quants-fit .ensures) ∙ not-false _ (c .if4 .left)
+
+frame-of-requires : tie.Need-frame-of-requires
+frame-of-requires c κs = tt
 
 returns : tie.Need-returns
-returns c = fits-wide (c .before .before .before .args .body .now) (c .before .before .before .args .frame) (c .if1 .taken)
+returns c =
+    let made = c .before .before in
+    let body = made .before .before .args .body .now in
+    read-no body (made .frame-of .ensures) (fits-wide body (made .frame-of .result) (c .if1 .taken))
 
 returns-2 : tie.Need-returns-2
-returns-2 c = fits-high (c .before .before .before .before .before .args .body .now) (c .before .before .before .before .before .args .frame) (c .before .before .if1 .left) (c .if2 .taken)
+returns-2 c =
+    let made = c .before .before .before .before in
+    let body = made .before .before .args .body .now in
+    read-no body (made .frame-of .ensures) (fits-high body (made .frame-of .result) (c .before .before .if1 .left) (c .if2 .taken))
 
-byte-at-requires : tie.Need-byte-at-requires
-byte-at-requires c κs = tt
-
-within-requires : tie.Need-within-requires
-within-requires c κs = tt
+sampling-fits-requires : tie.Need-sampling-fits-requires
+sampling-fits-requires c κs = tt
 
 returns-3 : tie.Need-returns-3
-returns-3 c = fits-across (c .before .before .before .before .before .before .before .before .args .body .now) (c .before .before .before .before .before .before .before .before .args .frame) (c .before .before .before .before .before .if1 .left) (c .before .before .before .if2 .left) (sym (across-is (c .before)) ∙ not-true _ (c .if3 .taken))
-
-within-requires-2 : tie.Need-within-requires-2
-within-requires-2 c κs = tt
-
-returns-4 : tie.Need-returns-4
-returns-4 c = fits-down (c .before .before .before .before .before .before .before .before .before .before .args .body .now) (c .before .before .before .before .before .before .before .before .before .before .args .frame) (c .before .before .before .before .before .before .before .if1 .left) (c .before .before .before .before .before .if2 .left) (sym (across-is (c .before .before .before)) ∙ not-false _ (c .before .before .if3 .left)) (sym (down-is (c .before)) ∙ not-true _ (c .if4 .taken))
+returns-3 c =
+    let sides = c .before .before in
+    let made = sides .before .before .before .before in
+    let body = made .before .before .args .body .now in
+    let unfit = sym (ap (samplingFits body) (count-is made)) ∙ sym (c .before .sampling-fits .ensures) ∙ not-true _ (c .if3 .taken) in
+    read-no body (made .frame-of .ensures) (fits-sampling body (made .frame-of .result) (sides .before .before .if1 .left) (sides .if2 .left) unfit)
 
 quants-fit-requires : tie.Need-quants-fit-requires
 quants-fit-requires c κs = tt
 
+returns-4 : tie.Need-returns-4
+returns-4 c =
+    let third = c .before .before in
+    let sides = third .before .before in
+    let made = sides .before .before .before .before in
+    let body = made .before .before .args .body .now in
+    let fit = sym (ap (samplingFits body) (count-is made)) ∙ sampling-fit third in
+    let unfit = sym (c .before .quants-fit .ensures) ∙ not-true _ (c .if4 .taken) in
+    read-no body (made .frame-of .ensures) (fits-quants body (made .frame-of .result) (sides .before .before .if1 .left) (sides .if2 .left) fit unfit)
+
+of-requires : tie.Need-of-requires
+of-requires c κs = tt
+
 returns-5 : tie.Need-returns-5
-returns-5 c = fits-quants (c .before .before .before .before .before .before .before .before .before .before .before .before .args .body .now) (c .before .before .before .before .before .before .before .before .before .before .before .before .args .frame) (c .before .before .before .before .before .before .before .before .before .if1 .left) (c .before .before .before .before .before .before .before .if2 .left) (sym (across-is (c .before .before .before .before .before)) ∙ not-false _ (c .before .before .before .before .if3 .left)) (sym (down-is (c .before .before .before)) ∙ not-false _ (c .before .before .if4 .left)) (sym (c .before .quants-fit .ensures) ∙ not-true _ (c .if5 .taken))
+returns-5 c =
+    let fourth = c .before .before .before in
+    let third = fourth .before .before in
+    let sides = third .before .before in
+    let made = sides .before .before .before .before in
+    read-blocks (made .before .before .args .body .now) (made .frame-of .ensures) (c .before .before .of .ensures)
+    (sides .before .before .if1 .left) (sides .if2 .left) (sampling-fit third) (quants-fit fourth) (c .if5 .taken)
+
+ids-apart-requires : tie.Need-ids-apart-requires
+ids-apart-requires c κs = tt
 
 returns-6 : tie.Need-returns-6
-returns-6 c = fits-one (c .before .before .before .before .before .before .before .before .before .before .before .before .before .before .args .body .now) (c .before .before .before .before .before .before .before .before .before .before .before .before .before .before .args .frame) (c .before .before .before .before .before .before .before .before .before .before .before .if1 .left) (c .before .before .before .before .before .before .before .before .before .if2 .left) (sym (across-is (c .before .before .before .before .before .before .before)) ∙ not-false _ (c .before .before .before .before .before .before .if3 .left)) (sym (down-is (c .before .before .before .before .before)) ∙ not-false _ (c .before .before .before .before .if4 .left)) (sym (c .before .before .before .quants-fit .ensures) ∙ not-false _ (c .before .before .if5 .left)) (c .if6 .taken)
-
-three-fit-requires : tie.Need-three-fit-requires
-three-fit-requires c κs = tt
-
-returns-7 : tie.Need-returns-7
-returns-7 c = c .three-fit .ensures ∙ fits-three (c .before .before .before .before .before .before .before .before .before .before .before .before .before .before .before .args .body .now) (c .before .before .before .before .before .before .before .before .before .before .before .before .before .before .before .args .frame) (c .before .before .before .before .before .before .before .before .before .before .before .before .if1 .left) (c .before .before .before .before .before .before .before .before .before .before .if2 .left) (sym (across-is (c .before .before .before .before .before .before .before .before)) ∙ not-false _ (c .before .before .before .before .before .before .before .if3 .left)) (sym (down-is (c .before .before .before .before .before .before)) ∙ not-false _ (c .before .before .before .before .before .if4 .left)) (sym (c .before .before .before .before .quants-fit .ensures) ∙ not-false _ (c .before .before .before .if5 .left)) (c .before .if6 .left)
+returns-6 c =
+    let some = c .before in
+    let fourth = some .before .before .before in
+    let third = fourth .before .before in
+    let sides = third .before .before in
+    let made = sides .before .before .before .before in
+    c .ids-apart .ensures
+    ∙ read-ids (made .before .before .args .body .now) (made .frame-of .ensures) (some .before .before .of .ensures)
+    (sides .before .before .if1 .left) (sides .if2 .left) (sampling-fit third) (quants-fit fourth) (some .if5 .left)
 
 pub frame-fits-spec : {M : Type 1} → statement M
 frame-fits-spec =
     tie.close
     (tie.spec
+    frame-of-requires
     returns
     returns-2
-    byte-at-requires
-    within-requires
+    sampling-fits-requires
     returns-3
-    within-requires-2
-    returns-4
     quants-fit-requires
+    returns-4
+    of-requires
     returns-5
-    returns-6
-    three-fit-requires
-    returns-7)
+    ids-apart-requires
+    returns-6)

@@ -1,6 +1,6 @@
-use Rattle.jpeg_header_rules.proofs.Rules.{known-short, known-bits, known-one, known-three}
 use mathlib.Core.Path.{sym, ap, _∙_}
-use lib.Dec.{eqb}
+use Rattle.reading.specs.Tests.{within}
+use Rattle.jpeg_header_rules.proofs.Rules.{known-short, known-bits, known-count}
 use Rattle.jpeg_header_rules.proofs.frame_known.Statement.{statement}
 use Rattle.jpeg_header_rules.proofs.frame_known.Tie as tie
 
@@ -16,12 +16,16 @@ returns-2 c = known-bits (c .before .before .before .before .args .body .now) (c
 byte-at-requires-2 : tie.Need-byte-at-requires-2
 byte-at-requires-2 c κs = tt
 
-returns-3 : tie.Need-returns-3
-returns-3 c = known-one (c .before .before .before .before .before .before .args .body .now) (c .before .before .before .before .if1 .left) (sym (c .before .before .before .byte-at .ensures) ∙ c .before .before .if2 .left) (sym (c .before .byte-at2 .ensures) ∙ c .if3 .taken)
+within-requires : tie.Need-within-requires
+within-requires c κs = tt
 
-returns-4 : tie.Need-returns-4
-returns-4 c = ap (λ k. eqb k 3) (c .before .byte-at2 .ensures) ∙ known-three (c .before .before .before .before .before .before .args .body .now) (c .before .before .before .before .if1 .left) (sym (c .before .before .before .byte-at .ensures) ∙ c .before .before .if2 .left) (λ q. c .if3 .left (c .before .byte-at2 .ensures ∙ q))
+returns-3 : tie.Need-returns-3
+returns-3 c =
+    let bits = c .before .before in
+    c .within .ensures ∙ ap (within 1 4) (c .before .byte-at2 .ensures)
+    ∙ known-count (bits .before .before .before .before .args .body .now) (bits .before .before .if1 .left) (sym (bits .before .byte-at .ensures) ∙ bits .if2 .left)
 
 pub frame-known-spec : {M : Type 1} → statement M
 frame-known-spec =
-    tie.close (tie.spec returns byte-at-requires returns-2 byte-at-requires-2 returns-3 returns-4)
+    tie.close
+    (tie.spec returns byte-at-requires returns-2 byte-at-requires-2 within-requires returns-3)

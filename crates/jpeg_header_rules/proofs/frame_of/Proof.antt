@@ -1,3 +1,7 @@
+use Prim.Native.Nat.{_+_, _*_, _/_, _%_}
+use mathlib.Core.Path.{refl}
+use Rattle.reading.specs.Header.{byte}
+use Rattle.jpeg_header_rules.proofs.Channels.{factors-made}
 use Rattle.jpeg_header_rules.proofs.Rules.{frame-made}
 use Rattle.jpeg_header_rules.proofs.frame_of.Statement.{statement}
 use Rattle.jpeg_header_rules.proofs.frame_of.Tie as tie
@@ -5,14 +9,26 @@ use Rattle.jpeg_header_rules.proofs.frame_of.Tie as tie
 byte-at-requires : tie.Need-byte-at-requires
 byte-at-requires c κs = tt
 
-byte-at-requires-2 : tie.Need-byte-at-requires-2
-byte-at-requires-2 c κs = tt
-
 each-requires : tie.Need-each-requires
 each-requires c κs = tt
 
+high-halves-requires : tie.Need-high-halves-requires
+high-halves-requires c κs = tt
+
+counted-requires : tie.Need-counted-requires
+counted-requires c κs = tt
+
+low-halves-requires : tie.Need-low-halves-requires
+low-halves-requires c κs = tt
+
+counted-requires-2 : tie.Need-counted-requires-2
+counted-requires-2 c κs = tt
+
 each-requires-2 : tie.Need-each-requires-2
 each-requires-2 c κs = tt
+
+each-requires-3 : tie.Need-each-requires-3
+each-requires-3 c κs = tt
 
 word-at-requires : tie.Need-word-at-requires
 word-at-requires c κs = tt
@@ -20,31 +36,33 @@ word-at-requires c κs = tt
 word-at-requires-2 : tie.Need-word-at-requires-2
 word-at-requires-2 c κs = tt
 
-factor-requires : tie.Need-factor-requires
-factor-requires c κs = tt
-
-factor-requires-2 : tie.Need-factor-requires-2
-factor-requires-2 c κs = tt
-
 returns : tie.Need-returns
 returns c =
-    let sides = c .before .before .before in
-    let sampling = sides .before .before .before in
+    let last = c .before .before in
+    let down = last .before .before in
+    let across = down .before .before in
+    let sampling = across .before .before in
     let count = sampling .before in
-    frame-made (count .before .before .args .body .now) _ _ _ _ _ _ _ _
-    (count .byte-at .ensures) (sampling .byte-at2 .ensures) (sides .word-at .ensures) (c .before .before .word-at2 .ensures)
-    (c .before .factor .ensures) (c .factor2 .ensures) (c .before .before .before .before .before .each .ensures) (c .before .before .before .before .each2 .ensures)
+    let body = count .before .before .args .body .now in
+    let bytes = sampling .each .ensures in
+    frame-made body _ _ _ _ _ _ _
+    (count .byte-at .ensures) (c .before .word-at .ensures) (c .word-at2 .ensures)
+    (factors-made (λ x. x / 16) (count .byte-at .result) (λ k. byte body (7 + 3 * k)) _ _ _ refl bytes (across .before .high-halves .ensures) (across .counted .ensures))
+    (factors-made (λ x. x % 16) (count .byte-at .result) (λ k. byte body (7 + 3 * k)) _ _ _ refl bytes (down .before .low-halves .ensures) (down .counted2 .ensures))
+    (last .before .each2 .ensures) (last .each3 .ensures)
 
 pub frame-of-spec : {M : Type 1} → statement M
 frame-of-spec =
     tie.close
     (tie.spec
     byte-at-requires
-    byte-at-requires-2
     each-requires
+    high-halves-requires
+    counted-requires
+    low-halves-requires
+    counted-requires-2
     each-requires-2
+    each-requires-3
     word-at-requires
     word-at-requires-2
-    factor-requires
-    factor-requires-2
     returns)

@@ -8,10 +8,10 @@ use Rattle.jpeg_header_rules.proofs.low_halves.Statement.{statement}
 use Rattle.jpeg_header_rules.proofs.low_halves.Tie as tie
 
 abbrev Inv-loop : tie.InvT-loop
-Inv-loop bytes halves₀ c₀ halves c = (c ≤ 3) × (halves ≡ changed (λ x. x % 16) bytes c)
+Inv-loop bytes halves₀ c₀ halves c = (c ≤ 4) × (halves ≡ changed (λ x. x % 16) bytes c)
 
 abbrev μ-loop : tie.MeasureT-loop
-μ-loop bytes halves₀ c₀ halves c = 3 - c
+μ-loop bytes halves₀ c₀ halves c = 4 - c
 
 loop-holds : tie.Need-loop-holds Inv-loop μ-loop
 loop-holds c = (omega arith, refl)

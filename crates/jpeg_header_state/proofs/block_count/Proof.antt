@@ -1,60 +1,51 @@
 -- `block_count`: the numbers passed the test of a frame's, so each count is the rules' and their product is small.
-use Prim.Native.Nat.{ℕ, _*_, _+_, _-_}
-use mathlib.Core.Path.{_≡_, sym, ap₂, _∙_}
+use Prim.Native.Nat.{ℕ, _*_}
+use mathlib.Core.Path.{_≡_, ap₂}
 use native.Mathlib.Omega.{arith}
-use borrow.Author.Needs.{needs}
-use Rattle.reading.specs.declared.Frame.{Frame}
-use Rattle.reading.specs.Layout.{ceiling}
-use Rattle.reading.proofs.Accepted.{mcus-small, count-small, blocks-are}
-use Rattle.reading.proofs.Frames.{FrameOk}
-use Rattle.reading.proofs.McuCounts.{mcus-asked, blocks-asked}
-use Rattle.jpeg_header_state.proofs.Numbers.{alike, alike-ok}
+use Rattle.reading.specs.Layout.{mcusAcross, mcusDown, blockCount}
+use Rattle.reading.specs.Tables.{shapeOf}
+use Rattle.jpeg_header_state.proofs.Numbers.{Numbers, numbers-say, mcus-small, count-small, across-counted, down-counted, blocks-counted}
 use Rattle.jpeg_header_state.proofs.block_count.Statement.{statement}
 use Rattle.jpeg_header_state.proofs.block_count.Tie as tie
 
-ok : (c : tie.Start) → FrameOk (alike (c .args .frame))
-ok c = alike-ok (c .args .frame) (c .pre)
+ok : (c : tie.Start) → Numbers (c .args .frame)
+ok c = numbers-say (c .args .frame) (c .pre)
 
--- the MCUs of a frame, and its blocks, in the rules' words
-abbrev mcusIn : Frame → ℕ
-mcusIn f = ceiling (f .width) (8 * f .hs) * ceiling (f .height) (8 * f .vs)
+across-is : (c : tie.After-mcus) → c .mcus .result ≡ mcusAcross (shapeOf (c .before .before .args .frame))
+across-is c = let start = c .before .before in across-counted (start .args .frame) (ok start) (c .before .of .ensures) (c .mcus .ensures)
 
-abbrev blocksIn : Frame → ℕ
-blocksIn f = mcusIn f * (f .hs * f .vs + (f .channels - 1))
+down-is : (c : tie.After-mcus2) → c .mcus2 .result ≡ mcusDown (shapeOf (c .before .before .before .args .frame))
+down-is c = let start = c .before .before .before in down-counted (start .args .frame) (ok start) (c .before .before .of .ensures) (c .mcus2 .ensures)
 
-mcus-are : (c : tie.After-mcus2) → c .before .mcus .result * c .mcus2 .result ≡ mcusIn (c .before .before .args .frame)
-mcus-are c =
-    let across = c .before in
-    let fine = ok (across .before) in
-    ap₂ (λ (x y : ℕ). x * y)
-    (mcus-asked _ _ (across .mcus .ensures) (omega (arith, fine .wide)) (fine .across .0) (fine .across .1))
-    (mcus-asked _ _ (c .mcus2 .ensures) (omega (arith, fine .high)) (fine .down .0) (fine .down .1))
+mcus-are : (c : tie.After-mcus2)
+    → (let shape = shapeOf (c .before .before .before .args .frame) in c .before .mcus .result * c .mcus2 .result ≡ mcusAcross shape * mcusDown shape)
+mcus-are c = ap₂ (λ (x y : ℕ). x * y) (across-is (c .before)) (down-is c)
 
-product-is : (c : tie.After-mcu-blocks) → c .before .before .mcus .result * c .before .mcus2 .result * c .mcu-blocks .result ≡ blocksIn (c .before .before .before .args .frame)
+product-is : (c : tie.After-mcus2)
+    → (let mcu = c .before .before in
+    c .before .mcus .result * c .mcus2 .result * mcu .of .result .blocks ≡ blockCount (shapeOf (mcu .before .args .frame)))
 product-is c =
-    let down = c .before in
-    let fine = ok (down .before .before) in
-    ap₂ (λ (x y : ℕ). x * y)
-    (mcus-are down)
-    (blocks-asked _ _ _ (c .mcu-blocks .ensures) (fine .across .0) (fine .across .1) (fine .down .0) (fine .down .1) (fine .few .0) (fine .few .1))
+    let mcu = c .before .before in
+    blocks-counted (mcu .before .args .frame) (ok (mcu .before)) (mcu .of .ensures) (across-is (c .before)) (down-is c)
+
+of-requires : tie.Need-of-requires
+of-requires c κs = tt
 
 mcus-requires : tie.Need-mcus-requires
-mcus-requires c κs = search needs
+mcus-requires c κs = tt
 
 mcus-requires-2 : tie.Need-mcus-requires-2
-mcus-requires-2 c κs = search needs
+mcus-requires-2 c κs = tt
 
 mul-result : tie.Need-mul-result
-mul-result c = let start = c .before .before in omega (arith, mcus-are c, mcus-small (alike (start .args .frame)) (ok start))
-
-mcu-blocks-requires : tie.Need-mcu-blocks-requires
-mcu-blocks-requires c κs = search needs
+mul-result c = let start = c .before .before .before in omega (arith, mcus-are c, mcus-small (start .args .frame) (ok start))
 
 mul-result-2 : tie.Need-mul-result-2
-mul-result-2 c = let start = c .before .before .before in omega (arith, product-is c, count-small (alike (start .args .frame)) (ok start))
+mul-result-2 c = let start = c .before .before .before .before in omega (arith, product-is (c .before), count-small (start .args .frame) (ok start))
 
 returns : tie.Need-returns
-returns c = let start = c .before .before .before in product-is c ∙ sym (blocks-are (alike (start .args .frame)) (ok start))
+returns c = product-is (c .before)
 
 pub block-count-spec : {M : Type 1} → statement M
-block-count-spec = tie.close (tie.spec mcus-requires mcus-requires-2 mul-result mcu-blocks-requires mul-result-2 returns)
+block-count-spec =
+    tie.close (tie.spec of-requires mcus-requires mcus-requires-2 mul-result mul-result-2 returns)

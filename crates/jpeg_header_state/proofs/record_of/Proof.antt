@@ -3,28 +3,25 @@ use mathlib.Core.Path.{refl, ap, _∙_}
 use mathlib.Core.List.{map}
 use native.Mathlib.Omega.{arith}
 use Rattle.reading.specs.Header.{byte}
-use Rattle.reading.proofs.Accepted.{blocks-are, count-small, bytes-are, output-small}
-use Rattle.reading.proofs.Frames.{FrameOk}
 use Rattle.jpeg_header_rules.proofs.Channels.{map-each}
 use Rattle.jpeg_header_state.proofs.Rules.{record-made}
-use Rattle.jpeg_header_state.proofs.Numbers.{alike, alike-ok}
+use Rattle.jpeg_header_state.proofs.Numbers.{Numbers, numbers-say, count-small, bytes-are, output-small}
 use Rattle.jpeg_header_state.proofs.record_of.Statement.{statement}
 use Rattle.jpeg_header_state.proofs.record_of.Tie as tie
 
-ok : (c : tie.Start) → FrameOk (alike (c .args .state .frame))
-ok c = alike-ok (c .args .state .frame) (c .pre)
+ok : (c : tie.Start) → Numbers (c .args .state .frame)
+ok c = numbers-say (c .args .state .frame) (c .pre)
 
 -- how large the two sizes can be
-few-blocks : (c : tie.After-block-count) → c .block-count .result < 2 ^ 29
+few-blocks : (c : tie.After-block-count) → c .block-count .result < 2 ^ 30
 few-blocks c =
     let start = c .before .before .before .before .before .before .before in
-    let f = alike (start .args .state .frame) in
-    omega (arith, c .block-count .ensures, blocks-are f (ok start), count-small f (ok start))
+    omega (arith, c .block-count .ensures, count-small (start .args .state .frame) (ok start))
 
 few-bytes : (c : tie.After-output-length) → c .output-length .result < 2 ^ 34
 few-bytes c =
     let start = c .before .before .before .before .before .before .before .before in
-    let f = alike (start .args .state .frame) in
+    let f = start .args .state .frame in
     omega (arith, c .output-length .ensures, bytes-are f (ok start), output-small f (ok start))
 
 each-requires : tie.Need-each-requires

@@ -10,16 +10,16 @@ use Rattle.jpeg_render.proofs.RowPlaces.{pixels-most, bytes-most}
 use Rattle.jpeg_render.proofs.fits.Statement.{statement}
 use Rattle.jpeg_render.proofs.fits.Tie as tie
 
+-- behind the first test
+is-framed : (c : tie.Else1) → framed (c .before .before .args .frame) ≡ true
+is-framed c = sym (c .before .framed .ensures) ∙ not-false _ (c .if1 .left)
+
 framed-requires : tie.Need-framed-requires
-framed-requires c κs = tt
+framed-requires c κs = c .pre
 
 returns : tie.Need-returns
 unfolding fits
 returns c = rw (sym (c .before .framed .ensures) ∙ not-true _ (c .if1 .taken))
-
--- behind the first test
-is-framed : (c : tie.Else1) → framed (c .before .before .args .frame) ≡ true
-is-framed c = sym (c .before .framed .ensures) ∙ not-false _ (c .if1 .left)
 
 mul-if2 : tie.Need-mul-if2
 mul-if2 c = omega (arith, pixels-most _ (framed-sized _ (is-framed (c .before))))
@@ -32,14 +32,23 @@ unfolding fits
 returns-2 c = rw (is-framed (c .before .before .before), lt-leb _ _ (c .if2 .taken))
 
 all-samples-requires : tie.Need-all-samples-requires
-all-samples-requires c κs = framed-sized _ (is-framed (c .before .before .before))
+all-samples-requires c κs = (framed-sized _ (is-framed (c .before .before .before)), c .before .before .before .before .before .pre)
 
 returns-3 : tie.Need-returns-3
 unfolding fits
 returns-3 c =
-    let room = c .before in
-    let start = room .before .before .before .before .before in
-    rw (is-framed (room .before .before .before), le-leb _ _ (room .if2 .left)) (ap (λ n. leb n (start .args .samples)) (c .all-samples .ensures))
+    let place = c .before .before .before .before in
+    let start = place .before .before in
+    rw (is-framed place, le-leb _ _ (c .before .if2 .left)) (ap (λ n. leb n (start .args .samples)) (c .all-samples .ensures))
 
 pub fits-spec : {M : Type 1} → statement M
-fits-spec = tie.close (tie.spec framed-requires returns mul-if2 mul-if2-2 returns-2 all-samples-requires returns-3)
+fits-spec =
+    tie.close
+    (tie.spec
+    framed-requires
+    returns
+    mul-if2
+    mul-if2-2
+    returns-2
+    all-samples-requires
+    returns-3)

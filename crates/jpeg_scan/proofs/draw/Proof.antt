@@ -12,8 +12,11 @@ use borrow.Author.Needs.{needs}
 use Rattle.jpeg_scan.proofs.draw.Statement.{statement}
 use Rattle.jpeg_scan.proofs.draw.Tie as tie
 
+of-requires : tie.Need-of-requires
+of-requires c κs = search needs
+
 run-requires : tie.Need-run-requires
-run-requires c κs = λ t. absurd (true≢false (sym t))
+run-requires c κs = (c .before .of .ensures, λ t. absurd (true≢false (sym t)))
 
 enum-known-f : tie.Need-enum-known-f
 enum-known-f c = search needs
@@ -26,15 +29,15 @@ same-length c = search needs
 
 first :
     (c : tie.After-enum-told)
-    → (let a = c .before .before .before .before .before .before .before .before .args in Accepted (scanOf (a .s .now) (a .found)))
+    → (let a = c .before .before .before .before .before .before .before .before .before .args in Accepted (scanOf (a .s .now) (a .found)))
 first c =
-    let a = c .before .before .before .before .before .before .before .before .args in
+    let a = c .before .before .before .before .before .before .before .before .before .args in
     accepted (scanOf (a .s .now) (a .found)) (c .before .before .before .before .run .ensures .0) (c .enum-told .given .1)
 
 returns : tie.Need-returns
 returns c =
     let ran = c .before .before .before .before .before in
-    let a = ran .before .before .before .before .args in
+    let a = ran .before .before .before .before .before .args in
     let s = a .s .now in
     let r = a .found in (
       sym (c .before .enum-told .given .1) ∙ ran .run .ensures .0,
@@ -44,7 +47,7 @@ returns c =
     )
 
 run-requires-2 : tie.Need-run-requires-2
-run-requires-2 c κs = λ t. omega (arith, c .before .if1 .left)
+run-requires-2 c κs = (c .before .before .before .before .before .before .before .before .of .ensures, λ t. omega (arith, c .before .if1 .left))
 
 same-length-2 : tie.Need-same-length-2
 same-length-2 c = search needs
@@ -52,7 +55,7 @@ same-length-2 c = search needs
 returns-2 : tie.Need-returns-2
 returns-2 c =
     let ran = c .before .before .before .before .before in
-    let a = ran .before .before .before .before .args in
+    let a = ran .before .before .before .before .before .args in
     let s = a .s .now in
     let r = a .found in (
       sym (c .before .f .given .1) ∙ ran .run .ensures .0,
@@ -68,7 +71,7 @@ returns-3 : tie.Need-returns-3
 returns-3 c =
     let told = c .before .before .before .before .before in
     let ran = told .before .before .before .before in
-    let a = ran .before .before .before .before .args in
+    let a = ran .before .before .before .before .before .args in
     let s = a .s .now in
     let r = a .found in
     let read = first told in (
@@ -83,6 +86,7 @@ pub draw-spec : {M : Type 1} → statement M
 draw-spec =
     tie.close
     (tie.spec
+    of-requires
     run-requires
     enum-known-f
     enum-told

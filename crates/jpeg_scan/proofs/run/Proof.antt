@@ -23,32 +23,30 @@ use Rattle.jpeg_scan.proofs.run.Statement.{statement}
 use Rattle.jpeg_scan.proofs.run.Tie as tie
 
 abbrev Inv-mcus : tie.InvT-mcus
-Inv-mcus s write scratch₀ plan interval blocks cursor₀ m₀ scratch cursor m =
+Inv-mcus s plan write scratch₀ interval blocks cursor₀ m₀ scratch cursor m =
     Walk s plan write scratch₀ cursor₀ scratch cursor m
 
 abbrev μ-mcus : tie.MeasureT-mcus
-μ-mcus s write scratch₀ plan interval blocks cursor₀ m₀ scratch cursor m = plan .blocks - cursor .done
-
-of-requires : tie.Need-of-requires Inv-mcus μ-mcus
-of-requires c κs = search needs
+μ-mcus s plan write scratch₀ interval blocks cursor₀ m₀ scratch cursor m = plan .blocks - cursor .done
 
 nowhere-requires : tie.Need-nowhere-requires Inv-mcus μ-mcus
 nowhere-requires c κs = search needs
 
-set-up : (c : tie.Else1 Inv-mcus μ-mcus) → Ready (c .before .before .before .before .before .args .s .now) (c .before .before .before .before .before .args .found) (c .before .before .of .result)
-set-up c = ready (c .before .before .before .before .before .args .s .now) (c .before .before .before .before .before .args .found) (c .before .before .of .ensures) (c .if1 .left)
+set-up : (c : tie.Else1 Inv-mcus μ-mcus) → Ready (c .before .before .before .before .args .s .now) (c .before .before .before .before .args .found) (c .before .before .before .before .args .plan)
+set-up c = ready (c .before .before .before .before .args .s .now) (c .before .before .before .before .args .found) (c .before .before .before .before .pre .0) (c .if1 .left)
 
 returns : tie.Need-returns Inv-mcus μ-mcus
 returns c =
-    let a = (c .before .before .before .before .before .before) .args in
-    let e = unready (a .s .now) (a .found) (c .before .before .before .of .ensures) (c .before .if1 .taken) in
+    let a = (c .before .before .before .before .before) .args in
+    let e = unready (a .s .now) (a .found) (c .before .before .before .before .before .pre .0) (c .before .if1 .taken) in
     (ap Stop (c .nowhere .ensures) ∙ answer-stop e, left-stop (a .s .now) (a .found) (a .write) _ _ e (λ t. refl))
 
-blocks-are : (c : tie.Else1 Inv-mcus μ-mcus) → c .before .before .of .result .blocks ≡ c .before .before .before .before .before .args .found .blocks
+blocks-are : (c : tie.Else1 Inv-mcus μ-mcus) → c .before .before .before .before .args .plan .blocks ≡ c .before .before .before .before .args .found .blocks
 blocks-are c = ap (λ (n : Plan). n .blocks) (set-up c .plan-is)
 
-room : (c : tie.Else1 Inv-mcus μ-mcus) → c .before .before .before .before .before .args .write ≡ true → 64 * c .before .before .of .result .blocks ≤ length (c .before .before .before .before .before .args .scratch .now)
-room c t = omega (arith, c .before .before .before .before .before .pre t, blocks-are c)
+room : (c : tie.Else1 Inv-mcus μ-mcus)
+    → (let a = c .before .before .before .before .args in a .write ≡ true → 64 * a .plan .blocks ≤ length (a .scratch .now))
+room c t = omega (arith, c .before .before .before .before .pre .1 t, blocks-are c)
 
 fresh-requires : tie.Need-fresh-requires Inv-mcus μ-mcus
 fresh-requires c κs = search needs
@@ -75,7 +73,10 @@ enum-told : tie.Need-enum-told Inv-mcus μ-mcus
 enum-told c = search needs
 
 mcu-requires : tie.Need-mcu-requires Inv-mcus μ-mcus
-mcu-requires c κs = (set-up (c .before .before .before .before .before .before .before .before) .inside, λ t. omega (arith, room (c .before .before .before .before .before .before .before .before) t, c .before .before .before .before .before .before .mcus .inv .size))
+mcu-requires c κs =
+    let turn = c .before .before .before .before .before .before in
+    let begun = turn .before .before in
+    (set-up begun .inside, λ t. omega (arith, room begun t, turn .mcus .inv .size))
 
 enum-known-g : tie.Need-enum-known-g Inv-mcus μ-mcus
 enum-known-g c = search needs
@@ -91,37 +92,60 @@ limit c = omega (arith, c .good .1 .0 .1 .1 .1 .1 .1 .1 .0)
 
 add-m : tie.Need-add-m Inv-mcus μ-mcus
 add-m c =
-    let w = (c .before .before .before .before .before .before .before .before .before .before .before .before) .mcus in
-    let u = (c .before .before .before .before .before .before .before .before .before .before .before .before .before .before) in
-    omega (arith, le-mul-of-pos-right (w .m) (set-up u .numbers .some), at-mcu (w .inv) (c .before .before .before .before .before .before .before .before .before .before .if2 .left), c .before .before .before .before .before .before .before .before .before .before .if2 .left, blocks-are u, limit (c .before .before .before .before .before .before .before .before .before .before .before .before .before .before .before .before .before .before .before))
+    let tested = c .before .before .before .before .before .before .before .before .before .before in
+    let w = tested .before .before .mcus in
+    let u = tested .before .before .before .before in
+    omega (
+      arith,
+      le-mul-of-pos-right (w .m) (set-up u .numbers .some),
+      at-mcu (w .inv) (tested .if2 .left),
+      tested .if2 .left,
+      blocks-are u,
+      limit (u .before .before .before .before),
+    )
 
 mcus-less : tie.Need-mcus-less Inv-mcus μ-mcus
 mcus-less c =
-    let st = set-up (c .before .before .before .before .before .before .before .before .before .before .before .before .before .before) .numbers in
-    omega (arith, gained (c .before .before .before .before .before .before .before .before .before .before .before .before .mcus .inv) (c .before .before .before .before .before .before .before .before .before .before .if2 .left) (c .before .before .before .before .before .before .before .before .before .restart .ensures) (c .before .before .before .before .before .before .before .enum-told .given .1) (c .before .before .before .before .before .mcu .ensures) _ st (c .before .enum-told2 .given .1), c .before .before .before .before .before .before .before .before .before .before .if2 .left, st .some)
+    let passed = c .before .before .before .before .before in
+    let told = passed .before .before in
+    let restarting = told .before .before in
+    let tested = restarting .before in
+    let walk = tested .before .before in
+    let st = set-up (walk .before .before) .numbers in
+    let more =
+    gained (walk .mcus .inv) (tested .if2 .left) (restarting .restart .ensures) (told .enum-told .given .1) (passed .mcu .ensures) _ st
+    (c .before .enum-told2 .given .1) in
+    omega (arith, more, tested .if2 .left, st .some)
 
 mcus-again : tie.Need-mcus-again Inv-mcus μ-mcus
 mcus-again c =
-    further (c .before .before .before .before .before .before .before .before .before .before .before .before .mcus .inv) (c .before .before .before .before .before .before .before .before .before .before .if2 .left) (c .before .before .before .before .before .before .before .before .before .restart .ensures) (c .before .before .before .before .before .before .before .enum-told .given .1) (c .before .before .before .before .before .mcu .ensures) _ (set-up (c .before .before .before .before .before .before .before .before .before .before .before .before .before .before) .numbers) (c .before .enum-told2 .given .1)
+    let passed = c .before .before .before .before .before in
+    let told = passed .before .before in
+    let restarting = told .before .before in
+    let tested = restarting .before in
+    let walk = tested .before .before in
+    further (walk .mcus .inv) (tested .if2 .left) (restarting .restart .ensures) (told .enum-told .given .1) (passed .mcu .ensures) _
+    (set-up (walk .before .before) .numbers) (c .before .enum-told2 .given .1)
 
 same-length : tie.Need-same-length Inv-mcus μ-mcus
 same-length c = c .before .before .before .before .mcus .inv .size
 
 -- the blocks of the scan, from the cursor that the code starts with
 from-start : (c : tie.After-fresh Inv-mcus μ-mcus) {o : Scanned (Cursor Bits) (List (List ℤ))}
-    → ahead (c .before .before .before .before .before .before .args .s .now) (planOf (c .before .before .before .before .before .before .args .s .now) (c .before .before .before .before .before .before .args .found)) (c .before .before .before .of .result .blocks) (c .fresh .result) ≡ o
-    → ahead (c .before .before .before .before .before .before .args .s .now) (planOf (c .before .before .before .before .before .before .args .s .now) (c .before .before .before .before .before .before .args .found)) (c .before .before .before .before .before .before .args .found .blocks) (atStart (c .before .before .before .before .before .before .args .found .start)) ≡ o
+    → (let a = c .before .before .before .before .before .args in ahead (a .s .now) (planOf (a .s .now) (a .found)) (a .plan .blocks) (c .fresh .result) ≡ o)
+    → (let a = c .before .before .before .before .before .args in ahead (a .s .now) (planOf (a .s .now) (a .found)) (a .found .blocks) (atStart (a .found .start)) ≡ o)
 from-start c e =
-    let a = (c .before .before .before .before .before .before) .args in
+    let a = (c .before .before .before .before .before) .args in
     ap (λ (n : Plan). ahead (a .s .now) (planOf (a .s .now) (a .found)) (n .blocks) (atStart (n .start))) (sym (set-up (c .before) .plan-is))
-    ∙ ap (ahead (a .s .now) (planOf (a .s .now) (a .found)) (c .before .before .before .of .result .blocks)) (sym (c .fresh .ensures)) ∙ e
+    ∙ ap (ahead (a .s .now) (planOf (a .s .now) (a .found)) (c .before .before .before .before .before .args .plan .blocks)) (sym (c .fresh .ensures)) ∙ e
 
 returns-2 : tie.Need-returns-2 Inv-mcus μ-mcus
 returns-2 c =
-    let a = (c .before .before .before .before .before .before .before .before .before .before .before) .args in
+    let a = (c .before .before .before .before .before .before .before .before .before .before) .args in
     let w = (c .before .before .before .before) .mcus .inv in
     let u = set-up (c .before .before .before .before .before .before) in
-    let e = scan-done (a .s .now) (a .found) (u .readable-is) (from-start (c .before .before .before .before .before) (all-read w _ (u .numbers) (c .before .before .if2 .taken))) (sym (c .before .at-end .ensures) ∙ c .if3 .taken) in
+    let e = scan-done (a .s .now) (a .found) (u .readable-is)
+    (from-start (c .before .before .before .before .before) (all-read w _ (u .numbers) (c .before .before .if2 .taken))) (sym (c .before .at-end .ensures) ∙ c .if3 .taken) in
     (answer-done e, left-done (a .s .now) (a .found) (a .write) _ e (w .on _ (u .numbers) .here _ (u .quantizers)))
 
 same-length-2 : tie.Need-same-length-2 Inv-mcus μ-mcus
@@ -129,7 +153,7 @@ same-length-2 c = c .before .before .before .before .before .mcus .inv .size
 
 returns-3 : tie.Need-returns-3 Inv-mcus μ-mcus
 returns-3 c =
-    let a = (c .before .before .before .before .before .before .before .before .before .before .before .before) .args in
+    let a = (c .before .before .before .before .before .before .before .before .before .before .before) .args in
     let w = (c .before .before .before .before .before) .mcus .inv in
     let u = set-up (c .before .before .before .before .before .before .before) in
     let all = from-start (c .before .before .before .before .before .before) (all-read w _ (u .numbers) (c .before .before .before .if2 .taken)) in
@@ -141,7 +165,7 @@ same-length-3 c = c .before .before .before .before .before .before .before .mcu
 
 returns-4 : tie.Need-returns-4 Inv-mcus μ-mcus
 returns-4 c =
-    let a = (c .before .before .before .before .before .before .before .before .before .before .before .before .before .before) .args in
+    let a = (c .before .before .before .before .before .before .before .before .before .before .before .before .before) .args in
     let w = (c .before .before .before .before .before .before .before) .mcus .inv in
     let u = set-up (c .before .before .before .before .before .before .before .before .before) in
     let restarting = (c .before .before .before .before) in
@@ -156,7 +180,7 @@ same-length-4 c =
 
 returns-5 : tie.Need-returns-5 Inv-mcus μ-mcus
 returns-5 c =
-    let a = (c .before .before .before .before .before .before .before .before .before .before .before .before .before .before .before .before .before .before .before .before) .args in
+    let a = (c .before .before .before .before .before .before .before .before .before .before .before .before .before .before .before .before .before .before .before) .args in
     let u = set-up (c .before .before .before .before .before .before .before .before .before .before .before .before .before .before .before) in
     let blocks-read = (c .before .before .before .before .before .before) in
     let restarting = (c .before .before .before .before .before .before .before .before .before .before) in
@@ -173,7 +197,6 @@ run-spec =
     (tie.spec
     Inv-mcus
     μ-mcus
-    of-requires
     nowhere-requires
     returns
     fresh-requires

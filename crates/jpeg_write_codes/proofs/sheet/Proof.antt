@@ -8,10 +8,10 @@ use Rattle.jpeg_write_codes.proofs.sheet.Statement.{statement}
 use Rattle.jpeg_write_codes.proofs.sheet.Tie as tie
 
 abbrev Inv-loop : tie.InvT-loop
-Inv-loop t places words₀ i₀ words i = (i ≤ 6) × FilledTo t places i words
+Inv-loop t places words₀ i₀ words i = (i ≤ 8) × FilledTo t places i words
 
 abbrev μ-loop : tie.MeasureT-loop
-μ-loop t places words₀ i₀ words i = 6 - i
+μ-loop t places words₀ i₀ words i = 8 - i
 
 loop-holds : tie.Need-loop-holds Inv-loop μ-loop
 loop-holds c = (omega arith, filled-none _ _ _ (search needs))

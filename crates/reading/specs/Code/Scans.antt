@@ -17,12 +17,13 @@ use Rattle.reading.specs.declared.Record.{Record}
 use Rattle.reading.specs.declared.ScanCursor.{ScanCursor}
 use Rattle.reading.specs.declared.ScanSettled.{ScanSettled}
 use Rattle.reading.specs.declared.ScanSettled.the-variants as answer
-use Rattle.reading.specs.Tests.{_and_, within, over}
+use Rattle.reading.specs.Tests.{_and_, over}
+use Rattle.reading.specs.Code.Mcus.{sampled}
 use Rattle.reading.specs.Bits.{firstBit}
 use Rattle.reading.specs.Scan.{Plan, planOf, noPredictors, Cursor, Scanned, whole, broke, levels}
 use Rattle.reading.specs.Settled.{settledScan}
 
--- a scan before its first block: the bit place, three predictors and the count of blocks done
+-- a scan before its first block: the bit place, four predictors and the count of blocks done
 abbrev pub atStart : ℕ → ScanCursor
 atStart at = record { bits = firstBit at; predictors = noPredictors; done = 0 }
 
@@ -38,11 +39,10 @@ brokeAt q f = record { fault = f; block = q .done; place = q .bits .at }
 abbrev pub nowhere : Break
 nowhere = record { fault = Broken; block = 0; place = 0 }
 
--- a record's numbers by which a scan can be read: the first coded byte lies within the file, factors 1 to 4, 1 to 3 channels
+-- a record's numbers by which a scan can be read: the first coded byte lies within the file, and the sampling is one that a frame can have
 unfoldable pub readable : List ℕ → Record → Bool
 readable s r =
-    leb (r .start) (length s) and within 1 4 (r .frame .hs) and within 1 4 (r .frame .vs)
-    and within 1 3 (r .frame .channels)
+    leb (r .start) (length s) and sampled (r .frame)
 
 -- the scan as the code reads it: a record with other numbers, which no header gives, is Broken
 unfoldable pub scanOf : List ℕ → Record → Scanned Bits (List (List ℤ))

@@ -1,4 +1,4 @@
-use Rattle.tillsparrow.proofs.Answers.{refused, decoded}
+use Rattle.tillsparrow.proofs.Answers.{refused, accepted}
 use borrow.Author.Needs.{needs}
 use Rattle.tillsparrow.proofs.convert.Statement.{statement}
 use Rattle.tillsparrow.proofs.convert.Tie as tie
@@ -21,14 +21,8 @@ refused-requires c κs = search needs
 enum-told : tie.Need-enum-told
 enum-told c = search needs
 
-fresh-requires-2 : tie.Need-fresh-requires-2
-fresh-requires-2 c κs = search needs
-
-decode-requires : tie.Need-decode-requires
-decode-requires c κs = search needs
-
-reply-requires : tie.Need-reply-requires
-reply-requires c κs = search needs
+show-requires : tie.Need-show-requires
+show-requires c κs = search needs
 
 returns : tie.Need-returns
 returns c =
@@ -45,12 +39,12 @@ same-length-2 c = search needs
 
 returns-2 : tie.Need-returns-2
 returns-2 c =
-    let drawn = c .before .before .before .before .before in
-    let inspected = drawn .before .before .before .before .before .before .before in
+    let shown = c .before .before .before .before in
+    let told = shown .before .before .before in
+    let inspected = told .before .before .before in
     let start = inspected .before .before .before .before .before .before in
-    decoded (start .args .s .now) (start .args .output .now) (start .args .scratch .now) (inspected .before .before .limits .ensures)
-    (inspected .before .fresh .ensures) (inspected .inspect .ensures) (drawn .before .before .before .before .enum-told .given .1)
-    (drawn .before .fresh2 .ensures) (drawn .decode .ensures) (c .reply .ensures)
+    accepted (start .args .s .now) (start .args .output .now) (start .args .scratch .now) (inspected .before .before .limits .ensures)
+    (inspected .before .fresh .ensures) (inspected .inspect .ensures) (told .enum-told .given .1) (shown .show .ensures)
 
 pub convert-spec : {M : Type 1} → statement M
 convert-spec =
@@ -62,9 +56,7 @@ convert-spec =
     enum-known-seen
     refused-requires
     enum-told
-    fresh-requires-2
-    decode-requires
-    reply-requires
+    show-requires
     returns
     same-length
     same-length-2

@@ -323,7 +323,7 @@ fn lines_name_block_and_place() {
         answer::line(&Case { job, colour: 0, limits, budget, room, scratch_room, file, record })
     };
     // 10,000 less 2 x 149 + 1 and 3136 x 2 + 128.
-    let zeros = " 0".repeat(36);
+    let zeros = " 0".repeat(46);
     assert_eq!(line(1, &file), format!("1 10 3301 1 145{zeros}"));
     assert_eq!(line(3, &file), "3 10 3301 1 145 0 1");
     assert_eq!(line(2, &file), "2 8 9701 1 1");

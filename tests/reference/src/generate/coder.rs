@@ -5,6 +5,7 @@ use super::faults::{self, Fault};
 use super::plan::Shape;
 use super::tables;
 use crate::random::Random;
+use crate::record::MOST_CHANNELS;
 
 /// A table ready for writing.
 struct Ready {
@@ -24,7 +25,7 @@ struct Coder<'a> {
     bytes: Vec<u8>,
     started: u32,
     filled: u32,
-    predictors: [i32; 3],
+    predictors: [i32; MOST_CHANNELS],
     /// The fault still to come, and the block from which on it may.
     fault: Option<Fault>,
     fault_from: u64,
@@ -75,7 +76,7 @@ pub fn scan(shape: &Shape, random: &mut Random, fault: Option<Fault>) -> Coded {
         bytes: Vec::new(),
         started: 0,
         filled: 0,
-        predictors: [0; 3],
+        predictors: [0; MOST_CHANNELS],
         fault,
         fault_from,
         block: 0,
@@ -341,7 +342,7 @@ impl Coder<'_> {
             if self.due(Fault::RestartNumber) { self.random.pick(&[1, 7, 2, 4]) } else { 0 };
         self.marker(208 + ((number + wrong) % 8) as u8);
         if !self.due(Fault::Carried) {
-            self.predictors = [0; 3];
+            self.predictors = [0; MOST_CHANNELS];
         }
     }
 

@@ -10,7 +10,7 @@ use crate::header;
 use crate::huffman::{self, Codes};
 use crate::layout;
 use crate::random::Random;
-use crate::record::Record;
+use crate::record::{Record, MOST_CHANNELS};
 use std::collections::BTreeMap;
 
 pub type Seen = BTreeMap<String, u32>;
@@ -73,13 +73,13 @@ fn walk(file: &[u8], record: &Record, seen: &mut Seen) {
     let dc: Vec<Codes> =
         channels.clone().map(|c| table(&record.dc_tables, record.dc_ids[c])).collect();
     let ac: Vec<Codes> = channels.map(|c| table(&record.ac_tables, record.ac_ids[c])).collect();
-    let (per_mcu, mut predictors) = (layout::blocks_per_mcu(record), [0; 3]);
+    let (per_mcu, mut predictors) = (layout::blocks_per_mcu(record), [0; MOST_CHANNELS]);
     for number in 0..record.blocks {
         if number % per_mcu == 0 {
             if let Some(code) = layout::restart_before(record, number / per_mcu) {
                 note(seen, &format!("restart {code}"));
                 bits.marker(code).unwrap();
-                predictors = [0; 3];
+                predictors = [0; MOST_CHANNELS];
             }
         }
         let c = layout::channel_of(record, number % per_mcu);
@@ -89,7 +89,9 @@ fn walk(file: &[u8], record: &Record, seen: &mut Seen) {
 
 /// What the bytes show without reading symbols.
 fn look(file: &[u8], record: &Record, seen: &mut Seen) {
-    note(seen, &format!("{} channels {} x {}", record.channels, record.hs, record.vs));
+    let channels = 0..record.channels as usize;
+    let factors = channels.map(|c| format!(" {}x{}", record.across[c], record.down[c]));
+    note(seen, &format!("{} channels{}", record.channels, factors.collect::<String>()));
     let scan = &file[record.first_coded as usize..];
     if scan.windows(2).any(|pair| pair == [255, 0]) {
         note(seen, "255 in the data");
@@ -133,7 +135,7 @@ fn wanted() -> Vec<String> {
         "settle 7 Equal",
         "settle 7 Greater",
         "settle 9 Greater",
-        "1 channels 1 x 1",
+        "1 channels 1x1",
     ]
     .map(String::from)
     .to_vec();
@@ -142,8 +144,14 @@ fn wanted() -> Vec<String> {
     list.extend((1..=10).map(|size| format!("size {size}")));
     list.extend((0..=15).map(|run| format!("run {run}")));
     list.extend((208..=215).map(|code| format!("restart {code}")));
-    let sampling = ["1 x 1", "1 x 2", "1 x 3", "1 x 4", "2 x 1", "2 x 2", "3 x 1", "4 x 1"];
-    list.extend(sampling.map(|sampling| format!("3 channels {sampling}")));
+    let first = ["1x1", "1x2", "1x4", "2x1", "2x2", "4x1"];
+    list.extend(first.map(|factors| format!("3 channels {factors} 1x1 1x1")));
+    let finer = ["2x2 1x2 1x2", "2x2 2x1 2x1", "2x2 1x2 2x1", "1x1 2x2 1x1", "3x1 2x1 1x1"];
+    list.extend(finer.map(|factors| format!("3 channels {factors}")));
+    let two = ["1x1 1x1", "2x2 1x1", "1x1 2x2", "3x1 2x1", "3x3 1x1"];
+    list.extend(two.map(|factors| format!("2 channels {factors}")));
+    let four = ["1x1 1x1 1x1 1x1", "2x2 1x1 1x1 2x2", "1x1 2x1 1x1 3x2"];
+    list.extend(four.map(|factors| format!("4 channels {factors}")));
     list
 }
 

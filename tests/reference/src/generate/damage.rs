@@ -3,6 +3,7 @@
 use super::careless;
 use super::draft::Draft;
 use super::plan::{Length, Segment};
+use super::sampling;
 use super::tables;
 use crate::huffman;
 use crate::random::Random;
@@ -10,10 +11,14 @@ use crate::random::Random;
 type Damage = fn(&mut Draft, &mut Random);
 
 /// Each changes one thing around a boundary of the rules.
-const HEAD_DAMAGE: [Damage; 34] = [
+const HEAD_DAMAGE: [Damage; 38] = [
     frame_field,
     frame_field,
     frame_sampling,
+    frame_sampling,
+    frame_factors,
+    frame_blocks,
+    frame_channels,
     frame_component,
     frame_equal_ids,
     frame_size,
@@ -82,23 +87,104 @@ fn frame_field(draft: &mut Draft, random: &mut Random) {
     let value = if random.chance(1, 2) {
         (0, random.pick(&[0, 7, 9, 12, 16, 255]))
     } else {
-        (5, random.pick(&[0, 1, 2, 3, 4, 255]))
+        (5, random.pick(&[0, 1, 2, 3, 4, 5, 255]))
     };
     set(find(draft, random, &FRAME), value.0, value.1);
 }
 
+/// How many channels a frame or a scan has room for, with a body of so many bytes besides
+/// `step` for each; one at least.
+fn channels_in(segment: Option<&Segment>, besides: usize, step: usize) -> usize {
+    let length = segment.map_or(0, |segment| segment.body.len());
+    (length.saturating_sub(besides) / step).clamp(1, 255)
+}
+
+fn frame_channels_in(draft: &Draft, random: &mut Random) -> usize {
+    let at = find_place(draft, random, &FRAME);
+    channels_in(at.map(|at| &draft.segments[at]), 6, 3)
+}
+
+/// Sampling bytes around the edges of a nibble, in any channel; some are allowed.
 fn frame_sampling(draft: &mut Draft, random: &mut Random) {
-    let edges = [0x00, 0x10, 0x01, 0x15, 0x51, 0x55, 0x44, 0x23, 0x32, 0x33, 0x24, 0x42, 0x34];
+    let channels = frame_channels_in(draft, random);
+    let channel = random.below(channels);
     let any = random.byte();
-    let first = if random.chance(2, 3) { random.pick(&edges) } else { any };
-    let other = random.pick(&[0x00, 0x10, 0x01, 0x12, 0x21, 0x22, 0x41, any]);
-    let (at, value) = random.pick(&[(7, first), (7, first), (10, other), (13, other)]);
-    set(find(draft, random, &FRAME), at, value);
+    let good = random.between(1, 4) as u8;
+    let bad = random.pick(&[0, 0, 0, 5, 5, 5, 6, 8, 9, 15]);
+    let value = random.pick(&[
+        16 * bad + good,
+        16 * bad + good,
+        16 * good + bad,
+        16 * good + bad,
+        0x00,
+        0x55,
+        0x44,
+        0x24,
+        any,
+    ]);
+    set(find(draft, random, &FRAME), 7 + 3 * channel, value);
+}
+
+/// Gives the frame these factors.
+fn set_factors(draft: &mut Draft, random: &mut Random, factors: &[(u64, u64)]) {
+    let Some(frame) = find(draft, random, &FRAME) else {
+        return;
+    };
+    for (channel, &both) in factors.iter().enumerate() {
+        set(Some(&mut *frame), 7 + 3 * channel, sampling::byte(both));
+    }
+}
+
+/// Other factors that may stand there: the scan is read by another layout.
+fn frame_factors(draft: &mut Draft, random: &mut Random) {
+    let channels = frame_channels_in(draft, random).min(4);
+    let factors = sampling::factors(random, channels);
+    set_factors(draft, random, &factors);
+}
+
+/// More blocks in an MCU than ten; a single channel may have them.
+fn frame_blocks(draft: &mut Draft, random: &mut Random) {
+    let channels = frame_channels_in(draft, random);
+    let factors = match channels {
+        1 => vec![random.pick(&[(3, 4), (4, 3), (4, 4)])],
+        _ => sampling::beyond(random, channels.min(4)),
+    };
+    set_factors(draft, random, &factors);
+}
+
+/// Another number of channels, none or too many among them. The bodies of the frame and, most
+/// times, of the scan are whole.
+fn frame_channels(draft: &mut Draft, random: &mut Random) {
+    let count = random.pick(&[0, 0, 0, 5, 5, 5, 6, 85, 255, 1, 2, 3, 4]);
+    let at = find_place(draft, random, &FRAME);
+    if let Some(body) = at.map(|at| &mut draft.segments[at].body).filter(|body| body.len() > 8) {
+        while body.len() < 6 + 3 * count {
+            let id = body[body.len() - 3].wrapping_add(1);
+            body.extend([id, 17, body[8]]);
+        }
+        body.truncate(6 + 3 * count);
+        body[5] = count as u8;
+    }
+    if random.chance(1, 8) {
+        return;
+    }
+    let at = find_place(draft, random, &[218]);
+    if let Some(body) = at.map(|at| &mut draft.segments[at].body).filter(|body| body.len() > 5) {
+        let last = body.split_off(body.len() - 3);
+        while body.len() < 1 + 2 * count {
+            let id = body[body.len() - 2].wrapping_add(1);
+            body.extend([id, body[2]]);
+        }
+        body.truncate(1 + 2 * count);
+        body[0] = count as u8;
+        body.extend(last);
+    }
 }
 
 /// Quantizer ids above 3 or absent, equal or other component ids.
 fn frame_component(draft: &mut Draft, random: &mut Random) {
-    let channel = random.below(3);
+    let channels = frame_channels_in(draft, random);
+    let channel = random.below(channels);
     let Some(frame) = find(draft, random, &FRAME) else {
         return;
     };
@@ -107,20 +193,28 @@ fn frame_component(draft: &mut Draft, random: &mut Random) {
         set(Some(frame), 8 + 3 * channel, id);
     } else {
         let any = random.byte();
-        let id = frame.body.get(6 + 3 * random.below(3)).copied().unwrap_or(any);
+        let id = frame.body.get(6 + 3 * random.below(channels)).copied().unwrap_or(any);
         set(Some(frame), 6 + 3 * channel, id);
     }
 }
 
-/// Two equal component ids, in the frame and in the scan alike.
+/// Two equal component ids, or all equal, in the frame and in the scan alike.
 fn frame_equal_ids(draft: &mut Draft, random: &mut Random) {
-    let (a, b) = random.pick(&[(0, 1), (0, 2), (1, 2)]);
+    let channels = frame_channels_in(draft, random);
+    if channels == 1 {
+        return;
+    }
+    let a = random.below(channels);
+    let b = (a + random.between(1, channels as u64 - 1) as usize) % channels;
+    let equal = if random.chance(1, 6) { (0..channels).collect() } else { vec![b] };
     for (codes, first, step) in [(&FRAME[..], 6, 3), (&[218], 1, 2)] {
         let Some(segment) = find(draft, random, codes) else {
             continue;
         };
         if let Some(&id) = segment.body.get(first + step * a) {
-            set(Some(segment), first + step * b, id);
+            for channel in &equal {
+                set(Some(&mut *segment), first + step * channel, id);
+            }
         }
     }
 }
@@ -166,7 +260,7 @@ fn resize(random: &mut Random, body: &mut Vec<u8>, lengths: &[usize]) {
 
 fn frame_body(draft: &mut Draft, random: &mut Random) {
     if let Some(frame) = find(draft, random, &FRAME) {
-        resize(random, &mut frame.body, &[0, 5, 6, 8, 9, 10, 15]);
+        resize(random, &mut frame.body, &[0, 5, 6, 8, 9, 10, 12, 15, 18, 21]);
     }
 }
 
@@ -209,6 +303,7 @@ fn scan_field(draft: &mut Draft, random: &mut Random) {
         (length, 2),
         (length, 3),
         (length, 4),
+        (length, 5),
         (3, 1),
         (3, 63),
         (2, 62),
@@ -224,13 +319,14 @@ fn scan_field(draft: &mut Draft, random: &mut Random) {
 
 /// Component ids out of order, table ids above 3 or of other tables.
 fn scan_component(draft: &mut Draft, random: &mut Random) {
-    let channel = random.below(3);
     let Some(scan) = find(draft, random, &[218]) else {
         return;
     };
+    let channels = channels_in(Some(scan), 4, 2);
+    let channel = random.below(channels);
     match random.below(4) {
         0 => set(Some(scan), 1 + 2 * channel, random.byte()),
-        1 if scan.body.len() >= 8 => scan.body.swap(1, random.pick(&[3, 5])),
+        1 if channels > 1 => scan.body.swap(1, 3 + 2 * random.below(channels - 1)),
         1 => set(Some(scan), 1, random.byte()),
         _ => {
             let (dc, ac) = (random.between(0, 3) as u8, random.between(0, 3) as u8);
@@ -245,7 +341,8 @@ fn scan_two_components(draft: &mut Draft, random: &mut Random) {
     let Some(scan) = find(draft, random, &[218]) else {
         return;
     };
-    let (a, b) = random.pick(&[(0, 1), (0, 2), (1, 2), (1, 0), (2, 0), (2, 1), (0, 0)]);
+    let channels = channels_in(Some(scan), 4, 2);
+    let (a, b) = (random.below(channels), random.below(channels));
     let ids = |random: &mut Random| random.pick(&[0x40, 0x04, 0x44]);
     match random.below(3) {
         0 => set(Some(&mut *scan), 1 + 2 * a, random.byte()),
@@ -270,7 +367,7 @@ fn scan_inserted(draft: &mut Draft, random: &mut Random) {
 
 fn scan_body(draft: &mut Draft, random: &mut Random) {
     if let Some(scan) = find(draft, random, &[218]) {
-        resize(random, &mut scan.body, &[0, 1, 2, 6, 8, 10]);
+        resize(random, &mut scan.body, &[0, 1, 2, 6, 8, 10, 12, 14]);
     }
 }
 

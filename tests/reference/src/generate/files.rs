@@ -9,6 +9,7 @@ use super::damage;
 use super::draft::Draft;
 use super::faults::{Fault, FAULTS};
 use super::plan::{self, Plan, Segment};
+use super::sampling::Factors;
 use crate::cases::MOST;
 use crate::fill;
 use crate::random::Random;
@@ -40,6 +41,17 @@ pub fn valid(random: &mut Random) -> (Plan, Vec<u8>) {
     let scan = coder::scan(&plan.shape, random, None).bytes;
     let file = Draft::new(&plan, scan).bytes();
     (plan, file)
+}
+
+/// A valid file of one shape, with few blocks.
+pub fn of_shape(random: &mut Random, factors: &Factors) -> Vec<u8> {
+    loop {
+        let plan = plan::shaped(random, factors.clone());
+        if plan.shape.mcus() <= 6 {
+            let scan = coder::scan(&plan.shape, random, None).bytes;
+            return Draft::new(&plan, scan).bytes();
+        }
+    }
 }
 
 fn valid_group(random: &mut Random) -> Group {

@@ -9,6 +9,7 @@ mod draft;
 mod faults;
 pub mod files;
 mod plan;
+pub mod sampling;
 mod tables;
 
 #[cfg(test)]
@@ -20,9 +21,12 @@ mod flaws;
 #[cfg(test)]
 mod reasons;
 #[cfg(test)]
+mod shapes;
+#[cfg(test)]
 mod tests;
 
 use crate::cases::{Case, DECODE_GIVEN, DECODE_OWN, INSPECT, MOST, SETTLE};
+use crate::layout;
 use crate::random::Random;
 use crate::record::{Record, NUMBERS};
 use bounds::{Bounds, Facts};
@@ -30,7 +34,7 @@ use std::io::{self, Write};
 
 /// Writes so many cases.
 pub fn write(count: u64, seed: u64, part: u64, output: &mut dyn Write) -> io::Result<()> {
-    let mut generator = Generator::new(Random::of_part(seed, part));
+    let mut generator = Generator::of_part(seed, part);
     for _ in 0..count {
         output.write_all(&generator.next().bytes())?;
     }
@@ -43,20 +47,55 @@ pub struct Generator {
     waiting: Vec<Case>,
     /// Records of files met before.
     records: Vec<Record>,
+    /// The next shape of those that are dealt in turn, how many were, and of how many cases.
+    turn: u64,
+    dealt: u64,
+    made: u64,
 }
+
+/// One shape is dealt for so many cases: in a part of 100,000 nearly a thousand of the 1965, of
+/// which the next part leaves 983 behind. So two parts deal all of them.
+const CASES_A_SHAPE: u64 = 100;
+const TURNS_A_PART: u64 = 983;
 
 impl Generator {
     pub fn new(random: Random) -> Generator {
-        Generator { random, waiting: Vec::new(), records: vec![Record::default()] }
+        let records = vec![Record::default()];
+        Generator { random, waiting: Vec::new(), records, turn: 0, dealt: 0, made: 0 }
+    }
+
+    /// Parts go on with the shapes that those before them leave.
+    fn of_part(seed: u64, part: u64) -> Generator {
+        let first = Random::new(seed).next() % sampling::SHAPES;
+        let turn = first + part % sampling::SHAPES * TURNS_A_PART;
+        Generator { turn, ..Generator::new(Random::of_part(seed, part)) }
     }
 
     pub fn next(&mut self) -> Case {
         loop {
             if let Some(case) = self.waiting.pop() {
+                self.made += 1;
                 return case;
             }
-            self.group();
+            if self.dealt * CASES_A_SHAPE <= self.made {
+                self.deal();
+            } else {
+                self.group();
+            }
             self.waiting.reverse();
+        }
+    }
+
+    /// A file of the next shape: its record, its picture, its settled form.
+    fn deal(&mut self) {
+        let file = files::of_shape(&mut self.random, sampling::dealt(self.turn));
+        (self.turn, self.dealt) = (self.turn + 1, self.dealt + 1);
+        let facts = Facts::of(file);
+        for job in [INSPECT, DECODE_OWN, SETTLE] {
+            let bounds = Bounds::of(&facts, job, None, &mut self.random);
+            let colour = self.random.between(0, 1);
+            let numbers = bounds.enough.map(|enough| enough[0]);
+            self.waiting.push(Bounds::case(job, colour, numbers, &facts, None));
         }
     }
 
@@ -157,7 +196,7 @@ impl Generator {
         let random = &mut self.random;
         let own = facts.head.as_ref().or(first).cloned();
         let own = own.unwrap_or_else(|| random_of(random, &self.records));
-        let mut record = match random.below(10) {
+        let mut record = match random.below(12) {
             0..=2 => own,
             3..=5 => {
                 let field = random.below(NUMBERS);
@@ -166,7 +205,8 @@ impl Generator {
             6 => Record::default(),
             7 => absurd(random),
             8 => first.cloned().unwrap_or(own),
-            _ => random_of(random, &self.records),
+            9 => random_of(random, &self.records),
+            _ => misshapen(random, own),
         };
         record.colour = random.between(0, 1);
         record
@@ -210,11 +250,43 @@ fn change_field(random: &mut Random, record: &Record, field: usize) -> Record {
 fn absurd(random: &mut Random) -> Record {
     let mut numbers: [u64; NUMBERS] = std::array::from_fn(|_| random.next() >> random.below(64));
     if random.chance(1, 2) {
-        (numbers[32], numbers[33]) = (random.between(0, 900), random.between(0, 900));
+        (numbers[42], numbers[43]) = (random.between(0, 900), random.between(0, 900));
     }
     if random.chance(1, 2) {
-        numbers[34] = random.pick(&[0, 5000, u64::MAX, u64::MAX - 300]);
+        numbers[44] = random.pick(&[0, 5000, u64::MAX, u64::MAX - 300]);
     }
     numbers[NUMBERS - 1] %= 2;
     Record::from_numbers(&numbers)
+}
+
+/// Other factors: one of them, both of a channel or of two channels exchanged, or those of
+/// another shape; often with the lengths and the work that belong to them.
+fn misshapen(random: &mut Random, mut record: Record) -> Record {
+    let channels = record.channels.clamp(1, 4) as usize;
+    let (a, b) = (random.below(4), random.below(channels));
+    let factor = random.between(0, 5);
+    match random.below(6) {
+        0 => record.across[a] = factor,
+        1 => record.down[a] = factor,
+        2 => std::mem::swap(&mut record.across[b], &mut record.down[b]),
+        3 => {
+            record.across.swap(a, b);
+            record.down.swap(a, b);
+        }
+        4 if channels < 4 => {
+            let behind = channels + random.below(4 - channels);
+            (record.across[behind], record.down[behind]) = (1, 1);
+        }
+        _ => {
+            let factors = sampling::factors(random, channels);
+            for (channel, both) in factors.into_iter().enumerate() {
+                (record.across[channel], record.down[channel]) = both;
+            }
+        }
+    }
+    let sound = |factors: &[u64; 4]| factors[..channels].iter().all(|&factor| factor > 0);
+    if sound(&record.across) && sound(&record.down) && random.chance(1, 2) {
+        layout::measure(&mut record);
+    }
+    record
 }

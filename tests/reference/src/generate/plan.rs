@@ -1,5 +1,6 @@
 //! The head of a valid file: segments in a random order, and what the scan needs to know.
 
+use super::sampling::{self, Factors};
 use super::tables::{self, Manner, Table};
 use crate::random::Random;
 
@@ -32,9 +33,8 @@ impl Segment {
 pub struct Shape {
     pub width: u64,
     pub height: u64,
-    pub channels: usize,
-    pub hs: u64,
-    pub vs: u64,
+    /// By channel; a single one counts as 1 x 1.
+    pub factors: Factors,
     pub interval: u64,
     /// By channel.
     pub dc: Vec<Table>,
@@ -43,8 +43,18 @@ pub struct Shape {
 }
 
 impl Shape {
+    /// An MCU's width and height in pixels.
+    fn mcu_size(&self) -> (u64, u64) {
+        let (mut across, mut down) = (1, 1);
+        for &(h, v) in &self.factors {
+            (across, down) = (across.max(h), down.max(v));
+        }
+        (8 * across, 8 * down)
+    }
+
     pub fn mcus(&self) -> u64 {
-        self.width.div_ceil(8 * self.hs) * self.height.div_ceil(8 * self.vs)
+        let (width, height) = self.mcu_size();
+        self.width.div_ceil(width) * self.height.div_ceil(height)
     }
 
     /// How many restarts the scan has.
@@ -54,11 +64,10 @@ impl Shape {
 
     /// The channels of an MCU's blocks in order.
     pub fn mcu(&self) -> Vec<usize> {
-        if self.channels == 1 {
-            return vec![0];
+        let mut list = Vec::new();
+        for (channel, (across, down)) in self.factors.iter().enumerate() {
+            list.extend(vec![channel; (across * down) as usize]);
         }
-        let mut list = vec![0; (self.hs * self.vs) as usize];
-        list.extend([1, 2]);
         list
     }
 }
@@ -87,19 +96,24 @@ struct Names {
 
 /// A random valid head.
 pub fn plan(random: &mut Random) -> Plan {
+    let channels = random.pick(&[1, 1, 1, 2, 2, 3, 3, 3, 3, 3, 4, 4, 4, 4]);
+    let factors = sampling::factors(random, channels);
+    shaped(random, factors)
+}
+
+/// A valid head whose channels have these factors.
+pub fn shaped(random: &mut Random, factors: Factors) -> Plan {
     let manner = manner(random);
-    let channels = random.pick(&[1, 3]);
-    let names = names(random, channels);
+    let names = names(random, factors.len());
     let definitions = definitions(random, manner, &names);
     let table = |class: u8, id: u8| standing(&definitions, class, id);
     let dc: Vec<Table> = names.dc.iter().map(|&id| table(0, id)).collect();
     let ac: Vec<Table> = names.ac.iter().map(|&id| table(1, id)).collect();
-    let (hs, vs, sampling) = sampling(random, channels);
     let ends = ac.iter().all(|table| table.lists(0));
-    let mut shape = Shape { width: 1, height: 1, channels, hs, vs, interval: 0, dc, ac, manner };
+    let mut shape = Shape { width: 1, height: 1, factors, interval: 0, dc, ac, manner };
     (shape.width, shape.height) = size(random, &shape, ends);
     let mut segments = grouped(random, definitions);
-    let frame = frame(random, &shape, &names, sampling);
+    let frame = frame(random, &shape, &names);
     insert(random, &mut segments, frame);
     restart_intervals(random, &mut segments, &mut shape);
     skipped(random, &mut segments);
@@ -126,14 +140,16 @@ fn manner(random: &mut Random) -> Manner {
 }
 
 fn names(random: &mut Random, channels: usize) -> Names {
-    let mut ids: Vec<u8> = (1..=3).collect();
+    let mut ids: Vec<u8> = (1..=channels as u8).collect();
     if random.chance(1, 2) {
-        ids = vec![random.byte(), random.byte(), random.byte()];
-        while ids[0] == ids[1] || ids[1] == ids[2] || ids[0] == ids[2] {
-            ids = vec![random.byte(), random.byte(), random.byte()];
+        ids.clear();
+        while ids.len() < channels {
+            let id = random.byte();
+            if !ids.contains(&id) {
+                ids.push(id);
+            }
         }
     }
-    ids.truncate(channels);
     let most = random.pick(&[0, 1, 3]);
     let mut choose = || (0..channels).map(|_| random.between(0, most) as u8).collect();
     Names { ids, quantizers: choose(), dc: choose(), ac: choose() }
@@ -193,17 +209,6 @@ fn insert(random: &mut Random, segments: &mut Vec<Segment>, segment: Segment) {
     segments.insert(at, segment);
 }
 
-/// hs, vs and the first sampling byte. One channel counts as 1 x 1.
-fn sampling(random: &mut Random, channels: usize) -> (u64, u64, u8) {
-    if channels == 1 {
-        let byte = 16 * random.between(1, 4) + random.between(1, 4);
-        return (1, 1, if random.chance(1, 2) { 17 } else { byte as u8 });
-    }
-    let allowed = [(1, 1), (1, 2), (1, 3), (1, 4), (2, 1), (2, 2), (3, 1), (4, 1)];
-    let (hs, vs) = random.pick(&allowed);
-    (hs, vs, (16 * hs + vs) as u8)
-}
-
 /// A size of few blocks, or of many where the blocks can be short.
 fn size(random: &mut Random, shape: &Shape, ends: bool) -> (u64, u64) {
     let per_mcu = shape.mcu().len() as u64;
@@ -220,17 +225,23 @@ fn size(random: &mut Random, shape: &Shape, ends: bool) -> (u64, u64) {
         let last = random.between(1, mcu);
         mcu * (count - 1) + random.pick(&[1, mcu - 1, mcu, last, last])
     };
-    (side(across, 8 * shape.hs), side(down, 8 * shape.vs))
+    let (width, height) = shape.mcu_size();
+    (side(across, width), side(down, height))
 }
 
-fn frame(random: &mut Random, shape: &Shape, names: &Names, sampling: u8) -> Segment {
+fn frame(random: &mut Random, shape: &Shape, names: &Names) -> Segment {
     let mut body = vec![8];
     body.extend((shape.height as u16).to_be_bytes());
     body.extend((shape.width as u16).to_be_bytes());
-    body.push(shape.channels as u8);
-    for channel in 0..shape.channels {
-        let byte = if channel == 0 { sampling } else { 17 };
-        body.extend([names.ids[channel], byte, names.quantizers[channel]]);
+    body.push(shape.factors.len() as u8);
+    // A single channel has any factors and counts as 1 x 1.
+    let alone = (random.between(1, 4), random.between(1, 4));
+    let told = match &shape.factors[..] {
+        [_] if random.chance(1, 2) => &[alone],
+        factors => factors,
+    };
+    for (channel, &factors) in told.iter().enumerate() {
+        body.extend([names.ids[channel], sampling::byte(factors), names.quantizers[channel]]);
     }
     Segment::new(random.pick(&[192, 192, 193]), body)
 }

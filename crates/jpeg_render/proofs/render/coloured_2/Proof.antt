@@ -5,21 +5,18 @@ use native.Mathlib.Omega.{arith}
 use borrow.Author.Needs.{needs}
 use lib.ListN.{length}
 use Rattle.jpeg_render_row.proofs.Drawing.{length-pixels}
-use Rattle.jpeg_render.proofs.Mcus.{pairs-mcu}
+use Rattle.jpeg_render.proofs.Mcus.{pairs-three}
 use Rattle.jpeg_render.proofs.render.coloured_2.Statement.{statement}
 use Rattle.jpeg_render.proofs.render.coloured_2.Tie as tie
 
 gather-requires : tie.Need-gather-requires
 gather-requires c κs = search needs
 
-add-second : tie.Need-add-second
-add-second c = omega (arith, c .before .before .before .before .pre .others, c .before .before .before .before .good)
-
 add-first-end : tie.Need-add-first-end
-add-first-end c = omega (arith, c .before .before .before .before .pre .others, c .before .before .before .before .good)
+add-first-end c = omega (arith, c .before .before .before .before .pre .second, c .before .before .before .before .good)
 
 add-second-end : tie.Need-add-second-end
-add-second-end c = omega (arith, c .before .before .before .before .pre .others, c .before .before .before .before .good)
+add-second-end c = omega (arith, c .before .before .before .before .pre .third, c .before .before .before .before .good)
 
 mul-e : tie.Need-mul-e
 mul-e c = omega (arith, c .before .before .before .before .pre .within)
@@ -34,7 +31,7 @@ part-tinted-start : tie.Need-part-tinted-start
 part-tinted-start c = omega arith
 
 part-tinted-end : tie.Need-part-tinted-end
-part-tinted-end c = omega (arith, c .before .before .before .before .before .pre .others)
+part-tinted-end c = c .before .before .before .before .before .pre .second
 
 sub-tinted-2 : tie.Need-sub-tinted-2
 sub-tinted-2 c = omega arith
@@ -43,7 +40,7 @@ part-tinted-start-2 : tie.Need-part-tinted-start-2
 part-tinted-start-2 c = omega arith
 
 part-tinted-end-2 : tie.Need-part-tinted-end-2
-part-tinted-end-2 c = omega (arith, c .before .before .before .before .before .before .pre .others)
+part-tinted-end-2 c = c .before .before .before .before .before .before .pre .third
 
 sub-tinted-3 : tie.Need-sub-tinted-3
 sub-tinted-3 c = omega arith
@@ -58,17 +55,24 @@ tinted-requires : tie.Need-tinted-requires
 tinted-requires c κs = tt
 
 same-length : tie.Need-same-length
-same-length c = ap length (pairs-mcu (c .before .before .before .before .before .before .before .before .before .before .before .pre) _ _ (c .before .before .before .before .before .before .before .gather .ensures) (c .before .before .tinted .ensures)) ∙ length-pixels _ _ _ _ _
+same-length c =
+    let by-tinted = c .before .before in
+    let by-gather = by-tinted .before .before .before .before .before in
+    let start = by-gather .before .before .before .before in
+    ap length (pairs-three (start .pre) _ _ (by-gather .gather .ensures) (by-tinted .tinted .ensures)) ∙ length-pixels _ _ _ _ _
 
 returns : tie.Need-returns
-returns c = pairs-mcu (c .before .before .before .before .before .before .before .before .before .before .before .pre) _ _ (c .before .before .before .before .before .before .before .gather .ensures) (c .before .before .tinted .ensures)
+returns c =
+    let by-tinted = c .before .before in
+    let by-gather = by-tinted .before .before .before .before .before in
+    let start = by-gather .before .before .before .before in
+    pairs-three (start .pre) _ _ (by-gather .gather .ensures) (by-tinted .tinted .ensures)
 
 pub coloured-2-spec : {M : Type 1} → statement M
 coloured-2-spec =
     tie.close
     (tie.spec
     gather-requires
-    add-second
     add-first-end
     add-second-end
     mul-e

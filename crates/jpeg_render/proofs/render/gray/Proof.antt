@@ -1,9 +1,10 @@
 -- `jpeg_render::render::gray` meets its contract. The loop's invariant: i pixels are written. Assumes nothing.
 use Prim.Native.Nat.{_+_, _-_}
+use mathlib.Core.Path.{refl}
 use native.Mathlib.Omega.{arith}
 use lib.ListN.{getD}
 use Rattle.jpeg_render_row.proofs.Drawing.{DrawnTo, drawn-none, drawn-next, drawn-all}
-use Rattle.jpeg_render.proofs.Drawing.{one-channel}
+use Rattle.jpeg_render.proofs.Drawing.{one-of}
 use Rattle.jpeg_render.proofs.render.gray.Statement.{statement}
 use Rattle.jpeg_render.proofs.render.gray.Tie as tie
 
@@ -35,7 +36,7 @@ loop-less : tie.Need-loop-less Inv-loop μ-loop
 loop-less c = omega arith
 
 loop-again : tie.Need-loop-again Inv-loop μ-loop
-loop-again c = drawn-next (c .before .before .loop .inv) (c .before .loop-test .taken) (one-channel _ _ _ _)
+loop-again c = drawn-next (c .before .before .loop .inv) (c .before .loop-test .taken) (one-of _ _ _ _ refl)
 
 same-length : tie.Need-same-length Inv-loop μ-loop
 same-length c = c .before .loop .inv .size

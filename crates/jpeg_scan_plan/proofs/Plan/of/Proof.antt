@@ -1,22 +1,29 @@
--- `Plan::of`: a readable record has numbers so small that no product of the plan wraps.
-use mathlib.Core.Path.{sym, _∙_}
-use native.Mathlib.Omega.{arith}
+-- `Plan::of`: a readable record has sampling by which the order of an MCU's blocks can be told.
+use mathlib.Core.Path.{_≡_, sym, _∙_, ap}
 use borrow.Author.Tests.{not-true, not-false}
-use Rattle.reading.proofs.McuCounts.{blocks-asked}
+use Rattle.reading.specs.declared.Mcu.{Mcu}
+use Rattle.reading.proofs.Sampling.{measured-is}
 use Rattle.jpeg_scan_plan.specs.Plans.{planFor}
-use Rattle.jpeg_scan_plan.proofs.Standing.{Readable, readable-says, lumas-few}
+use Rattle.jpeg_scan_plan.proofs.Standing.{Readable, readable-says}
 use borrow.Author.Needs.{needs}
 use Rattle.jpeg_scan_plan.proofs.Plan.of.Statement.{statement}
 use Rattle.jpeg_scan_plan.proofs.Plan.of.Tie as tie
+use Rattle.jpeg_scan_plan.proofs.Plan.of.Reads as reads
+use Rattle.jpeg_scan_plan.proofs.Plan.of.Lts as lts
+use Rattle.jpeg_scan_plan.proofs.Plan.none.Reads as none-reads
+use Rattle.jpeg_scan_plan.proofs.chosen.Reads as chosen-reads
+use Rattle.jpeg_scan_plan.proofs.order.Reads as order-reads
+use Rattle.jpeg_scan_plan.proofs.readable.Reads as readable-reads
+use Rattle.reading.proofs.Mcu.of.Reads as of-reads
+
+fit : (c : tie.Else1) → Readable (c .before .before .before .args .s .now) (c .before .before .before .args .found)
+fit c = readable-says _ _ (sym (c .before .readable .ensures) ∙ not-false _ (c .if1 .left))
 
 readable-requires : tie.Need-readable-requires
 readable-requires c κs = search needs
 
 none-requires : tie.Need-none-requires
 none-requires c κs = search needs
-
-fit : (c : tie.Else1) → Readable (c .before .before .before .args .s .now) (c .before .before .before .args .found)
-fit c = readable-says _ _ (sym (c .before .readable .ensures) ∙ not-false _ (c .if1 .left))
 
 returns : tie.Need-returns
 unfolding planFor
@@ -31,11 +38,11 @@ chosen-requires-2 c κs = search needs
 chosen-requires-3 : tie.Need-chosen-requires-3
 chosen-requires-3 c κs = search needs
 
-mul-lumas : tie.Need-mul-lumas
-mul-lumas c = omega (arith, lumas-few (fit (c .before .before .before .before .before .before .before .before .before .before .before .before)))
+order-requires : tie.Need-order-requires
+order-requires c κs = fit (c .before .before .before .before .before .before .before .before .before .before .before) .fine
 
-mcu-blocks-requires : tie.Need-mcu-blocks-requires
-mcu-blocks-requires c κs = search needs
+of-requires : tie.Need-of-requires
+of-requires c κs = search needs
 
 returns-2 : tie.Need-returns-2
 unfolding planFor
@@ -44,12 +51,12 @@ returns-2 c =
     let seconds = thirds .before in
     let firsts = seconds .before in
     let tested = firsts .before .before .before .before .before .before .before .before .before in
-    let f = fit tested in
     rw (
       firsts .chosen .ensures,
       seconds .chosen2 .ensures,
       thirds .chosen3 .ensures,
-      blocks-asked _ _ _ (c .mcu-blocks .ensures) (f .hs-some) (f .hs-few) (f .vs-some) (f .vs-few) (f .channels-some) (f .channels-few),
+      c .before .order .ensures,
+      ap (λ (m : Mcu). m .blocks) (c .of .ensures ∙ measured-is _ (fit tested .sampling)),
       sym (tested .before .readable .ensures) ∙ not-false _ (tested .if1 .left),
     )
 
@@ -63,6 +70,6 @@ of-spec =
     chosen-requires
     chosen-requires-2
     chosen-requires-3
-    mul-lumas
-    mcu-blocks-requires
+    order-requires
+    of-requires
     returns-2)
