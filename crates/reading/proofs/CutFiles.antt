@@ -301,7 +301,7 @@ module _ (s : List ℕ) (c : ℕ) where
         → onwards o (ended (file (take c s))) ≡ broke w
         → onwards (onwards o (λ ls e. whole (l ∷ ls) e)) (ended (file (take c s))) ≡ broke w
     one_more l (broke x) w e = e
-    one_more l (whole ls q) w e = go _ (closed (file (take c s)) q.bits) e
+    one_more l (whole ls q) w e = go q (closed (file (take c s)) q.bits) e
       where
         go :
             (x : Cursor Bits) (o : Read Bits (Unit {0}))
@@ -399,7 +399,7 @@ module _ (s : List ℕ) (c : ℕ) where
       go : (o : Scanned (Cursor Bits) (List (List ℤ))) → read_on (file s) (plan_of s r) r.blocks (started (first_bit r.start)) ≡ o
           → onwards o (ended (file s)) ≡ whole ls b → ReadOut (plan_of s r) less r.blocks (started (first_bit r.start))
       go (broke w) k j = absurd (no_break w ls b j)
-      go (whole ms x) k j = ends _ (closed (file s) x.bits) refl j
+      go (whole ms x) k j = ends x (closed (file s) x.bits) refl j
         where
           ends :
               (q : Cursor Bits) (o : Read Bits (Unit {0}))

@@ -82,7 +82,7 @@ module _ {S : Type 0} (src : Source S) (p : Plan) where
     where
       go : (o : Scanned (Cursor S) (List (List ℤ))) → forget_on o ≡ blocks src p n 0 no_predictors s
           → forget (onwards o (ended src)) ≡ onward (blocks src p n 0 no_predictors s) (λ ls. closed src >> give ls)
-      go (whole ls q) h = forget_here src _ ((closed src >> give ls) q.bits) ∙ ap (λ (x : Read S (List (List ℤ))). onward x (λ ls. closed src >> give ls)) h
+      go (whole ls q) h = forget_here src q ((closed src >> give ls) q.bits) ∙ ap (λ (x : Read S (List (List ℤ))). onward x (λ ls. closed src >> give ls)) h
       go (broke w) h = ap (λ (x : Read S (List (List ℤ))). onward x (λ ls. closed src >> give ls)) h
 
 -- ---- a scan that was read

@@ -5,14 +5,14 @@ use borrow.Author.Rules.{rules}
 use Rattle.reading.proofs.byte_at.Statement.{statement}
 use Rattle.reading.proofs.byte_at.Tie as tie
 
-shared_slice_read_result : tie.Need-shared-slice-read-result
+shared_slice_read_result : tie.Need-bounds-list-place
 shared_slice_read_result c = search rules
 
-returns : tie.Need-returns
+returns : tie.Need-returns-then-place-list
 returns c = search rules
 
-returns_2 : tie.Need-returns-2
-returns_2 c = sym (get_or-eq_default c.before.args.list.now 0 c.if1.false)
+returns_2 : tie.Need-returns
+returns_2 c = sym (get_or-eq_default c.args.list.now 0 c.if-place-list.false)
 
 pub byte_at_spec : {M : Type 1} → statement M
 byte_at_spec = tie.close (tie.spec shared_slice_read_result returns returns_2)

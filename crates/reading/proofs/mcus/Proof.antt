@@ -7,33 +7,33 @@ use borrow.Author.Rules.{rules}
 use Rattle.reading.proofs.mcus.Statement.{statement}
 use Rattle.reading.proofs.mcus.Tie as tie
 
-returns : tie.Need-returns
-returns c = mcus_long _ _ c.if1.true
+returns : tie.Need-returns-then-side-gt-SIDE
+returns c = mcus_long _ _ c.if-side-gt-SIDE.true
 
 within_requires : tie.Need-within-requires
 within_requires c κs = search rules
 
-returns_2 : tie.Need-returns-2
-returns_2 c = let tested = c.before in mcus_none _ _ tested.before.if1.false (within_not 1 4 tested.before.before.args.factor tested.within.ensures c.if2.true)
+returns_2 : tie.Need-returns-then-not-within
+returns_2 c = let tested = c.before in mcus_none _ _ tested.if-side-gt-SIDE.false (within_not 1 4 tested.args.factor tested.within.ensures c.if-not-within.true-raw)
 
 -- the factor behind its test
-factor_fits : (c : tie.Else2) → (1 ≤ c.before.before.before.args.factor) × (c.before.before.before.args.factor ≤ 4)
-factor_fits c = within_both 1 4 c.before.before.before.args.factor c.before.within.ensures c.if2.false
+factor_fits : (c : tie.Else-not-within) → (1 ≤ c.args.factor) × (c.args.factor ≤ 4)
+factor_fits c = within_both 1 4 c.args.factor c.within.ensures c.if-not-within.false-raw
 
-mul_wide : tie.Need-overflow-mul-wide
+mul_wide : tie.Need-overflow_mul-wide
 mul_wide c = omega (arith, factor_fits c)
 
-sub_result : tie.Need-overflow-sub-result
+sub_result : tie.Need-overflow_sub-result
 sub_result c = omega (arith, factor_fits c)
 
-add_result : tie.Need-overflow-add-result
-add_result c = omega (arith, factor_fits c, c.before.before.if1.false)
+add_result : tie.Need-overflow_add-result
+add_result c = omega (arith, factor_fits c, c.if-side-gt-SIDE.false)
 
-div_result : tie.Need-nonzero-div-result
+div_result : tie.Need-nonzero_div-result
 div_result c = omega (arith, factor_fits c)
 
-returns_3 : tie.Need-returns-3
-returns_3 c = mcus_are _ _ c.before.before.if1.false (factor_fits c).0 (factor_fits c).1
+returns_3 : tie.Need-returns
+returns_3 c = mcus_are _ _ c.if-side-gt-SIDE.false (factor_fits c).0 (factor_fits c).1
 
 pub mcus_spec : {M : Type 1} → statement M
 mcus_spec =

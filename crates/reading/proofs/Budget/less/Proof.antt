@@ -13,10 +13,10 @@ nothing a b h = omega arith
 emptied : (a b : ℕ) → a < b → ◌≡◌ {A = Budget} (record { left = 0 }) (record { left = a - b })
 emptied a b h = ap (λ n. record { left = n }) (nothing a b h)
 
-returns : tie.Need-returns
-returns c = emptied _ _ c.if1.true
+returns : tie.Need-returns-then-self-price
+returns c = emptied _ _ c.if-self-price.true
 
-returns_2 : tie.Need-returns-2
+returns_2 : tie.Need-returns
 returns_2 c = search rules
 
 pub less_spec : {M : Type 1} → statement M

@@ -30,17 +30,17 @@ unnamed tag h NotItsRecord k = refl
 unnamed tag h NoEndCode k = refl
 unnamed tag h (Scan w) k = absurd (miss others 10 tt (rw (h w) at k))
 
-enum_known_self : tie.Need-enum-known-self
+enum_known_self : tie.Need-enum_known-self
 enum_known_self c = search rules
 
 none_requires : tie.Need-none-requires
 none_requires c κs = search rules
 
-returns : tie.Need-returns
-returns c = c.none.ensures ∙ unnamed (tag_of the_type) (λ w. refl) c.before.before.args.self c.before.match.keys2
+returns : tie.Need-returns-in_default
+returns c = c.none.ensures ∙ unnamed (tag_of the_type) (λ w. refl) c.args.self c.in_default.in_default-own.keys2
 
-returns_2 : tie.Need-returns-2
-returns_2 c = ap named_by (sym c.before.self.given.1)
+returns_2 : tie.Need-returns
+returns_2 c = ap named_by (sym c.in-Scan.is)
 
 pub named_spec : {M : Type 1} → statement M
 named_spec = tie.close (tie.spec enum_known_self none_requires returns returns_2)
