@@ -77,6 +77,7 @@ class Text:
         self.p = Places(e)
 
     def run(self):
+        self.text = self.text.replace(".type-inv", ".type_inv").replace(".well-formed", ".well_formed")
         self.goals()
         blocks = re.split(r"(?m)^(?=\S)", self.text)
         # a signature and its clause belong together
@@ -102,6 +103,8 @@ class Text:
             by.setdefault(canon(old), new)
             for prefix in ("overflow_", "nonzero_"):
                 by.setdefault(prefix + canon(old), new)
+            # both ends of a part of a slice
+            by.setdefault(canon("slice_bounds" + old[4:]) if old.startswith("part-") else canon(old), new)
         self.asked = {}
         for (old, new), at in zip(needs, self.e["asked_at"]):
             self.asked[new] = at[0]

@@ -1,5 +1,7 @@
 // The calls for C: inspect, decode and the comments, on slices and numbers, the record as the 46 numbers of `c_record`; settle is in
 // `c_settle`. In C a slice is a pointer and a length. Each contract is the call's own, through the flattening.
+#![tactic(auto)]
+
 ghost use Rattle.std.specs.Prelude.{◌≡◌};
 ghost use Rattle.reading.specs.Calls.{inspect};
 ghost use Rattle.c_functions.specs.Flat.{inspected, drawn, decoded, decode_flat, flat_part, flat_presence};
@@ -9,7 +11,7 @@ use c_record::FlatRecord;
 use reading::Budget;
 
 #[repr(C)]
-#[derive(Drop)]
+#[derive(Clone, Copy)]
 pub struct Inspected {
     pub number: usize,
     pub left: u64,
@@ -19,7 +21,7 @@ pub struct Inspected {
 }
 
 #[repr(C)]
-#[derive(Drop)]
+#[derive(Clone, Copy)]
 pub struct Decoded {
     pub number: usize,
     pub left: u64,
@@ -27,14 +29,14 @@ pub struct Decoded {
 
 // A part of the bytes: its place and its length.
 #[repr(C)]
-#[derive(Drop)]
+#[derive(Clone, Copy)]
 pub struct FlatPart {
     pub at: usize,
     pub length: usize,
 }
 
 #[repr(C)]
-#[derive(Drop)]
+#[derive(Clone, Copy)]
 pub struct FlatPresence {
     pub number: usize,
     pub left: u64,

@@ -1,5 +1,7 @@
 // What the functions for C take and give as numbers: a record, which is 46 numbers, the limits, a verdict and a yes or no. No call is made
 // here; `c_functions` and `c_settle` make them.
+#![tactic(auto)]
+
 ghost use Rattle.std.specs.Prelude.{◌≡◌};
 ghost use Rattle.reading.specs.Calls.{number};
 ghost use Rattle.c_record.specs.Asked.{asked};
@@ -9,7 +11,7 @@ use reading::{Frame, Limits, Record, Tables, Verdict};
 
 // A record as numbers of 64 bits, in this order; `include/tillsparrow.h` has the same. The colour choice is 0 or 1.
 #[repr(C)]
-#[derive(Drop)]
+#[derive(Clone, Copy)]
 pub struct FlatRecord {
     pub width: usize,
     pub height: usize,

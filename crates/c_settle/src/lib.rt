@@ -1,5 +1,7 @@
 // Settle for C. It is a crate of its own, and so a part of its own in the archive: settle and decode both read blocks, and where one part
 // has both, neither has the reading of a block in its own loop.
+#![tactic(auto)]
+
 ghost use Rattle.std.specs.Prelude.{◌≡◌};
 ghost use Rattle.reading.specs.Calls.{settle};
 ghost use Rattle.c_settle.specs.Flat.{remade, settled};
@@ -7,7 +9,7 @@ ghost use Rattle.c_settle.specs.Flat.{remade, settled};
 use reading::Budget;
 
 #[repr(C)]
-#[derive(Drop)]
+#[derive(Clone, Copy)]
 pub struct Settled {
     pub number: usize,
     pub left: u64,

@@ -1,4 +1,6 @@
 // The public calls (the rules' 'Refusal numbers'): inspect, decode and settle, with their prices, limits and refusals in order.
+#![tactic(auto)]
+
 ghost use Rattle.std.specs.Prelude.{◌≡◌, false, ltb};
 ghost use Rattle.reading.specs.Tests.{◌or◌};
 ghost use Rattle.reading.specs.Calls.{short_room, inspect, decode, settle};

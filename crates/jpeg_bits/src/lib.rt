@@ -1,5 +1,7 @@
 // The bits of a scan, highest first (the rules' 'Bits, symbols, blocks'): one bit, and a field of bits.
 // Each function equals its definition for every cursor, so nothing is asked of a caller.
+#![tactic(auto)]
+
 ghost use Rattle.std.specs.Prelude.{◌+◌, ◌*◌, ◌/◌, ◌%◌, ◌^◌, ◌<◌, ◌≤◌, ◌≡◌};
 ghost use Rattle.reading.specs.Bits.{fresh, one};
 ghost use Rattle.reading.specs.Code.Fields.{short_field};

@@ -1,13 +1,15 @@
 // The wide cursor: up to 64 bits of a scan at once (the rules' 'Bits, symbols, blocks'). Each function equals its definition for every
 // cursor, so nothing is asked of a caller; what the bits of a proper one mean, and that filling it up changes nothing of what is to
 // come, is said by the laws of proofs/.
+#![tactic(auto)]
+
 ghost use Rattle.std.specs.Prelude.{◌≡◌, ◌-◌, ◌/◌, ◌%◌, ◌^◌};
 ghost use Rattle.jpeg_bits_wide.specs.Cursor.{fresh, word_at, filled, topped, fault_at, meant_by, narrowed};
 
 use reading::{Bits, Fault};
 
 // The bits to come: the highest `left` of `acc`, below which acc is 0, and then those of the data bytes from `at` on.
-#[derive(Drop)]
+#[derive(Clone, Copy)]
 pub struct Wide {
     pub at: usize,
     pub acc: u64,

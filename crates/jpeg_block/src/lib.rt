@@ -3,6 +3,8 @@
 //
 // The first level is read by the step that reads the later ones, at place 0. So `symbol` and `amplitude` are each called at one
 // place, where they are inlined.
+#![tactic(auto)]
+
 ghost use Rattle.std.specs.Prelude.{◌≡◌, cond, ◌<◌, ◌≤◌, eqb};
 ghost use Rattle.reading.specs.Bits.{one};
 ghost use Rattle.reading.specs.Huffman.{table_at};
@@ -13,7 +15,7 @@ ghost use Rattle.jpeg_block.specs.Step.{asked_for, ask_at, step_read, value_at, 
 use reading::{AmplitudeRead, Bits, BlockRead, Fault, NumberRead};
 
 // What a symbol asks for: the end, 16 zeros, or a run of zeros and a value of a size.
-#[derive(Drop)]
+#[derive(Clone, Copy)]
 pub enum Asked {
     End,
     Skip,
@@ -58,7 +60,7 @@ pub fn ask(place: usize, x: usize) -> Asked
 }
 
 // What a symbol and its value make of a block: its end, 16 zeros, or a level at a place.
-#[derive(Drop)]
+#[derive(Clone, Copy)]
 enum StepRead {
     End(Bits),
     Skip(Bits),

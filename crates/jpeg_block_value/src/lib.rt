@@ -1,5 +1,7 @@
 // What the bits behind a symbol mean (the rules' 'Bits, symbols, blocks'): a number by its size, and whether a first level that it makes
 // can predict the next one.
+#![tactic(auto)]
+
 ghost use Rattle.std.specs.Prelude.{◌≡◌, ◌<◌, ◌≤◌, ◌^◌};
 ghost use Rattle.reading.specs.Bits.{one, meaning};
 ghost use Rattle.reading.specs.Code.Fields.{short_amplitude};

@@ -1,5 +1,7 @@
 // The levels of one block at a wide cursor (the rules' 'Bits, symbols, blocks'). A look at the next 9 bits gives most symbols with their
 // values; the plain walk gives the others, and all faults. At every bit place that the cursor meets the block is that of the rules.
+#![tactic(auto)]
+
 ghost use Rattle.std.specs.Prelude.{◌≡◌, ◌≤◌, nat_abs};
 ghost use Rattle.reading.specs.Bits.{one};
 ghost use Rattle.reading.specs.Huffman.{table_at};
@@ -12,14 +14,14 @@ use jpeg_block::Asked;
 use reading::Fault;
 
 // A block that was read: the cursor behind it, its first level, and how many places its levels reach.
-#[derive(Drop)]
+#[derive(Clone, Copy)]
 pub enum WideRead {
     Got(Wide, i32, usize),
     Stop(Fault),
 }
 
 // What a symbol and its value make of a block: its end, 16 zeros, or a level at a place.
-#[derive(Drop)]
+#[derive(Clone, Copy)]
 enum WideStep {
     End(Wide),
     Skip(Wide),

@@ -2,6 +2,8 @@
 // places, colour'). A chroma sample's difference from 128 is a signed number, and `>> 16` divides by 65536 and rounds down, below 0
 // too. Whole multiples of 65536 pass by the division: so luma is added behind it, and the factors before it fit 16 bits, which makes
 // loops over pixels quick.
+#![tactic(auto)]
+
 ghost use Rattle.std.specs.Prelude.{◌≡◌, cond, ◌≤◌, pos, nat_abs, ◌+ℤ◌, ◌-ℤ◌};
 ghost use Rattle.std.specs.Int.Signed.{lt_z};
 ghost use Rattle.reading.specs.Colour.{to_byte, red, green, blue, floored};

@@ -1,5 +1,7 @@
 // Comments (the rules' 'Camera notes'): the text of a comment segment before the scan as a part of the caller's own bytes, and whether
 // it is there.
+#![tactic(auto)]
+
 ghost use Rattle.std.specs.Prelude.{◌≡◌, false, ltb, length};
 ghost use Rattle.reading.specs.Tests.{◌and◌};
 ghost use Rattle.reading.specs.Reading.{reading};

@@ -2,6 +2,8 @@
 // step to step by value; the case in it says what is read next, a marker or the tables of a segment; jpeg_header_state has what each
 // segment makes of it. Each function equals the definition that its contract names. The steps need no allowance: what is left of the
 // file falls with each, and the proof of `header` says so.
+#![tactic(auto)]
+
 ghost use Rattle.std.specs.Prelude.{◌≡◌, cond, ◌≤◌, length};
 ghost use Rattle.reading.specs.declared.Refusal.TheVariants.{CutShort};
 ghost use Rattle.reading.specs.Header.{stop, marker, step, opens, header};
@@ -18,7 +20,7 @@ use reading::{Case, Head, Header, Part, Refusal, Sought, Verdict};
 // ---- one step
 
 // A segment by the place where its body begins and the one where it ends.
-#[derive(Drop)]
+#[derive(Clone, Copy)]
 struct Segment {
     cut: bool,
     from: usize,

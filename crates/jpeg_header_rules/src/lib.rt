@@ -1,6 +1,8 @@
 // What is asked of the body of a marker segment (the rules' 'From SOI to SOS'), before any state: each is a test, or a value that a
 // body gives. A body is the bytes behind the segment's length; behind its end every byte counts as 0, here as in the definitions, so a
 // reader asks for no length. The header's steps stand on these.
+#![tactic(auto)]
+
 ghost use Rattle.std.specs.Prelude.{◌≡◌, cond, [], ◌∷◌, map, ◌+◌, ◌*◌, ◌/◌, ◌%◌, min, ltb, eqb, take};
 ghost use Rattle.reading.specs.Tests.{◌and◌, within, is_none, place_of, apart, all};
 ghost use Rattle.reading.specs.Huffman.{sum};

@@ -1,6 +1,8 @@
 // What each segment before the coded bytes makes of the header's state (the rules' 'From SOI to SOS'): a table more, the frame, the
 // restart interval, or the record where the scan is met; or a refusal. Any state may come in: the tests that a state of the header
 // itself always passes are made here, once a segment or a table, so that no place and no size wraps.
+#![tactic(auto)]
+
 ghost use Rattle.std.specs.Prelude.{◌≡◌, true, ◌+◌, ◌<◌, leb, eqb, length, set};
 ghost use Rattle.reading.specs.declared.Refusal.TheVariants.{Malformed};
 ghost use Rattle.reading.specs.Layout.{block_count, output_length};
@@ -11,7 +13,7 @@ ghost use Rattle.jpeg_header_state.specs.Segments.{stepped, in_segment, numbers_
 use reading::{Budget, Case, Frame, Header, Limits, Mcu, Record, Refusal};
 
 // What a step leads to.
-#[derive(Drop)]
+#[derive(Clone, Copy)]
 pub enum Progress {
     // the header goes on
     More,
@@ -21,7 +23,7 @@ pub enum Progress {
 }
 
 // A step's answer: the next state where the header goes on, the record where the scan is met.
-#[derive(Drop)]
+#[derive(Clone, Copy)]
 pub struct Stepped {
     pub progress: Progress,
     pub state: Header,

@@ -1,5 +1,7 @@
 // Huffman tables in T.81 Annex C order (the rules' 'From SOI to SOS' and 'Bits, symbols, blocks'): whether a table's codes fit,
 // and the symbol of the code that stands next in a scan.
+#![tactic(auto)]
+
 ghost use Rattle.std.specs.Prelude.{◌≡◌, min};
 ghost use Rattle.reading.specs.Bits.{one};
 ghost use Rattle.reading.specs.Huffman.{symbol, table_at};

@@ -1,6 +1,8 @@
 // Symbols at one look: a table for each Huffman table, indexed by the next 9 bits, and the plain walk over the wide cursor for longer codes
 // and near the end. Each function equals its definition for every table and cursor; that a look and the walk find the same symbol is a
 // law of proofs/ (`look-agrees`), for tables of any width.
+#![tactic(auto)]
+
 ghost use Rattle.std.specs.Prelude.{◌≡◌, ◌+◌, ◌%◌, ◌<◌, ◌≤◌, length, get_or, drop, replicate};
 ghost use Rattle.std.proofs.Math.Seq.{paste};
 ghost use Rattle.reading.specs.Huffman.{table_at};
@@ -11,7 +13,7 @@ use jpeg_bits_wide::Wide;
 use reading::Fault;
 
 // A symbol by the plain walk; 256 is a fault, and the cursor is then where it was.
-#[derive(Drop)]
+#[derive(Clone, Copy)]
 pub struct SymbolRead {
     pub wide: Wide,
     pub symbol: usize,

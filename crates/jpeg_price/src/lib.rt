@@ -1,5 +1,7 @@
 // What a call takes before the scan is read. Inspect and settle test as they go (the rules' 'Refusal numbers': 1, 2 for the header, those
 // of the header, 6, 2 for work) and take in two parts; decode, which has its record, takes all at once.
+#![tactic(auto)]
+
 ghost use Rattle.std.specs.Prelude.{◌≡◌, ◌+◌, ◌*◌, ◌^◌, ◌<◌, ltb, leb};
 ghost use Rattle.reading.specs.Tests.{◌or◌};
 ghost use Rattle.reading.specs.declared.Verdict.TheVariants.{Refused};

@@ -1,4 +1,6 @@
 // Whether two records are equal in every field: what number 8 turns on (the rules' 'Refusal numbers').
+#![tactic(auto)]
+
 ghost use Rattle.std.specs.Prelude.{◌≡◌};
 ghost use Rattle.reading.specs.Calls.{eq_list, same, same_frame, same_tables, same_scan, same_sizes};
 

@@ -1,6 +1,8 @@
 // The picture of a frame from the samples of all its blocks (the rules' 'Samples, places, colour'), in colour where that is chosen. Any
 // frame may come in: one whose numbers are not a frame's, or that does not fit the two buffers, is not drawn, and the output stays as it
 // was. The test is made once a picture, and so are the measures of its MCUs.
+#![tactic(auto)]
+
 ghost use Rattle.std.specs.Prelude.{◌≡◌};
 ghost use Rattle.reading.specs.Code.Mcus.{measured};
 ghost use Rattle.jpeg_render.specs.Rendered.{framed, fits, rendered};

@@ -1,6 +1,8 @@
 // A row of pixels in colour whose chroma samples serve two pixels each (the rules' 'Samples, places, colour'): what a chroma sample adds
 // to luma is worked out once and then spread over its two pixels. Any number of pixels and any lists may come in: where a list or the
 // buffer is too short for so many, the buffer stays as it was. The test is made once a row of an MCU.
+#![tactic(auto)]
+
 ghost use Rattle.std.specs.Prelude.{◌≡◌, ◌≤◌, ◌<◌, pos, length};
 ghost use Rattle.jpeg_render_row.specs.Drawn.{pixels};
 ghost use Rattle.jpeg_render_pairs.specs.Parts.{First, Part, red_at, green_at, blue_at, Twice, summed, TintFits};

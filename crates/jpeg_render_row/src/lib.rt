@@ -1,6 +1,8 @@
 // A run of pixels of three channels, whose samples stand in three lists (the rules' 'Samples, places, colour'): channels interleaved,
 // in colour where it is chosen. Any number of pixels and any buffer may come in: where the lists or the buffer are too short for so
 // many, the buffer stays as it was. The test is made once a run.
+#![tactic(auto)]
+
 ghost use Rattle.std.specs.Prelude.{◌≡◌, ◌+◌, ◌≤◌, length};
 ghost use Rattle.jpeg_render_row.specs.Drawn.{written};
 ghost use Rattle.jpeg_render_row.specs.Runs.{three, shown, run};

@@ -6,7 +6,7 @@ use Prim.Native.Nat.{ℕ, ◌+◌, ◌*◌, ◌/◌, ◌≤◌}
 use native.Mathlib.Omega.{arith}
 use lib.Dec.{ltb}
 use lib.ListN.{length, take, drop, length-append, length-take, length-drop, take-append-drop, drop_of_length-le}
-use lib.Seq.{length-take-le, take_at, drop_at, drop_drop}
+use lib.Seq.{length-take-le, take_at, drop_at, drop-drop}
 use lib.IntN.{ℤ}
 use borrow.Author.Tests.{lt-ltb, le-ltb}
 use Rattle.reading.specs.Tests.{◌and◌}
@@ -34,7 +34,7 @@ painted_part q l n a w old new e h {x} u g =
     let size : length (take w (drop a old)) ≡ 64 = length-take w (drop a old) ∙ omega (arith, length-drop a old) in
     let is : new ≡ samples_to q l n = g ∙ ap (λ (y : List ℕ). painted y l n (take w (drop a old))) u ∙ painted_is q l n (take w (drop a old)) size in
     let sum : a + w ≡ a + length (samples_to q l n) = omega (arith, samples_to_length q l n) in
-    ap₂ (λ (x y : List ℕ). take a old ++ (x ++ y)) is (drop_drop w a old ∙ ap (λ (k : ℕ). drop k old) sum)
+    ap₂ (λ (x y : List ℕ). take a old ++ (x ++ y)) is (drop-drop w a old ∙ ap (λ (k : ℕ). drop k old) sum)
 
 placed_none : (a : ℕ) (old : List ℕ) → placed a [] old ≡ old
 unfolding placed
@@ -50,8 +50,8 @@ placed_placed a xs ys old h =
     let front : take (a + length xs) (head ++ tail) ≡ head = take_at head tail (a + length xs) size in
     let sum : a + length xs + length ys ≡ a + length (xs ++ ys) = omega (arith, length-append xs ys) in
     let back : drop (a + length xs + length ys) (head ++ tail) ≡ drop (a + length (xs ++ ys)) old =
-    sym (drop_drop (length ys) (a + length xs) (head ++ tail)) ∙ ap (drop (length ys)) (drop_at head tail (a + length xs) size)
-    ∙ drop_drop (length ys) (a + length xs) old ∙ ap (λ (k : ℕ). drop k old) sum in
+    sym (drop-drop (length ys) (a + length xs) (head ++ tail)) ∙ ap (drop (length ys)) (drop_at head tail (a + length xs) size)
+    ∙ drop-drop (length ys) (a + length xs) old ∙ ap (λ (k : ℕ). drop k old) sum in
     ap (λ (l : List ℕ). take (a + length xs) l ++ (ys ++ drop (a + length xs + length ys) l)) whole
     ∙ ap₂ (λ (f b : List ℕ). f ++ (ys ++ b)) front back
     ∙ append_assoc (take a old) xs (ys ++ drop (a + length (xs ++ ys)) old)

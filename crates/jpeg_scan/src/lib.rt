@@ -1,5 +1,7 @@
 // A whole scan (the rules' 'MCUs, restarts, end'): MCU by MCU and block by block, restarts where they are due, the end. One driver
 // reads it, without samples for `validate`, with them for `draw`.
+#![tactic(auto)]
+
 ghost use Rattle.std.specs.Prelude.{◌≡◌, true, cond, ◌*◌, ◌/◌, ◌≤◌, ltb, length, take, drop};
 ghost use Rattle.reading.specs.Tests.{◌and◌};
 ghost use Rattle.reading.specs.Code.Painted.{samples_to};

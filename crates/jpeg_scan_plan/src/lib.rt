@@ -1,5 +1,7 @@
 // The numbers that a scan is read by, and what stands between its blocks (the rules' 'MCUs, restarts, end'): the channel of a block, the
 // restart before an MCU, the end. Every reader of a scan goes by these; none of them reads a block.
+#![tactic(auto)]
+
 ghost use Rattle.std.specs.Prelude.{◌≡◌, true, ◌+◌, ◌%◌, take, drop};
 ghost use Rattle.reading.specs.Bits.{padded, fulls, mark};
 ghost use Rattle.reading.specs.Layout.{channel_in, due_before, restart_before};
@@ -13,7 +15,7 @@ use reading::{Bits, Break, Fault, Frame, Mcu, Record, ScanCursor};
 
 // The numbers that a scan is read by, gathered once from the record: the first coded byte, where each channel's tables stand, the
 // channels of the blocks of an MCU as the digits of a number of base 4, the first block's last, how many blocks an MCU has, the restart interval, and how many blocks there are.
-#[derive(Drop)]
+#[derive(Clone, Copy)]
 pub struct Plan {
     pub start: usize,
     pub dcs: [usize; 4],
@@ -26,21 +28,21 @@ pub struct Plan {
 }
 
 // Whether a scan can be read on.
-#[derive(Drop)]
+#[derive(Clone, Copy)]
 pub enum Halt {
     No,
     Yes(Fault),
 }
 
 // What reading on in a scan answers: the cursor behind what was read, or a fault.
-#[derive(Drop)]
+#[derive(Clone, Copy)]
 pub struct CursorRead {
     pub halt: Halt,
     pub cursor: ScanCursor,
 }
 
 // What is found where a marker is looked for: none, or one, and the place behind it.
-#[derive(Drop)]
+#[derive(Clone, Copy)]
 enum Mark {
     Missing,
     Behind(usize),

@@ -1,6 +1,8 @@
 // A whole scan over the wide cursor (the rules' 'MCUs, restarts, end'): MCU by MCU and block by block, symbols by a look at a table. It answers
 // what the plain engine of `jpeg_scan` answers. Where this pass meets a fault the plain one reads the scan again and says why and where it
 // broke; so does it serve the scans that are too short for the tables to pay.
+#![tactic(auto)]
+
 ghost use Rattle.std.specs.Prelude.{◌≡◌, true, ◌*◌, ◌≤◌, length, take};
 ghost use Rattle.reading.specs.Code.Scans.{scan_of};
 ghost use Rattle.reading.specs.Code.Answers.{scan_read};
@@ -15,7 +17,7 @@ use jpeg_scan_plan::{Halt, Plan};
 use reading::{Fault, Record, ScanCursor, ScanRead};
 
 // A scan before its block `done`: the wide cursor, the predictors and the count of blocks done.
-#[derive(Drop)]
+#[derive(Clone, Copy)]
 pub struct WideCursor {
     pub wide: Wide,
     pub predictors: [i32; 4],
@@ -23,7 +25,7 @@ pub struct WideCursor {
 }
 
 // What reading on answers: the cursor behind what was read, or a fault.
-#[derive(Drop)]
+#[derive(Clone, Copy)]
 pub struct WideCursorRead {
     pub halt: Halt,
     pub cursor: WideCursor,

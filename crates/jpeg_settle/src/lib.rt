@@ -1,5 +1,7 @@
 // Settle behind its tests: the scan is settled at its place in the buffer, behind the head's, and then the head is copied before it.
 // Any record may come in.
+#![tactic(auto)]
+
 ghost use Rattle.std.specs.Prelude.{◌≡◌, ◌++◌, ◌+◌, ◌≤◌, ◌<◌, ◌^◌, length, take, drop};
 ghost use Rattle.reading.specs.declared.Verdict.TheVariants.{Refused};
 ghost use Rattle.reading.specs.Code.Scans.{settled_of, scan_settled};

@@ -2,6 +2,8 @@
 // over the basis in two passes, each line in an even and an odd half, and the clamp. A level is an `i16` and a quantizer's entry a
 // byte, so a coefficient lies within 2^23 and, each pass adding at most 17 bits, every sum within 2^58: `i64` holds them for every
 // input.
+#![tactic(auto)]
+
 ghost use Rattle.std.specs.Prelude.{◌≡◌, [], ◌∷◌, ◌+◌, ◌≤◌, ◌<◌, ◌^◌, pos, nat_abs, ◌*ℤ◌, length, take, replicate};
 ghost use Rattle.whole.specs.Expressions.{at, Within};
 ghost use Rattle.whole.specs.Lists.{list_of};
@@ -23,7 +25,7 @@ const ZIGZAG: [u8; 64] = [
 
 // What one half of a line's inputs gives to its outputs 0, 1, 2, 3. Outputs 7, 6, 5, 4 have the same of the even half and the
 // opposite of the odd half.
-#[derive(Drop)]
+#[derive(Clone, Copy)]
 struct Four(i64, i64, i64, i64);
 
 // The even half: inputs 0, 2, 4, 6 share their products.

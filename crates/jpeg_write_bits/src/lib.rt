@@ -1,12 +1,14 @@
 // Bits into the bytes of a settled scan (the rules' 'The settled scan'): a pen puts codes and their fields, pads its last byte with
 // ones and puts markers. A byte is stored where the lent buffer has room and is counted in any case, so that one path both measures
 // and writes.
+#![tactic(auto)]
+
 ghost use Rattle.std.specs.Prelude.{◌≡◌, [], ◌∷◌, ◌≤◌, ◌^◌};
 ghost use Rattle.reading.specs.Huffman.{bits_of};
 ghost use Rattle.jpeg_write_bits.specs.Page.{spot, byte_at, stuffed_at, bytes_at, page, fresh, put_all, closed_at, proper, Proper, restarted, end_at, symbol_bits, stroke, stroke_of};
 
 // Where the next byte goes, the value of the bits that wait for it, and how many bits it still wants, 1 to 8.
-#[derive(Drop)]
+#[derive(Clone, Copy)]
 pub struct Pen {
     pub at: usize,
     pub value: usize,
@@ -27,7 +29,7 @@ impl Pen {
 }
 
 // The pen behind what was written; or a code was wanting.
-#[derive(Drop)]
+#[derive(Clone, Copy)]
 pub enum Outcome {
     Done(Pen),
     Uncoded,

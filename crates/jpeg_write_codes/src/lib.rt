@@ -1,5 +1,7 @@
 // The words of a table's codes: of each symbol its code and the code's length, in one number, so that a symbol is written at one look.
 // A sheet has the words of the eight tables of a scan; whether the scan is sure to be written is told from it.
+#![tactic(auto)]
+
 ghost use Rattle.std.specs.Prelude.{◌≡◌, ◌+◌, ◌≤◌, length, get_or, replicate};
 ghost use Rattle.reading.specs.Huffman.{table_at};
 ghost use Rattle.jpeg_write_codes.specs.Words.{code_words, kept};

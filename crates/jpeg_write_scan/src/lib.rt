@@ -1,5 +1,7 @@
 // A record's scan, read and written settled (the rules' 'The settled scan'): blocks, restarts and the end, and the pass over a whole
 // scan. A pen stores a byte where the lent buffer has room and counts it in any case, so that one path both measures and writes.
+#![tactic(auto)]
+
 ghost use Rattle.std.specs.Prelude.{◌≡◌, ◌+◌, ◌*◌, ◌-◌, ◌≤◌, ◌<◌, ◌^◌, length, take};
 ghost use Rattle.std.proofs.Math.Option.{some};
 ghost use Rattle.reading.specs.Layout.{due_before, restart_before};
@@ -147,7 +149,7 @@ fn last(out: &mut [u8], ink: Outcome) -> ScanSettled
 }
 
 // Behind what was read and written.
-#[derive(Drop)]
+#[derive(Clone, Copy)]
 struct Moved {
     halt: Halt,
     cursor: ScanCursor,

@@ -17,7 +17,7 @@ use jpeg_write_bits::{Outcome, Pen};
 use reading::{Break, Record, ScanRead, ScanSettled};
 
 // Behind what was read and written.
-#[derive(Drop)]
+#[derive(Clone, Copy)]
 struct WideMoved {
     halt: Halt,
     cursor: WideCursor,

@@ -11,7 +11,7 @@ use lib.Signed.{mag, lt_z, non_neg}
 use mathlib.Core.List.{List}
 use mir.Syntax.{w16, w64}
 use mir.Val.{SFits, Fits, to_z, of_z, hbits}
-use mir.Facts.{to_z_of_z}
+use mir.Facts.{to_z-of_z}
 use borrow.Author.Tests.{ltb-true}
 use Rattle.whole.specs.Signs.{zero_bits}
 use Rattle.whole.specs.Expressions.{fits_abs, abs_sub}
@@ -46,7 +46,7 @@ field_above n (negsuc a) e = absurd (true≢false e)
 -- the same with the number as it is held in bits
 module _ (z : ℤ) (f : SFits w64 z) where
   back : to_z w64 (of_z w64 z) ≡ z
-  back = to_z_of_z f
+  back = to_z-of_z f
 
   under : {t : Bool} → lt_z (to_z w64 (of_z w64 z)) (pos 0) ≡ t → lt_z z (pos 0) ≡ t
   under {t} e = subst (λ (x : ℤ). lt_z x (pos 0) ≡ t) back e
@@ -56,7 +56,7 @@ module _ (z : ℤ) (f : SFits w64 z) where
     neg_fits = subst⁻¹ (λ (x : ℤ). SFits w64 (pos 0 -ℤ x)) back (fits_abs {n = 4611686018427387904} (abs_sub (pos 0) z {m = 0} {n = 4611686018427387904} (lit≤ tt) (le_of_lt h)) tt)
 
     neg_is : to_z w64 (of_z w64 (pos 0 -ℤ to_z w64 (of_z w64 z))) ≡ pos 0 -ℤ z
-    neg_is = to_z_of_z neg_fits ∙ ap (λ (x : ℤ). pos 0 -ℤ x) back
+    neg_is = to_z-of_z neg_fits ∙ ap (λ (x : ℤ). pos 0 -ℤ x) back
 
     pub neg_cast : lt_z (to_z w64 (of_z w64 z)) (pos 0) ≡ true → T (non_neg (to_z w64 (of_z w64 (pos 0 -ℤ to_z w64 (of_z w64 z))))) × Fits w64 (nat_abs (to_z w64 (of_z w64 (pos 0 -ℤ to_z w64 (of_z w64 z)))))
     neg_cast e = subst⁻¹ (λ (x : ℤ). T (non_neg x) × Fits w64 (nat_abs x)) neg_is (minus_cast z h (under e))

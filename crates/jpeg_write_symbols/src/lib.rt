@@ -1,5 +1,7 @@
 // What is written next of a block of levels (the rules' 'The settled scan'): a symbol and a field behind it, by the zeros that wait
 // and the level that ends them.
+#![tactic(auto)]
+
 ghost use Rattle.std.specs.Prelude.{◌≡◌, ◌≤◌, ◌<◌, ◌^◌, nat_abs, length};
 ghost use Rattle.reading.specs.Settled.{field_of};
 ghost use Rattle.jpeg_write_symbols.specs.Turns.{category_of, zeros_at, over, value_at, turn_at};
@@ -84,7 +86,7 @@ pub fn is_over(count: usize, place: usize, run: usize) -> bool
 
 // What is written next of a block: a symbol, the low `size` bits of a field behind it; and from which place on, behind how
 // many zeros, the block goes on.
-#[derive(Drop)]
+#[derive(Clone, Copy)]
 pub struct Turn {
     pub symbol: usize,
     pub field: usize,

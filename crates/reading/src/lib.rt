@@ -1,6 +1,8 @@
 // What the code and the definitions of specs/ share: the types, their fresh values, the numbers that belong to them
 // (prices, clamp bounds, limits), and the small questions that several crates ask: whether a number lies between two others, what
 // stands at a place of a list, how many MCUs a side has and what an MCU holds.
+#![tactic(auto)]
+
 ghost use Rattle.std.specs.Prelude.{◌≡◌, ◌-◌, max, leb, get_or};
 ghost use Rattle.reading.specs.Tests.{within};
 ghost use Rattle.reading.specs.Code.Mcus.{mcus_of, no_mcu, measured};
@@ -56,7 +58,7 @@ pub fn mcus(side: usize, factor: usize) -> usize
 }
 
 // The bit place of a scan: the next byte of the file, the current byte, and how many of its low bits are unread.
-#[derive(Drop)]
+#[derive(Clone, Copy)]
 pub struct Bits {
     pub at: usize,
     pub byte: u8,
@@ -77,7 +79,7 @@ impl Bits {
 }
 
 // Each scan keeps the bit place, four predictors and the count of blocks done.
-#[derive(Drop)]
+#[derive(Clone, Copy)]
 pub struct ScanCursor {
     pub bits: Bits,
     pub predictors: [i32; 4],
@@ -111,7 +113,7 @@ impl ScanCursor {
 }
 
 // Why a scan broke.
-#[derive(Drop)]
+#[derive(Clone, Copy)]
 pub enum Fault {
     // the bytes ran out
     RanOut,
@@ -139,7 +141,7 @@ impl Fault {
 
 // Why and where a scan broke: the number of the block, or the block count at the final marker, and the first byte that was not yet
 // taken when its reading began, before any restart.
-#[derive(Drop)]
+#[derive(Clone, Copy)]
 pub struct Break {
     pub fault: Fault,
     pub block: usize,
@@ -162,7 +164,7 @@ impl Break {
 // A refusal, by the rule that gave it. One number can have several rules, each with its price and its place in the order: 2 is
 // OverBudget, which takes nothing, and behind the header WorkOverBudget; 3 is CutShort in the header and 4 Malformed, and both are a
 // scan's too, which says where it broke.
-#[derive(Drop)]
+#[derive(Clone, Copy)]
 pub enum Refusal {
     TooLong,
     OverBudget,
@@ -178,7 +180,7 @@ pub enum Refusal {
 }
 
 // What a marker code asks for.
-#[derive(Drop)]
+#[derive(Clone, Copy)]
 pub enum Kind {
     Quants,
     Tables,
@@ -190,7 +192,7 @@ pub enum Kind {
 }
 
 // What the header reads next: a marker, or the tables of a segment that ends at the place given.
-#[derive(Drop)]
+#[derive(Clone, Copy)]
 pub enum Case {
     Marker,
     Quantizers(usize),
@@ -199,7 +201,7 @@ pub enum Case {
 
 // The frame: its sides, one to four channels, and for each channel its sampling across and down, its id and its quantizer's, 0 behind the
 // last one. All zero where no frame was read.
-#[derive(Drop)]
+#[derive(Clone, Copy)]
 pub struct Frame {
     pub width: usize,
     pub height: usize,
@@ -211,7 +213,7 @@ pub struct Frame {
 }
 
 // What the MCUs of a frame are: the largest sampling across and down, which an MCU is 8 times wide and high, and how many blocks it has.
-#[derive(Drop)]
+#[derive(Clone, Copy)]
 pub struct Mcu {
     pub across: usize,
     pub down: usize,
@@ -280,7 +282,7 @@ impl Mcu {
 }
 
 // Where each table starts, by its id: quantizers, DC and AC tables. 0 where there is none.
-#[derive(Drop)]
+#[derive(Clone, Copy)]
 pub struct Tables {
     pub quants: [usize; 4],
     pub dcs: [usize; 4],
@@ -288,7 +290,7 @@ pub struct Tables {
 }
 
 // The header's state: the next byte, the case, the tables, the frame and the restart interval.
-#[derive(Drop)]
+#[derive(Clone, Copy)]
 pub struct Header {
     pub at: usize,
     pub case: Case,
@@ -299,7 +301,7 @@ pub struct Header {
 
 // What inspect finds: the frame; the tables that stand when the scan is met; for each channel the ids of its Huffman tables (0 behind
 // the last channel); the first coded byte; the sizes and the work that follow from the frame.
-#[derive(Drop)]
+#[derive(Clone, Copy)]
 pub struct Record {
     pub frame: Frame,
     pub tables: Tables,
@@ -429,7 +431,7 @@ impl Record {
 }
 
 // The most bytes of input, the longest side, and the most samples of blocks or of the picture that a caller takes.
-#[derive(Drop)]
+#[derive(Clone, Copy)]
 pub struct Limits {
     pub input: usize,
     pub side: usize,
@@ -446,7 +448,7 @@ impl Limits {
 }
 
 // What a caller lets a call take. The header's price is 2 for each byte of the file and 1; a block's is 3136 and an output byte's 1.
-#[derive(Drop)]
+#[derive(Clone, Copy)]
 pub struct Budget {
     pub left: u64,
 }
@@ -487,7 +489,7 @@ impl Budget {
 // What turns a block's double sum into a sample: MIDDLE is added, the sum is divided by a step and rounded down, and what lies outside
 // LEAST and MOST becomes the nearer of the two. A step is 2 to the STEP_BITS, 1073741824; so 273804165120, from which on the rules have
 // 255, is 255 steps.
-#[derive(Drop)]
+#[derive(Clone, Copy)]
 pub struct Sample;
 
 impl Sample {
@@ -501,7 +503,7 @@ impl Sample {
 }
 
 // A level of a block; the first lies between these two.
-#[derive(Drop)]
+#[derive(Clone, Copy)]
 pub struct Level;
 
 impl Level {
@@ -511,7 +513,7 @@ impl Level {
 }
 
 // The block and the place that an answer names, both 0 where it names none.
-#[derive(Drop)]
+#[derive(Clone, Copy)]
 pub struct Named {
     pub block: usize,
     pub place: usize,
@@ -562,7 +564,7 @@ impl Refusal {
     }
 }
 
-#[derive(Drop)]
+#[derive(Clone, Copy)]
 pub enum Verdict {
     Accepted,
     Refused(Refusal),
@@ -591,7 +593,7 @@ impl Verdict {
 }
 
 // What reading the header answers: the record, which is zero in every field where it is refused.
-#[derive(Drop)]
+#[derive(Clone, Copy)]
 pub struct Head {
     pub verdict: Verdict,
     pub found: Record,
@@ -610,7 +612,7 @@ impl Head {
 }
 
 // What inspect answers.
-#[derive(Drop)]
+#[derive(Clone, Copy)]
 pub struct Inspection {
     pub verdict: Verdict,
     pub budget: Budget,
@@ -618,14 +620,14 @@ pub struct Inspection {
 }
 
 // What decode answers, beside the two buffers.
-#[derive(Drop)]
+#[derive(Clone, Copy)]
 pub struct Decoding {
     pub verdict: Verdict,
     pub budget: Budget,
 }
 
 // What settle answers, beside the buffer.
-#[derive(Drop)]
+#[derive(Clone, Copy)]
 pub struct Settling {
     pub verdict: Verdict,
     pub budget: Budget,
@@ -633,21 +635,21 @@ pub struct Settling {
 }
 
 // A part of a file: its place and its length.
-#[derive(Drop)]
+#[derive(Clone, Copy)]
 pub struct Part {
     pub at: usize,
     pub length: usize,
 }
 
 // What looking for a comment in the header answers.
-#[derive(Drop)]
+#[derive(Clone, Copy)]
 pub enum Sought {
     Absent,
     There(Part),
 }
 
 // What has_comment answers.
-#[derive(Drop)]
+#[derive(Clone, Copy)]
 pub struct Presence {
     pub verdict: Verdict,
     pub budget: Budget,
@@ -655,21 +657,21 @@ pub struct Presence {
 }
 
 // What reading a bit answers.
-#[derive(Drop)]
+#[derive(Clone, Copy)]
 pub enum BitRead {
     Got(u8, Bits),
     Stop(Fault),
 }
 
 // What reading a field or a symbol answers.
-#[derive(Drop)]
+#[derive(Clone, Copy)]
 pub enum NumberRead {
     Got(usize, Bits),
     Stop(Fault),
 }
 
 // What reading an amplitude answers.
-#[derive(Drop)]
+#[derive(Clone, Copy)]
 pub enum AmplitudeRead {
     Got(i32, Bits),
     Stop(Fault),
@@ -677,21 +679,21 @@ pub enum AmplitudeRead {
 
 // What reading a block answers, beside its levels: the bit place after it, its first level, which predicts the channel's next
 // one, and how many places its levels reach.
-#[derive(Drop)]
+#[derive(Clone, Copy)]
 pub enum BlockRead {
     Got(Bits, i32, usize),
     Stop(Fault),
 }
 
 // What reading a whole scan answers.
-#[derive(Drop)]
+#[derive(Clone, Copy)]
 pub enum ScanRead {
     Done,
     Stop(Break),
 }
 
 // What settling a whole scan answers: its length, or that a code is wanting, or why and where it broke.
-#[derive(Drop)]
+#[derive(Clone, Copy)]
 pub enum ScanSettled {
     Done(usize),
     Lacking,

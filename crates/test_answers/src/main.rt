@@ -1,6 +1,8 @@
 // Answers a run of cases, a line each, so that the calls can be compared with another reader at scale. A case is nine big-endian
 // 8-byte numbers (job, colour, three limits, budget, two rooms, n), then n bytes, and for job 4 the numbers of a record.
 // tests/reference/README.md lays down cases and lines.
+#![tactic(auto)]
+
 ghost use Rattle.std.specs.Prelude.{◌≤◌, ◌<◌};
 
 use libc::{STDIN_FILENO, STDOUT_FILENO};

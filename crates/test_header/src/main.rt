@@ -1,6 +1,8 @@
 // Runs the header over a list of vectors and writes a line for each: its place in the list, its number, and for an accepted one the
 // record, field by field. The list stands on standard input and the lines that must come in `stdout`; tests/header/vectors.py makes
 // both from the rules alone, and says how the list is laid out. Behind the list's end every byte counts as 0.
+#![tactic(auto)]
+
 ghost use Rattle.std.specs.Prelude.{◌<◌};
 
 use reading::{Head, Refusal};

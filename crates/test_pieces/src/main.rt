@@ -1,5 +1,7 @@
 // Runs bench pieces of the rules through the public calls, and writes each with its answer: the
 // number, what is left of the budget, the block and the place that it names, and where it says so more.
+#![tactic(auto)]
+
 use libc::STDOUT_FILENO;
 use reading::{Budget, Limits, Verdict};
 

@@ -1,5 +1,7 @@
 // The program: a file from standard input, its picture as PPM or PGM to standard output, or `refused N` and a newline and nothing
 // else. What matters is in the libraries; here are three buffers and the two calls.
+#![tactic(auto)]
+
 ghost use Rattle.std.specs.Prelude.{◌≡◌};
 ghost use Rattle.tillsparrow.specs.Answer.{unheld, reply, leaving, shown, answered};
 

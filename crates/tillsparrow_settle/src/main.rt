@@ -1,5 +1,7 @@
 // The program behind `--settle`: a file from standard input, its settled file to standard output, or `refused N` and a newline and
 // nothing else. What matters is in the libraries; here are two buffers and the call.
+#![tactic(auto)]
+
 ghost use Rattle.std.specs.Prelude.{◌≡◌};
 ghost use Rattle.reading.specs.Calls.{settle};
 ghost use Rattle.tillsparrow_streams.specs.Answers.{own_limits, ample};

@@ -1,5 +1,7 @@
 // What the programs share: standard input read whole, an answer written, the lines of a refusal and of a picture's head, a text put into
 // a line, a record as its numbers, a byte as a number, and the limits that they run with.
+#![tactic(auto)]
+
 ghost use Rattle.std.specs.Prelude.{◌+◌, ◌<◌, ◌≤◌, ◌≡◌, true, [], length};
 ghost use Rattle.tillsparrow_streams.specs.Read.{Fills};
 ghost use Rattle.tillsparrow_streams.specs.Lines.{decimal, refused, kind_of, picture_head, line_of, fitting, placed, line_with};
@@ -15,7 +17,7 @@ pub const UNREAD: [u8; 38] = *b"tillsparrow: the input cannot be read\n";
 pub const UNWRITTEN: [u8; 42] = *b"tillsparrow: the output cannot be written\n";
 
 // What was read of standard input: so many bytes, or a read failed.
-#[derive(Drop)]
+#[derive(Clone, Copy)]
 pub enum Filled {
     Bytes(usize),
     Failed,
@@ -71,7 +73,7 @@ pub fn put(line: &mut [u8], at: usize, text: &[u8]) -> usize
 }
 
 // A text with zeros behind it, and how long it is.
-#[derive(Drop)]
+#[derive(Clone, Copy)]
 pub struct Line {
     pub bytes: [u8; Line::ROOM],
     pub length: usize,
@@ -142,7 +144,7 @@ pub fn picture_head(found: Record) -> Line
 }
 
 // What a program answers: a line, and how many bytes of its output follow it.
-#[derive(Drop)]
+#[derive(Clone, Copy)]
 pub struct Answer {
     pub line: Line,
     pub follow: usize,
