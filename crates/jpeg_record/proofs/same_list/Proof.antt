@@ -28,47 +28,47 @@ agree_more a b i k e h g q =
     go j p (yes r) = rw r q
     go j p (no n) = g.each j (omega arith)
 
-abbrev invariant_loop : tie.invariant-loop
+abbrev invariant_loop : tie.invariant-loop-i
 invariant_loop a b i₀ i = Agree a b i
 
-abbrev decreases_loop : tie.decreases-loop
+abbrev decreases_loop : tie.decreases-loop-i
 decreases_loop a b i₀ i = length a - i
 
-returns : tie.Need-returns invariant_loop decreases_loop
-returns c = lists_apart c.before.args.a.now c.before.args.b.now (λ e. c.if1.true (ap length e))
+returns : tie.Need-returns-then-a-b invariant_loop decreases_loop
+returns c = lists_apart c.args.a.now c.args.b.now (λ e. c.if-a-b.true (ap length e))
 
-loop_holds : tie.Need-loop-init invariant_loop decreases_loop
-loop_holds c = record { within = omega arith; long = c.if1.false; each = λ j p. absurd (nothing j p) }
+loop_holds : tie.Need-loop-i-init invariant_loop decreases_loop
+loop_holds c = record { within = omega arith; long = c.if-a-b.false; each = λ j p. absurd (nothing j p) }
   where
     nothing : (j : ℕ) → j < 0 → ⊥
     nothing j p = omega arith
 
-mul_if2 : tie.Need-overflow-mul-if2 invariant_loop decreases_loop
+mul_if2 : tie.Need-offset_bounds-a-i invariant_loop decreases_loop
 mul_if2 c = search rules
 
-shared_slice_read_if2 : tie.Need-shared-slice-read-if2 invariant_loop decreases_loop
+shared_slice_read_if2 : tie.Need-bounds-a-i invariant_loop decreases_loop
 shared_slice_read_if2 c = search rules
 
-mul_if2_2 : tie.Need-overflow-mul-if2-2 invariant_loop decreases_loop
-mul_if2_2 c = omega (arith, c.before.before.loop.invariant.long)
+mul_if2_2 : tie.Need-offset_bounds-b-i invariant_loop decreases_loop
+mul_if2_2 c = omega (arith, c.loop-i.invariant.long)
 
-shared_slice_read_if2_2 : tie.Need-shared-slice-read-if2-2 invariant_loop decreases_loop
-shared_slice_read_if2_2 c = omega (arith, c.before.before.before.loop.invariant.long)
+shared_slice_read_if2_2 : tie.Need-bounds-b-i invariant_loop decreases_loop
+shared_slice_read_if2_2 c = omega (arith, c.loop-i.invariant.long)
 
-returns_2 : tie.Need-returns-2 invariant_loop decreases_loop
-returns_2 c = lists_apart c.before.before.before.before.before.before.args.a.now c.before.before.before.before.before.before.args.b.now (λ e. c.if2.true (ap (λ l. get_or l c.before.before.before.before.loop.i 0) e))
+returns_2 : tie.Need-returns-then-a-i invariant_loop decreases_loop
+returns_2 c = lists_apart c.args.a.now c.args.b.now (λ e. c.if-a-i.true (ap (λ l. get_or l c.loop-i.i 0) e))
 
-add_i : tie.Need-overflow-add-i invariant_loop decreases_loop
+add_i : tie.Need-overflow_add-i invariant_loop decreases_loop
 add_i c = search rules
 
-loop_less : tie.Need-loop-smaller invariant_loop decreases_loop
+loop_less : tie.Need-loop-i-smaller invariant_loop decreases_loop
 loop_less c = search rules
 
-loop_again : tie.Need-loop-preserved invariant_loop decreases_loop
-loop_again c = agree_more c.before.before.before.before.before.before.args.a.now c.before.before.before.before.before.before.args.b.now c.before.before.before.before.loop.i _ refl c.before.before.before.loop-test.true c.before.before.before.before.loop.invariant c.if2.false
+loop_again : tie.Need-loop-i-preserved invariant_loop decreases_loop
+loop_again c = agree_more c.args.a.now c.args.b.now c.loop-i.i _ refl c.loop-i-test.true c.loop-i.invariant c.if-a-i.false
 
-returns_3 : tie.Need-returns-3 invariant_loop decreases_loop
-returns_3 c = lists_alike c.before.before.before.args.a.now c.before.before.before.args.b.now (ext_get_or 0 c.before.before.before.args.a.now c.before.before.before.args.b.now c.before.loop.invariant.long (λ j p. c.before.loop.invariant.each j (omega arith)))
+returns_3 : tie.Need-returns invariant_loop decreases_loop
+returns_3 c = lists_alike c.args.a.now c.args.b.now (ext_get_or 0 c.args.a.now c.args.b.now c.loop-i.invariant.long (λ j p. c.loop-i.invariant.each j (omega arith)))
 
 pub same_list_spec : {M : Type 1} → statement M
 same_list_spec =

@@ -5,34 +5,34 @@ use Rattle.jpeg_record.proofs.Chain.{passed, failed}
 use Rattle.jpeg_record.proofs.same_scan.Statement.{statement}
 use Rattle.jpeg_record.proofs.same_scan.Tie as tie
 
-same_four_requires : tie.Need-same-four-requires
+same_four_requires : tie.Need-same_four-requires
 same_four_requires c κs = tt
 
-returns : tie.Need-returns
-returns c = rw (failed _ _ c.before.same-four.ensures c.if1.true) refl
+returns : tie.Need-returns-then-not-same_four
+returns c = rw (failed _ _ c.same_four.ensures c.if-not-same_four.true-raw) refl
 
-same_four_requires_2 : tie.Need-same-four-requires-2
+same_four_requires_2 : tie.Need-same_four-requires-2
 same_four_requires_2 c κs = tt
 
-returns_2 : tie.Need-returns-2
+returns_2 : tie.Need-returns-then-not-same_four-2
 returns_2 c =
     let p1 = c.before.before.before.before in
-    rw (passed _ _ p1.before.same-four.ensures p1.if1.false, failed _ _ c.before.same-four2.ensures c.if2.true) refl
+    rw (passed _ _ p1.same_four.ensures p1.if-not-same_four.false-raw, failed _ _ c.same_four-2.ensures c.if-not-same_four-2.true-raw) refl
 
-returns_3 : tie.Need-returns-3
+returns_3 : tie.Need-returns-then-a-b
 returns_3 c =
     let p2 = c.before.before.before in
     let p1 = p2.before.before.before.before in
-    rw (passed _ _ p1.before.same-four.ensures p1.if1.false, passed _ _ p2.before.same-four2.ensures p2.if2.false)
-    (rw (ne_eqb _ _ c.if3.true) refl)
+    rw (passed _ _ p1.same_four.ensures p1.if-not-same_four.false-raw, passed _ _ p2.same_four-2.ensures p2.if-not-same_four-2.false-raw)
+    (rw (ne_eqb _ _ c.if-a-b.true) refl)
 
-returns_4 : tie.Need-returns-4
+returns_4 : tie.Need-returns
 returns_4 c =
     let p3 = c.before.before in
     let p2 = p3.before.before.before in
     let p1 = p2.before.before.before.before in
-    rw (passed _ _ p1.before.same-four.ensures p1.if1.false, passed _ _ p2.before.same-four2.ensures p2.if2.false)
-    (rw (eq-eqb _ _ p3.if3.false) refl)
+    rw (passed _ _ p1.same_four.ensures p1.if-not-same_four.false-raw, passed _ _ p2.same_four-2.ensures p2.if-not-same_four-2.false-raw)
+    (rw (eq-eqb _ _ p3.if-a-b.false) refl)
 
 pub same_scan_spec : {M : Type 1} → statement M
 same_scan_spec =

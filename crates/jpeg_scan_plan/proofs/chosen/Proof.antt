@@ -7,40 +7,40 @@ use Rattle.jpeg_scan_plan.proofs.chosen.Reads as reads
 use Rattle.jpeg_scan_plan.proofs.chosen.Lts as lts
 use Rattle.reading.proofs.entry_at.Reads as entry-at-reads
 
-slice_aggregate_entry_at : tie.Need-slice-aggregate-entry-at
+slice_aggregate_entry_at : tie.Need-slice_bounds-entry_at-end
 slice_aggregate_entry_at c = search rules
 
-array_read_entry_at : tie.Need-array-read-entry-at
+array_read_entry_at : tie.Need-bounds-ids-0
 array_read_entry_at c = search rules
 
-entry_at_requires : tie.Need-entry-at-requires
+entry_at_requires : tie.Need-entry_at-a-requires
 entry_at_requires c κs = search rules
 
-slice_aggregate_entry_at_2 : tie.Need-slice-aggregate-entry-at-2
+slice_aggregate_entry_at_2 : tie.Need-slice_bounds-entry_at-end-2
 slice_aggregate_entry_at_2 c = search rules
 
-array_read_entry_at_2 : tie.Need-array-read-entry-at-2
+array_read_entry_at_2 : tie.Need-bounds-ids-1
 array_read_entry_at_2 c = search rules
 
-entry_at_requires_2 : tie.Need-entry-at-requires-2
+entry_at_requires_2 : tie.Need-entry_at-b-requires
 entry_at_requires_2 c κs = search rules
 
-slice_aggregate_entry_at_3 : tie.Need-slice-aggregate-entry-at-3
+slice_aggregate_entry_at_3 : tie.Need-slice_bounds-entry_at-end-3
 slice_aggregate_entry_at_3 c = search rules
 
-array_read_entry_at_3 : tie.Need-array-read-entry-at-3
+array_read_entry_at_3 : tie.Need-bounds-ids-2
 array_read_entry_at_3 c = search rules
 
-entry_at_requires_3 : tie.Need-entry-at-requires-3
+entry_at_requires_3 : tie.Need-entry_at-c-requires
 entry_at_requires_3 c κs = search rules
 
-slice_aggregate_entry_at_4 : tie.Need-slice-aggregate-entry-at-4
+slice_aggregate_entry_at_4 : tie.Need-slice_bounds-entry_at-end-4
 slice_aggregate_entry_at_4 c = search rules
 
-array_read_entry_at_4 : tie.Need-array-read-entry-at-4
+array_read_entry_at_4 : tie.Need-bounds-ids-3
 array_read_entry_at_4 c = search rules
 
-entry_at_requires_4 : tie.Need-entry-at-requires-4
+entry_at_requires_4 : tie.Need-entry_at-d-requires
 entry_at_requires_4 c κs = search rules
 
 returns : tie.Need-returns
@@ -48,7 +48,7 @@ returns c =
     let third = c.before.before in
     let second = third.before.before in
     let first = second.before.before in
-    rw (first.entry_at.ensures, second.entry-at2.ensures, third.entry-at3.ensures, c.entry-at4.ensures)
+    rw (first.entry_at-a.ensures, second.entry_at-b.ensures, third.entry_at-c.ensures, c.entry_at-d.ensures)
 
 pub chosen_spec : {M : Type 1} → statement M
 chosen_spec =

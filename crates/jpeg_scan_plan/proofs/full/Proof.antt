@@ -10,23 +10,23 @@ use borrow.Author.Rules.{rules}
 use Rattle.jpeg_scan_plan.proofs.full.Statement.{statement}
 use Rattle.jpeg_scan_plan.proofs.full.Tie as tie
 
-returns : tie.Need-returns
-returns c = padded_over _ _ c.if1.true (search rules)
+returns : tie.Need-returns-then-left-gt8
+returns c = padded_over _ _ c.if-left-gt8.true (search rules)
 
-shl_p : tie.Need-overflow-shl-p
+shl_p : tie.Need-overflow_shl-p
 shl_p c = search rules
 
-positive : (c : tie.Else1) → 0 < (1 * 2 ^ c.before.args.left) % 18446744073709551616
-positive c = subst (λ (k : ℕ). 0 < k) (sym (power_is _ (le_trans c.if1.false (lit≤ tt)))) (pow_pos _)
+positive : (c : tie.Else-left-gt8) → 0 < (1 * 2 ^ c.args.left) % 18446744073709551616
+positive c = subst (λ (k : ℕ). 0 < k) (sym (power_is _ (le_trans c.if-left-gt8.false (lit≤ tt)))) (pow_pos _)
 
-rem_result : tie.Need-nonzero-rem-result
+rem_result : tie.Need-nonzero_rem-result
 rem_result c = positive c
 
-sub_result : tie.Need-overflow-sub-result
+sub_result : tie.Need-overflow_sub-result
 sub_result c = positive c
 
-returns_2 : tie.Need-returns-2
-returns_2 c = padded_is _ _ _ (power_is _ (le_trans c.if1.false (lit≤ tt)))
+returns_2 : tie.Need-returns
+returns_2 c = padded_is _ _ _ (power_is _ (le_trans c.if-left-gt8.false (lit≤ tt)))
 
 pub full_spec : {M : Type 1} → statement M
 full_spec = tie.close (tie.spec returns shl_p rem_result sub_result returns_2)

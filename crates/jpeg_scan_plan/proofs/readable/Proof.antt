@@ -14,14 +14,14 @@ use Rattle.jpeg_scan_plan.proofs.readable.Reads as reads
 use Rattle.jpeg_scan_plan.proofs.readable.Lts as lts
 use Rattle.reading.proofs.Mcu.of.Reads as of-reads
 
-returns : tie.Need-returns
-returns c = unreadable_long _ _ c.if1.true
+returns : tie.Need-returns-then-s-found
+returns c = unreadable_long _ _ c.if-s-found.true
 
-of_requires : tie.Need-of-requires
+of_requires : tie.Need-of-m-requires
 of_requires c κs = search rules
 
-returns_2 : tie.Need-returns-2
-returns_2 c = readable_is _ _ c.before.before.before.if1.false (ap (λ (m : Mcu). m.blocks) c.before.of.ensures)
+returns_2 : tie.Need-returns
+returns_2 c = readable_is _ _ c.if-s-found.false (ap (λ (m : Mcu). m.blocks) c.of-m.ensures)
 
 pub readable_spec : {M : Type 1} → statement M
 readable_spec = tie.close (tie.spec returns of_requires returns_2)

@@ -4,22 +4,22 @@ use borrow.Author.Rules.{rules}
 use Rattle.jpeg_scan_plan.proofs.restart_code.Statement.{statement}
 use Rattle.jpeg_scan_plan.proofs.restart_code.Tie as tie
 
-returns : tie.Need-returns
-returns c = code_early c.before.args.interval c.before.args.m c.if1.true
+returns : tie.Need-returns-then-m-interval
+returns c = code_early c.args.interval c.args.m c.if-m-interval.true
 
-returns_2 : tie.Need-returns-2
-returns_2 c = code_none c.before.before.args.interval c.before.before.args.m c.if2.true
+returns_2 : tie.Need-returns-then-interval-eq0
+returns_2 c = code_none c.args.interval c.args.m c.if-interval-eq0.true
 
-div_result : tie.Need-nonzero-div-result
+div_result : tie.Need-nonzero_div-result
 div_result c = search rules
 
-sub_result : tie.Need-overflow-sub-result
-sub_result c = code_some _ _ c.before.if1.false c.if2.false
+sub_result : tie.Need-overflow_sub-result
+sub_result c = code_some _ _ c.if-m-interval.false c.if-interval-eq0.false
 
-add_result : tie.Need-overflow-add-result
+add_result : tie.Need-overflow_add-result
 add_result c = search rules
 
-returns_3 : tie.Need-returns-3
+returns_3 : tie.Need-returns
 returns_3 c = search rules
 
 pub restart_code_spec : {M : Type 1} → statement M

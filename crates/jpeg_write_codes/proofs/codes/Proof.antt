@@ -12,30 +12,30 @@ use Rattle.jpeg_write_codes.proofs.codes.Tie as tie
 clear_requires : tie.Need-clear-requires
 clear_requires c κs = search rules
 
-same_length : tie.Need-same-length
+same_length : tie.Need-shape_of-words-then-t-lt16
 same_length c = search rules
 
-returns : tie.Need-returns
-returns c = codes_cut c.before.before.before.before.before.before.before.args.t.now c.before.before.before.before.before.before.before.args.base _ _ c.before.before.before.clear.ensures (omega arith)
+returns : tie.Need-returns-then-t-lt16
+returns c = codes_cut c.args.t.now c.args.base _ _ c.clear.ensures (omega arith)
 
-sub_if2 : tie.Need-overflow-sub-if2
+sub_if2 : tie.Need-overflow_sub-t
 sub_if2 c = search rules
 
-same_length_2 : tie.Need-same-length-2
+same_length_2 : tie.Need-shape_of-words-then-t-base
 same_length_2 c = search rules
 
-returns_2 : tie.Need-returns-2
-returns_2 c = codes_cut c.before.before.before.before.before.before.before.before.args.t.now c.before.before.before.before.before.before.before.before.args.base _ _ c.before.before.before.before.clear.ensures (omega arith)
+returns_2 : tie.Need-returns-then-t-base
+returns_2 c = codes_cut c.args.t.now c.args.base _ _ c.clear.ensures (omega arith)
 
 fill_requires : tie.Need-fill-requires
-fill_requires c κs = (omega arith, cleared_own _ (length c.before.before.before.before.before.before.before.before.before.args.words.now) c.before.before.before.before.before.clear.ensures)
+fill_requires c κs = (omega arith, cleared_own _ (length c.args.words.now) c.clear.ensures)
 
-same_length_3 : tie.Need-same-length-3
+same_length_3 : tie.Need-shape_of-words
 same_length_3 c = search rules
 
-returns_3 : tie.Need-returns-3
+returns_3 : tie.Need-returns
 returns_3 c =
-    c.before.before.fill.ensures ∙ ap (code_words (table_at c.before.before.before.before.before.before.before.before.before.before.before.before.args.t.now c.before.before.before.before.before.before.before.before.before.before.before.before.args.base)) (cleared_length _ (length c.before.before.before.before.before.before.before.before.before.before.before.before.args.words.now) c.before.before.before.before.before.before.before.before.clear.ensures)
+    c.fill.ensures ∙ ap (code_words (table_at c.args.t.now c.args.base)) (cleared_length _ (length c.args.words.now) c.clear.ensures)
 
 pub codes_spec : {M : Type 1} → statement M
 codes_spec =

@@ -6,20 +6,20 @@ use borrow.Author.Rules.{rules}
 use Rattle.jpeg_write_codes.proofs.word_of.Statement.{statement}
 use Rattle.jpeg_write_codes.proofs.word_of.Tie as tie
 
-mul_result : tie.Need-overflow-mul-result
+mul_result : tie.Need-offset_bounds-words-x
 mul_result c = search rules
 
-shared_slice_read_result : tie.Need-shared-slice-read-result
+shared_slice_read_result : tie.Need-bounds-words-x
 shared_slice_read_result c = search rules
 
-cast_result : tie.Need-overflow-cast-result
-cast_result c = omega (arith, c.shared-slice-known.given c.before.before.args.x)
+cast_result : tie.Need-overflow_cast-result
+cast_result c = omega (arith, c.shared_slice_known-1.given c.args.x)
 
-returns : tie.Need-returns
+returns : tie.Need-returns-then-x-words
 returns c = search rules
 
-returns_2 : tie.Need-returns-2
-returns_2 c = sym (get_or-eq_default c.before.args.words.now 0 c.if1.false)
+returns_2 : tie.Need-returns
+returns_2 c = sym (get_or-eq_default c.args.words.now 0 c.if-x-words.false)
 
 pub word_of_spec : {M : Type 1} → statement M
 word_of_spec =

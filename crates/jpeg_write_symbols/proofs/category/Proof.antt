@@ -5,17 +5,17 @@ use Rattle.jpeg_write_symbols.proofs.Turning.{category_low, category_high}
 use Rattle.jpeg_write_symbols.proofs.category.Statement.{statement}
 use Rattle.jpeg_write_symbols.proofs.category.Tie as tie
 
-cast_result : tie.Need-overflow-cast-result
-cast_result c = omega (arith, leading_le 64 c.before.args.m)
+cast_result : tie.Need-overflow_cast-result
+cast_result c = omega (arith, leading_le 64 c.args.m)
 
-sub_result : tie.Need-overflow-sub-result
-sub_result c = leading_le 64 c.before.args.m
+sub_result : tie.Need-overflow_sub-result
+sub_result c = leading_le 64 c.args.m
 
-returns : tie.Need-returns
-returns c = category_low _ c.if1.true
+returns : tie.Need-returns-then-m-lt4096
+returns c = category_low _ c.if-m-lt4096.true
 
-returns_2 : tie.Need-returns-2
-returns_2 c = category_high _ c.if1.false
+returns_2 : tie.Need-returns
+returns_2 c = category_high _ c.if-m-lt4096.false
 
 pub category_spec : {M : Type 1} → statement M
 category_spec = tie.close (tie.spec cast_result sub_result returns returns_2)

@@ -9,28 +9,28 @@ use borrow.Author.Rules.{rules}
 use Rattle.jpeg_write_symbols.proofs.field_of.Statement.{statement}
 use Rattle.jpeg_write_symbols.proofs.field_of.Tie as tie
 
-magnitude_requires : tie.Need-magnitude-requires
+magnitude_requires : tie.Need-magnitude-m-requires
 magnitude_requires c κs = search rules
 
-full_is : (c : tie.Then1) → (1 * 2 ^ c.before.before.args.n) % 18446744073709551616 ≡ 2 ^ c.before.before.args.n
-full_is c = power_is c.before.before.args.n (omega (arith, c.before.before.requires.0))
+full_is : (c : tie.Then-d-lt0) → (1 * 2 ^ c.args.n) % 18446744073709551616 ≡ 2 ^ c.args.n
+full_is c = power_is c.args.n (omega (arith, c.requires.0))
 
-shl_full : tie.Need-overflow-shl-full
+shl_full : tie.Need-overflow_shl-full
 shl_full c = search rules
 
-sub_top : tie.Need-overflow-sub-top
+sub_top : tie.Need-overflow_sub-top
 sub_top c = rw (full_is c) (pow_pos _)
 
-returns : tie.Need-returns
-returns c = field_neg c.before.before.before.args.d c.before.before.before.ranges.d c.before.before.before.args.n c.before.before.magnitude.ensures (full_is c.before) c.before.if1.true
+returns : tie.Need-returns-then-m-top
+returns c = field_neg c.args.d c.ranges.d c.args.n c.magnitude-m.ensures (full_is c.before) c.if-d-lt0.true
 
-returns_2 : tie.Need-returns-2
+returns_2 : tie.Need-returns-then-d-lt0
 returns_2 c =
-    let z : 0 ≡ (1 * 2 ^ c.before.before.before.args.n) % 18446744073709551616 - 1 - c.before.before.magnitude.result = omega (arith, c.if2.false) in
-    z ∙ field_neg c.before.before.before.args.d c.before.before.before.ranges.d c.before.before.before.args.n c.before.before.magnitude.ensures (full_is c.before) c.before.if1.true
+    let z : 0 ≡ (1 * 2 ^ c.args.n) % 18446744073709551616 - 1 - c.magnitude-m.result = omega (arith, c.if-m-top.false) in
+    z ∙ field_neg c.args.d c.ranges.d c.args.n c.magnitude-m.ensures (full_is c.before) c.if-d-lt0.true
 
-returns_3 : tie.Need-returns-3
-returns_3 c = field_pos c.before.before.args.d c.before.before.ranges.d c.before.before.args.n c.before.magnitude.ensures c.if1.false
+returns_3 : tie.Need-returns
+returns_3 c = field_pos c.args.d c.ranges.d c.args.n c.magnitude-m.ensures c.if-d-lt0.false
 
 pub field_of_spec : {M : Type 1} → statement M
 field_of_spec = tie.close (tie.spec magnitude_requires shl_full sub_top returns returns_2 returns_3)

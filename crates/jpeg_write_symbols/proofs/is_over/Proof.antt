@@ -4,13 +4,13 @@ use borrow.Author.Tests.{le-leb, lt-leb}
 use Rattle.jpeg_write_symbols.proofs.is_over.Statement.{statement}
 use Rattle.jpeg_write_symbols.proofs.is_over.Tie as tie
 
-returns : tie.Need-returns
+returns : tie.Need-returns-then-count-place
 unfolding over
-returns c = rw (le-leb _ _ c.if1.true)
+returns c = rw (le-leb _ _ c.if-count-place.true)
 
-returns_2 : tie.Need-returns-2
+returns_2 : tie.Need-returns
 unfolding over
-returns_2 c = rw (lt-leb _ _ c.if1.false)
+returns_2 c = rw (lt-leb _ _ c.if-count-place.false)
 
 pub is_over_spec : {M : Type 1} → statement M
 is_over_spec = tie.close (tie.spec returns returns_2)

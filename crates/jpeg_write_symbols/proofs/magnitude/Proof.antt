@@ -4,19 +4,19 @@ use borrow.Author.Rules.{rules}
 use Rattle.jpeg_write_symbols.proofs.magnitude.Statement.{statement}
 use Rattle.jpeg_write_symbols.proofs.magnitude.Tie as tie
 
-sub_result : tie.Need-overflow-sub-result
-sub_result c = neg_fits c.before.args.d c.before.ranges.d c.before.requires
+sub_result : tie.Need-overflow_sub-result
+sub_result c = neg_fits c.args.d c.ranges.d c.requires
 
-cast_result : tie.Need-overflow-cast-result
-cast_result c = neg_cast c.before.args.d c.before.ranges.d c.before.requires c.if1.true
+cast_result : tie.Need-overflow_cast-result
+cast_result c = neg_cast c.args.d c.ranges.d c.requires c.if-d-lt0.true
 
-returns : tie.Need-returns
-returns c = neg_abs c.before.args.d c.before.ranges.d c.before.requires c.if1.true
+returns : tie.Need-returns-then-d-lt0
+returns c = neg_abs c.args.d c.ranges.d c.requires c.if-d-lt0.true
 
-cast_result_2 : tie.Need-overflow-cast-result-2
-cast_result_2 c = pos_cast c.before.args.d c.before.ranges.d c.before.requires c.if1.false
+cast_result_2 : tie.Need-overflow_cast-result-2
+cast_result_2 c = pos_cast c.args.d c.ranges.d c.requires c.if-d-lt0.false
 
-returns_2 : tie.Need-returns-2
+returns_2 : tie.Need-returns
 returns_2 c = search rules
 
 pub magnitude_spec : {M : Type 1} → statement M

@@ -23,25 +23,25 @@ invariant_walk levels place k₀ k = Walk levels place k
 abbrev decreases_walk : tie.decreases-walk
 decreases_walk levels place k₀ k = length levels - k
 
-returns : tie.Need-returns invariant_walk decreases_walk
-returns c = zeros_first _ _ c.if1.true
+returns : tie.Need-returns-then-place-eq0 invariant_walk decreases_walk
+returns c = zeros_first _ _ c.if-place-eq0.true
 
 walk_holds : tie.Need-walk-init invariant_walk decreases_walk
-walk_holds c = record { past = omega arith; same = zeros_start _ _ c.if1.false }
+walk_holds c = record { past = omega arith; same = zeros_start _ _ c.if-place-eq0.false }
 
-sub_result : tie.Need-overflow-sub-result invariant_walk decreases_walk
-sub_result c = c.before.walk.invariant.past
+sub_result : tie.Need-overflow_sub-result invariant_walk decreases_walk
+sub_result c = c.walk.invariant.past
 
-mul_if3 : tie.Need-overflow-mul-if3 invariant_walk decreases_walk
+mul_if3 : tie.Need-offset_bounds-levels-k invariant_walk decreases_walk
 mul_if3 c = search rules
 
-shared_slice_copy_out_if3 : tie.Need-shared-slice-copy-out-if3 invariant_walk decreases_walk
-shared_slice_copy_out_if3 c = c.if2.false
+shared_slice_copy_out_if3 : tie.Need-bounds-levels-k invariant_walk decreases_walk
+shared_slice_copy_out_if3 c = c.if-levels-k.false
 
-sub_result_2 : tie.Need-overflow-sub-result-2 invariant_walk decreases_walk
-sub_result_2 c = c.before.before.before.walk.invariant.past
+sub_result_2 : tie.Need-overflow_sub-result-then-levels-k-ne0 invariant_walk decreases_walk
+sub_result_2 c = c.walk.invariant.past
 
-add_k : tie.Need-overflow-add-k invariant_walk decreases_walk
+add_k : tie.Need-overflow_add-k invariant_walk decreases_walk
 add_k c = omega arith
 
 walk_less : tie.Need-walk-smaller invariant_walk decreases_walk
@@ -49,14 +49,14 @@ walk_less c = omega arith
 
 walk_again : tie.Need-walk-preserved invariant_walk decreases_walk
 walk_again c =
-    record { past = omega arith; same = zeros_more _ _ _ c.before.before.before.walk.invariant.past c.before.before.before.walk.invariant.same c.before.before.if2.false (level_zero (get_or c.before.before.before.before.before.args.levels.now c.before.before.before.walk.k (pos 0)) c.before.if32.given c.if3.false) }
+    record { past = omega arith; same = zeros_more _ _ _ c.walk.invariant.past c.walk.invariant.same c.if-levels-k.false (level_zero (get_or c.args.levels.now c.walk.k (pos 0)) c.t9-1.given c.if-levels-k-ne0.false) }
 
-returns_2 : tie.Need-returns-2 invariant_walk decreases_walk
-returns_2 c = zeros_past _ _ _ c.before.walk.invariant.past c.before.walk.invariant.same c.if2.true
+returns_2 : tie.Need-returns-then-levels-k invariant_walk decreases_walk
+returns_2 c = zeros_past _ _ _ c.walk.invariant.past c.walk.invariant.same c.if-levels-k.true
 
-returns_3 : tie.Need-returns-3 invariant_walk decreases_walk
+returns_3 : tie.Need-returns-then-levels-k-ne0 invariant_walk decreases_walk
 returns_3 c =
-    zeros_end _ _ _ c.before.before.before.walk.invariant.past c.before.before.before.walk.invariant.same c.before.before.if2.false (level_nonzero (get_or c.before.before.before.before.before.args.levels.now c.before.before.before.walk.k (pos 0)) c.if3.true)
+    zeros_end _ _ _ c.walk.invariant.past c.walk.invariant.same c.if-levels-k.false (level_nonzero (get_or c.args.levels.now c.walk.k (pos 0)) c.if-levels-k-ne0.true)
 
 pub zeros_from_spec : {M : Type 1} → statement M
 zeros_from_spec =

@@ -16,8 +16,8 @@ use Rattle.jpeg_scan_plan.proofs.order.Reads as order-reads
 use Rattle.jpeg_scan_plan.proofs.readable.Reads as readable-reads
 use Rattle.reading.proofs.Mcu.of.Reads as of-reads
 
-fit : (c : tie.Else1) → Readable c.before.before.before.args.s.now c.before.before.before.args.found
-fit c = readable_says _ _ (sym c.before.readable.ensures ∙ not-false _ c.if1.false)
+fit : (c : tie.Else-not-readable) → Readable c.args.s.now c.args.found
+fit c = readable_says _ _ (sym c.readable.ensures ∙ not-false _ c.if-not-readable.false-raw)
 
 readable_requires : tie.Need-readable-requires
 readable_requires c κs = search rules
@@ -25,26 +25,26 @@ readable_requires c κs = search rules
 none_requires : tie.Need-none-requires
 none_requires c κs = search rules
 
-returns : tie.Need-returns
+returns : tie.Need-returns-then-not-readable
 unfolding plan_for
-returns c = c.none.ensures ∙ rw (sym c.before.before.readable.ensures ∙ not-true _ c.before.if1.true)
+returns c = c.none.ensures ∙ rw (sym c.readable.ensures ∙ not-true _ c.if-not-readable.true-raw)
 
-chosen_requires : tie.Need-chosen-requires
+chosen_requires : tie.Need-chosen-dcs-requires
 chosen_requires c κs = search rules
 
-chosen_requires_2 : tie.Need-chosen-requires-2
+chosen_requires_2 : tie.Need-chosen-acs-requires
 chosen_requires_2 c κs = search rules
 
-chosen_requires_3 : tie.Need-chosen-requires-3
+chosen_requires_3 : tie.Need-chosen-quants-requires
 chosen_requires_3 c κs = search rules
 
-order_requires : tie.Need-order-requires
+order_requires : tie.Need-order-order-requires
 order_requires c κs = (fit c.before.before.before.before.before.before.before.before.before.before.before).fine
 
-of_requires : tie.Need-of-requires
+of_requires : tie.Need-of-m-requires
 of_requires c κs = search rules
 
-returns_2 : tie.Need-returns-2
+returns_2 : tie.Need-returns
 unfolding plan_for
 returns_2 c =
     let thirds = c.before.before in
@@ -52,12 +52,12 @@ returns_2 c =
     let firsts = seconds.before in
     let tested = firsts.before.before.before.before.before.before.before.before.before in
     rw (
-      firsts.chosen.ensures,
-      seconds.chosen2.ensures,
-      thirds.chosen3.ensures,
-      c.before.order.ensures,
-      ap (λ (m : Mcu). m.blocks) (c.of.ensures ∙ measured_is _ (fit tested).sampling),
-      sym tested.before.readable.ensures ∙ not-false _ tested.if1.false,
+      firsts.chosen-dcs.ensures,
+      seconds.chosen-acs.ensures,
+      thirds.chosen-quants.ensures,
+      c.order-order.ensures,
+      ap (λ (m : Mcu). m.blocks) (c.of-m.ensures ∙ measured_is _ (fit tested).sampling),
+      sym tested.readable.ensures ∙ not-false _ tested.if-not-readable.false-raw,
     )
 
 pub of_spec : {M : Type 1} → statement M
