@@ -10,5 +10,5 @@ at_least_spec =
     (tie.spec
     (λ c. search rules)
     (λ c. search rules)
-    (λ c. low c.before.ranges.v c.if1.true)
-    (λ c. not_low c.before.ranges.v c.if1.false))
+    (λ c. low c.ranges.v c.if-v.true)
+    (λ c. not_low c.ranges.v c.if-v.false))

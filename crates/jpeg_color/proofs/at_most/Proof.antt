@@ -10,5 +10,5 @@ at_most_spec =
     (tie.spec
     (λ c. search rules)
     (λ c. search rules)
-    (λ c. high c.before.ranges.v c.if1.true)
-    (λ c. not_high c.before.ranges.v c.if1.false))
+    (λ c. high c.ranges.v c.if-v.true)
+    (λ c. not_high c.ranges.v c.if-v.false))

@@ -53,5 +53,5 @@ green_part_spec =
     (λ c. plus_fits (times (number _) (difference c.ranges.cr) tt) (number _) tt)
     (λ c. times_fits (number _) (difference c.ranges.cb) tt)
     (λ c κs. (held_small (plus (times (number _) (difference c.ranges.cr) tt) (number _) tt) tt, held_small (times (number _) (difference c.ranges.cb) tt) tt))
-    (λ c. plus_fits (less (number 0) (difference c.before.ranges.cr) tt) (called (plus (times (number _) (difference c.before.ranges.cr) tt) (number _) tt) (times (number _) (difference c.before.ranges.cb) tt) 512 tt tt c.divided.ensures) tt)
-    (λ c. part _ _ _ _ _ (plus (less (number 0) (difference c.before.ranges.cr) tt) (called (plus (times (number _) (difference c.before.ranges.cr) tt) (number _) tt) (times (number _) (difference c.before.ranges.cb) tt) 512 tt tt c.divided.ensures) tt) refl refl refl tt))
+    (λ c. plus_fits (less (number 0) (difference c.ranges.cr) tt) (called (plus (times (number _) (difference c.ranges.cr) tt) (number _) tt) (times (number _) (difference c.ranges.cb) tt) 512 tt tt c.divided.ensures) tt)
+    (λ c. part _ _ _ _ _ (plus (less (number 0) (difference c.ranges.cr) tt) (called (plus (times (number _) (difference c.ranges.cr) tt) (number _) tt) (times (number _) (difference c.ranges.cb) tt) 512 tt tt c.divided.ensures) tt) refl refl refl tt))

@@ -1,6 +1,7 @@
 -- `jpeg_color::red` meets its contract: luma passes by the division. Assumes nothing.
 use mathlib.Core.Path.{◌∙◌, ap}
 use borrow.Author.Rules.{rules}
+use mir.Syntax.{w32}
 use lib.IntN.{pos, ◌+ℤ◌}
 use Rattle.whole.specs.Held.{bounded, held_small}
 use Rattle.reading.specs.Colour.{to_byte}
@@ -11,8 +12,8 @@ use Rattle.jpeg_color.proofs.red.Tie as tie
 returns : tie.Need-returns
 returns c =
     let s = c.before.before in
-    let part = c.before.red-part in
-    c.with-luma.ensures ∙ ap (λ z. to_byte (pos s.args.y +ℤ z)) ((bounded part.result part.ensures.1 tt).is ∙ part.ensures.0) ∙ red_is s.args.y s.args.cr
+    let part = c.red_part in
+    c.with_luma.ensures ∙ ap (λ z. to_byte (pos s.args.y +ℤ z)) ((bounded {w = w32} part.result part.ensures.1 tt).is ∙ part.ensures.0) ∙ red_is s.args.y s.args.cr
 
 pub red_spec : {M : Type 1} → statement M
-red_spec = tie.close (tie.spec (λ c κs. search rules) (λ c κs. held_small (bounded c.red-part.result c.red-part.ensures.1 tt) tt) returns)
+red_spec = tie.close (tie.spec (λ c κs. search rules) (λ c κs. held_small {w = w32} (bounded {w = w32} c.red_part.result c.red_part.ensures.1 tt) tt) returns)

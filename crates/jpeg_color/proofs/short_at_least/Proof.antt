@@ -5,4 +5,4 @@ use Rattle.jpeg_color.proofs.short_at_least.Tie as tie
 
 pub short_at_least_spec : {M : Type 1} → statement M
 short_at_least_spec =
-    tie.close (tie.spec (λ c. low c.before.ranges.short c.if1.true) (λ c. not_low c.before.ranges.short c.if1.false))
+    tie.close (tie.spec (λ c. low c.ranges.short c.if-short-lt-LEAST.true) (λ c. not_low c.ranges.short c.if-short-lt-LEAST.false))

@@ -5,4 +5,4 @@ use Rattle.jpeg_color.proofs.short_at_most.Tie as tie
 
 pub short_at_most_spec : {M : Type 1} → statement M
 short_at_most_spec =
-    tie.close (tie.spec (λ c. high c.before.ranges.short c.if1.true) (λ c. not_high c.before.ranges.short c.if1.false))
+    tie.close (tie.spec (λ c. high c.ranges.short c.if-short-gt-MOST.true) (λ c. not_high c.ranges.short c.if-short-gt-MOST.false))

@@ -10,5 +10,5 @@ short_to_byte_spec =
     (tie.spec
     (λ c κs. search rules)
     (λ c κs. search rules)
-    (λ c. clamped_fits c.before.before.ranges.short c.before.short-at-least.type-inv c.before.short-at-least.ensures c.short-at-most.type-inv c.short-at-most.ensures)
-    (λ c. clamped c.before.before.ranges.short c.before.short-at-least.type-inv c.before.short-at-least.ensures c.short-at-most.type-inv c.short-at-most.ensures))
+    (λ c. clamped_fits c.ranges.short c.short_at_least.type_inv c.short_at_least.ensures c.short_at_most.type_inv c.short_at_most.ensures)
+    (λ c. clamped c.ranges.short c.short_at_least.type_inv c.short_at_least.ensures c.short_at_most.type_inv c.short_at_most.ensures))

@@ -10,5 +10,5 @@ to_byte_spec =
     (tie.spec
     (λ c κs. search rules)
     (λ c κs. search rules)
-    (λ c. clamped_fits c.before.before.ranges.v c.before.at_least_lem.type-inv c.before.at_least_lem.ensures c.at_most.type-inv c.at_most.ensures)
-    (λ c. clamped c.before.before.ranges.v c.before.at_least_lem.type-inv c.before.at_least_lem.ensures c.at_most.type-inv c.at_most.ensures))
+    (λ c. clamped_fits c.ranges.v c.at_least.type_inv c.at_least.ensures c.at_most.type_inv c.at_most.ensures)
+    (λ c. clamped c.ranges.v c.at_least.type_inv c.at_least.ensures c.at_most.type_inv c.at_most.ensures))

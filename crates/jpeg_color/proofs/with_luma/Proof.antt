@@ -8,7 +8,7 @@ use Rattle.jpeg_color.proofs.with_luma.Statement.{statement}
 use Rattle.jpeg_color.proofs.with_luma.Tie as tie
 
 returns : tie.Need-returns
-returns c = c.to-byte.ensures ∙ ap to_byte (sum_is w32 {x = c.before.args.part} c.before.ranges.y (refl, c.before.requires) tt)
+returns c = c.to_byte.ensures ∙ ap to_byte (sum_is w32 {x = c.args.part} c.ranges.y (refl, c.requires) tt)
 
 pub with_luma_spec : {M : Type 1} → statement M
 with_luma_spec = tie.close (tie.spec (λ c. search rules) (λ c. sum_fits w32 {x = c.args.part} c.ranges.y (refl, c.requires) tt) (λ c κs. search rules) returns)

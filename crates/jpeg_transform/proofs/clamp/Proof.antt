@@ -11,24 +11,24 @@ use Rattle.jpeg_transform.proofs.Stores.{Front, front_none, front_next, front_al
 use Rattle.jpeg_transform.proofs.clamp.Statement.{statement}
 use Rattle.jpeg_transform.proofs.clamp.Tie as tie
 
-abbrev invariant_loop : tie.invariant-loop
+abbrev invariant_loop : tie.invariant-loop-k
 invariant_loop steps out₀ k₀ out k = Front (λ j. to_byte (at steps j)) out₀ k out
 
-abbrev decreases_loop : tie.decreases-loop
+abbrev decreases_loop : tie.decreases-loop-k
 decreases_loop steps out₀ k₀ out k = 64 - k
 
-loop_holds : tie.Need-loop-init invariant_loop decreases_loop
+loop_holds : tie.Need-loop-k-init invariant_loop decreases_loop
 loop_holds c = front_none
 
-loop_again : tie.Need-loop-preserved invariant_loop decreases_loop
+loop_again : tie.Need-loop-k-preserved invariant_loop decreases_loop
 loop_again c =
     let a = c.before.before.before in
     let s = a.before.before in
-    front_next a.loop.invariant c.before.before.loop-test.true s.requires
-    (c.to-byte.ensures ∙ ap to_byte (to_z-of_z {w = w32} {z = at s.args.steps.now a.loop.k} (sfits_of c.before.to-byte-arg.given)))
+    front_next a.loop-k.invariant c.loop-k-test.true s.requires
+    (c.to_byte.ensures ∙ ap to_byte (to_z-of_z {w = w32} {z = at s.args.steps.now a.loop-k.k} (sfits_of c.to_byte-arg-1.given)))
 
 returns : tie.Need-returns invariant_loop decreases_loop
-returns c = front_all c.before.loop.invariant c.loop-test.false c.before.before.before.requires
+returns c = front_all c.loop-k.invariant c.loop-k-test.false c.requires
 
 pub clamp_spec : {M : Type 1} → statement M
 clamp_spec =
@@ -40,9 +40,9 @@ clamp_spec =
     (λ c. omega arith)
     (λ c. omega arith)
     (λ c κs. search rules)
-    (λ c. omega (arith, c.before.before.before.loop.invariant.long, c.before.before.before.before.before.requires))
+    (λ c. omega (arith, c.loop-k.invariant.long, c.requires))
     (λ c. omega arith)
     (λ c. omega arith)
     loop_again
-    (λ c. c.before.loop.invariant.long)
+    (λ c. c.loop-k.invariant.long)
     returns)

@@ -22,18 +22,18 @@ record Made (quantizer : List ℕ) (levels : List ℤ) (places k : ℕ) (block :
   made : block ≡ coefficients quantizer (take k levels)
   small : Within (2 ^ 23) block
 
-abbrev invariant_loop : tie.invariant-loop
+abbrev invariant_loop : tie.invariant-loop-k
 invariant_loop levels quantizer places block₀ order k₀ block k = Made quantizer levels places k block
 
-abbrev decreases_loop : tie.decreases-loop
+abbrev decreases_loop : tie.decreases-loop-k
 decreases_loop levels quantizer places block₀ order k₀ block k = 64 - k
 
-loop_holds : tie.Need-loop-init invariant_loop decreases_loop
+loop_holds : tie.Need-loop-k-init invariant_loop decreases_loop
 loop_holds c = record {
   inside = omega arith;
   counts = omega arith;
-  made = c.before.requires ∙ coefficients_none c.before.args.quantizer.now c.before.args.levels.now;
-  small = subst⁻¹ (Within (2 ^ 23)) c.before.requires (within_zeros (2 ^ 23) 64);
+  made = c.requires ∙ coefficients_none c.args.quantizer.now c.args.levels.now;
+  small = subst⁻¹ (Within (2 ^ 23)) c.requires (within_zeros (2 ^ 23) 64);
 }
 
 -- at the end: no level counts from k on
@@ -57,17 +57,17 @@ next {q} {l} {block} {n} {k} z v h p e b = record {
   small = within_set (get_or zigzag k 0) z v.small b;
 }
 
-loop_again : tie.Need-loop-preserved invariant_loop decreases_loop
+loop_again : tie.Need-loop-k-preserved invariant_loop decreases_loop
 loop_again c =
     let a = c.before.before.before.before.before in
-    let l = a.before.before.args.levels.now in
-    let q = a.before.before.args.quantizer.now in
-    let k = a.loop.k in
+    let l = a.args.levels.now in
+    let q = a.args.quantizer.now in
+    let k = a.loop-k.k in
     let r = c.coefficient.ensures in
-    let read = to_z-of_z {w = w16} {z = at l k} (sfits_of c.before.before.coefficient-arg.given) in
+    let read = to_z-of_z {w = w16} {z = at l k} (sfits_of c.coefficient-arg-1.given) in
     let same = to_z-of_z {w = w64} {z = c.coefficient.result} (fits_abs r.1 tt) in
-    next (to_z w64 (of_z w64 c.coefficient.result)) a.loop.invariant (omega arith) (omega arith)
-    (same ∙ r.0 ∙ ap₂ (λ z n. z *ℤ pos n) read c.before.byte_at.ensures) (rw same r.1)
+    next (to_z w64 (of_z w64 c.coefficient.result)) a.loop-k.invariant (omega arith) (omega arith)
+    (same ∙ r.0 ∙ ap₂ (λ z n. z *ℤ pos n) read c.byte_at.ensures) (rw same r.1)
 
 pub dequantize_spec : {M : Type 1} → statement M
 dequantize_spec =
@@ -76,16 +76,16 @@ dequantize_spec =
     invariant_loop
     decreases_loop
     loop_holds
-    (λ c. whole c.before.before.loop.invariant c.if1.true)
+    (λ c. whole c.loop-k.invariant c.if-places-k.true)
     (λ c. omega arith)
-    (λ c. omega (arith, zigzag_below c.before.before.loop.k (omega arith)))
+    (λ c. omega (arith, zigzag_below c.loop-k.k (omega arith)))
     (λ c. omega arith)
     (λ c. omega arith)
     (λ c κs. search rules)
     (λ c κs. search rules)
-    (λ c. omega (arith, zigzag_below c.before.before.before.before.before.loop.k (omega arith)))
-    (λ c. zigzag_below c.before.before.before.before.before.loop.k (omega arith))
+    (λ c. omega (arith, zigzag_below c.loop-k.k (omega arith)))
+    (λ c. zigzag_below c.loop-k.k (omega arith))
     (λ c. omega arith)
     (λ c. omega arith)
     loop_again
-    (λ c. full c.before.loop.invariant c.loop-test.false))
+    (λ c. full c.loop-k.invariant c.loop-k-test.false))

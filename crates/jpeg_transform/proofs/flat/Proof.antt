@@ -6,7 +6,7 @@ use native.Mathlib.Omega.{arith}
 use borrow.Author.Rules.{rules, sfits_of}
 use lib.Dec.{lit≤}
 use lib.IntN.{pos, nat_abs, ◌*ℤ◌}
-use mir.Syntax.{w64}
+use mir.Syntax.{w64, w32}
 use mir.Val.{to_z}
 use mir.Facts.{to_z-of_z}
 use Rattle.whole.specs.Expressions.{Exp, var, Fine, fine, machine_bits, exact, bounded}
@@ -20,10 +20,10 @@ use Rattle.jpeg_transform.proofs.Passes.{byte_of_steps}
 use Rattle.jpeg_transform.proofs.flat.Statement.{statement}
 use Rattle.jpeg_transform.proofs.flat.Tie as tie
 
-abbrev invariant_loop : tie.invariant-loop
+abbrev invariant_loop : tie.invariant-loop-k
 invariant_loop first out₀ b k₀ out k = Front (λ j. b) out₀ k out
 
-abbrev decreases_loop : tie.decreases-loop
+abbrev decreases_loop : tie.decreases-loop-k
 decreases_loop first out₀ b k₀ out k = 64 - k
 
 -- the one double sum
@@ -38,22 +38,22 @@ module _ (s : tie.Start invariant_loop decreases_loop) where
   fits = fine w64 (λ i. s.args.first) L (λ i. s.requires.0) P tt
 
   read : to_z w64 (machine_bits w64 (λ i. s.args.first) P) ≡ s.args.first *ℤ pos 134212225
-  read = exact w64 (λ i. s.args.first) L (λ i. s.pre.0) P tt
+  read = exact w64 (λ i. s.args.first) L (λ i. s.requires.0) P tt
 
   low : nat_abs (to_z w64 (machine_bits w64 (λ i. s.args.first) P)) ≤ 2 ^ 57
-  low = rw read (le_trans (bounded w64 (λ i. s.args.first) L (λ i. s.pre.0) P) (lit≤ tt))
+  low = rw read (le_trans (bounded w64 (λ i. s.args.first) L (λ i. s.requires.0) P) (lit≤ tt))
 
-loop_holds : tie.Need-loop-init invariant_loop decreases_loop
+loop_holds : tie.Need-loop-k-init invariant_loop decreases_loop
 loop_holds c = front_none
 
 returns : tie.Need-returns invariant_loop decreases_loop
 returns c =
     let r = c.before.before.before in
     let s = r.before.before in
-    front_all c.before.loop.invariant c.loop-test.false s.requires.1
+    front_all c.loop-k.invariant c.loop-k-test.false s.requires.1
     ∙ ap (λ b. over (list_of 64 (λ k. b)) s.args.out.now)
-    (c.before.before.to-byte.ensures
-    ∙ ap to_byte (to_z-of_z (sfits_of r.in-steps.type-inv) ∙ r.in-steps.ensures ∙ ap in_steps (read s)) ∙ byte_of_steps (s.args.first *ℤ pos 134212225))
+    (c.to_byte-b.ensures
+    ∙ ap to_byte (to_z-of_z {w = w32} (sfits_of r.in_steps.type_inv) ∙ r.in_steps.ensures ∙ ap in_steps (read s)) ∙ byte_of_steps (s.args.first *ℤ pos 134212225))
 
 pub flat_spec : {M : Type 1} → statement M
 flat_spec =
@@ -65,9 +65,9 @@ flat_spec =
     (λ c κs. low c.before)
     (λ c κs. search rules)
     loop_holds
-    (λ c. omega (arith, c.before.loop.invariant.long, c.before.before.before.before.before.requires.1))
+    (λ c. omega (arith, c.loop-k.invariant.long, c.requires.1))
     (λ c. omega arith)
     (λ c. omega arith)
-    (λ c. front_next c.before.loop.invariant c.loop-test.true c.before.before.before.before.before.requires.1 refl)
-    (λ c. c.before.loop.invariant.long)
+    (λ c. front_next c.loop-k.invariant c.loop-k-test.true c.requires.1 refl)
+    (λ c. c.loop-k.invariant.long)
     returns)

@@ -23,7 +23,7 @@ module _ (s : tie.Start) where
   read = to_z-of_z s.ranges.v
 
   sum_small : nat_abs (s.args.v +ℤ pos 137975824384) ≤ 288230376151711744
-  sum_small = abs_add s.args.v (pos 137975824384) {n = 2 ^ 57} s.pre (leb→le 137975824384 (2 ^ 57) tt)
+  sum_small = abs_add s.args.v (pos 137975824384) {n = 2 ^ 57} s.requires (leb→le 137975824384 (2 ^ 57) tt)
 
   sum_fits : SFits w64 (s.args.v +ℤ pos 137975824384)
   sum_fits = fits_abs sum_small tt

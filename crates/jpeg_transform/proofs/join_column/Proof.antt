@@ -7,7 +7,7 @@ use native.Mathlib.Omega.{arith}
 use borrow.Author.Rules.{sfits_of}
 use lib.Dec.{T, leb}
 use lib.IntN.{ℤ, nat_abs}
-use mir.Syntax.{w64}
+use mir.Syntax.{w64, w32}
 use mir.Val.{to_z}
 use mir.Facts.{to_z-of_z}
 use Rattle.whole.specs.Expressions.{Exp, var, add, sub, at, safe, size, Fine, machine_bits}
@@ -19,7 +19,7 @@ use Rattle.jpeg_transform.proofs.join_column.Tie as tie
 
 -- where the halves are told
 abbrev Told : Type 0
-Told = tie.After-struct-told8
+Told = tie.After-struct_told-8-1
 
 abbrev start : Told → tie.Start
 start c = c.before.before.before.before.before.before.before.before
@@ -42,15 +42,15 @@ unfolding puts joined
 returns c =
     let s = start c.before.before.before.before.before.before.before.before in
     ap (λ xs. puts s.args.steps.now (place s.args.x 8) (at xs) 8)
-    ((cons (to_z-of_z (sfits_of c.before.before.before.before.before.before.before.in-steps.type-inv) ∙ c.before.before.before.before.before.before.before.in-steps.ensures)
-    (cons (to_z-of_z (sfits_of c.before.before.before.before.before.before.in-steps2.type-inv) ∙ c.before.before.before.before.before.before.in-steps2.ensures)
-    (cons (to_z-of_z (sfits_of c.before.before.before.before.before.in-steps3.type-inv) ∙ c.before.before.before.before.before.in-steps3.ensures)
-    (cons (to_z-of_z (sfits_of c.before.before.before.before.in-steps4.type-inv) ∙ c.before.before.before.before.in-steps4.ensures)
-    (cons (to_z-of_z (sfits_of c.before.before.before.in-steps5.type-inv) ∙ c.before.before.before.in-steps5.ensures)
-    (cons (to_z-of_z (sfits_of c.before.before.in-steps6.type-inv) ∙ c.before.before.in-steps6.ensures)
-    (cons (to_z-of_z (sfits_of c.before.in-steps7.type-inv) ∙ c.before.in-steps7.ensures)
-    (cons (to_z-of_z (sfits_of c.in-steps8.type-inv) ∙ c.in-steps8.ensures) refl))))))))
-    ∙ ap (map in_steps) (joins s.args.e s.args.o s.pre.1))
+    ((cons (to_z-of_z {w = w32} (sfits_of c.in_steps.type_inv) ∙ c.in_steps.ensures)
+    (cons (to_z-of_z {w = w32} (sfits_of c.in_steps-2.type_inv) ∙ c.in_steps-2.ensures)
+    (cons (to_z-of_z {w = w32} (sfits_of c.in_steps-3.type_inv) ∙ c.in_steps-3.ensures)
+    (cons (to_z-of_z {w = w32} (sfits_of c.in_steps-4.type_inv) ∙ c.in_steps-4.ensures)
+    (cons (to_z-of_z {w = w32} (sfits_of c.in_steps-5.type_inv) ∙ c.in_steps-5.ensures)
+    (cons (to_z-of_z {w = w32} (sfits_of c.in_steps-6.type_inv) ∙ c.in_steps-6.ensures)
+    (cons (to_z-of_z {w = w32} (sfits_of c.in_steps-7.type_inv) ∙ c.in_steps-7.ensures)
+    (cons (to_z-of_z {w = w32} (sfits_of c.in_steps-8.type_inv) ∙ c.in_steps-8.ensures) refl))))))))
+    ∙ ap (map in_steps) (joins s.args.e s.args.o s.requires.1))
 
 pub join_column_spec : {M : Type 1} → statement M
 join_column_spec =

@@ -11,20 +11,20 @@ use Rattle.jpeg_transform.proofs.Lines.{H, join_fits, joins}
 use Rattle.jpeg_transform.proofs.join_row.Statement.{statement}
 use Rattle.jpeg_transform.proofs.join_row.Tie as tie
 
-abbrev start : tie.After-struct-told8 → tie.Start
+abbrev start : tie.After-struct_told-8-1 → tie.Start
 start c = c.before.before.before.before.before.before.before.before
 
-fits : (s : Exp) → T (safe w64 H s) → (c : tie.After-struct-told8) → Fine w64 (at (halves (start c).args.e (start c).args.o)) s
+fits : (s : Exp) → T (safe w64 H s) → (c : tie.After-struct_told-8-1) → Fine w64 (at (halves (start c).args.e (start c).args.o)) s
 fits s t c = join_fits (start c).args.e (start c).args.o (start c).requires.1 s t
 
-room : (c : tie.After-struct-told8) → (start c).args.i + 7 < 64
+room : (c : tie.After-struct_told-8-1) → (start c).args.i + 7 < 64
 room c = (start c).requires.0
 
 returns : tie.Need-returns
 unfolding puts
 returns c =
     let s = start c in
-    ap (λ xs. puts s.args.block.now (place s.args.i 1) (at xs) 8) (joins s.args.e s.args.o s.pre.1)
+    ap (λ xs. puts s.args.block.now (place s.args.i 1) (at xs) 8) (joins s.args.e s.args.o s.requires.1)
 
 pub join_row_spec : {M : Type 1} → statement M
 join_row_spec =

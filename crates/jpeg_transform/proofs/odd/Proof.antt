@@ -24,17 +24,17 @@ result : (s : tie.Start) (k : Four) {r : ℤ} → mag r < 2 ^ hbits w64
     → to_z w64 (of_z w64 r) ≡ weighed (s.args.c1, s.args.c3, s.args.c5, s.args.c7) k
 result s k h e =
     let is = lent_is (f s) s.requires.each in
-    to_z-of_z (sfits_of h) ∙ e ∙ rw (is 0, is 1, is 2, is 3) refl
+    to_z-of_z {w = w64} (sfits_of h) ∙ e ∙ rw (is 0, is 1, is 2, is 3) refl
 
 returns : tie.Need-returns
 unfolding odd_of
 returns c =
     let s = c.before.before.before.before in
     rw (
-      result s odds0 c.before.before.before.weighed.type-inv c.before.before.before.weighed.ensures,
-      result s odds1 c.before.before.weighed2.type-inv c.before.before.weighed2.ensures,
-      result s odds2 c.before.weighed3.type-inv c.before.weighed3.ensures,
-      result s odds3 c.weighed4.type-inv c.weighed4.ensures,
+      result s odds0 c.weighed-o0.type_inv c.weighed-o0.ensures,
+      result s odds1 c.weighed-o1.type_inv c.weighed-o1.ensures,
+      result s odds2 c.weighed-o2.type_inv c.weighed-o2.ensures,
+      result s odds3 c.weighed-o3.type_inv c.weighed-o3.ensures,
     )
     refl
 
@@ -43,7 +43,7 @@ odd_spec =
     tie.close
     (tie.spec
     (λ c κs. (lent_small (f c) c.requires.each 0 1 2 3, within_all _ tt))
-    (λ c κs. (lent_small (f c.before) c.before.requires.each 0 1 2 3, within_all _ tt))
-    (λ c κs. (lent_small (f c.before.before) c.before.before.requires.each 0 1 2 3, within_all _ tt))
-    (λ c κs. (lent_small (f c.before.before.before) c.before.before.before.requires.each 0 1 2 3, within_all _ tt))
+    (λ c κs. (lent_small (f c.before) c.requires.each 0 1 2 3, within_all _ tt))
+    (λ c κs. (lent_small (f c.before.before) c.requires.each 0 1 2 3, within_all _ tt))
+    (λ c κs. (lent_small (f c.before.before.before) c.requires.each 0 1 2 3, within_all _ tt))
     returns)

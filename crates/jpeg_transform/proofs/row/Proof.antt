@@ -23,38 +23,38 @@ small s j = s.requires.0.each (place s.args.i 1 j)
 
 -- ---- the short way
 
-abbrev flat : tie.Then1 → tie.Start
+abbrev flat : tie.Then-c1-c2-eq0 → tie.Start
 flat c = c.before.before.before.before.before.before.before.before.before
 
-mul_spread : tie.Need-overflow-mul-spread
+mul_spread : tie.Need-overflow_mul-c0
 mul_spread c = fine w64 (F (flat c.before)) L (small (flat c.before)) (by (var 0) 11585) tt
 
-returns : tie.Need-returns
+returns : tie.Need-returns-then-c1-c2-eq0
 unfolding rowed puts from
 returns c =
     let t = c.before.before in
     let s = flat t in
     c.spread.ensures
     ∙ ap (λ xs. puts s.args.block.now (place s.args.i 1) (at xs) 8)
-    (ap (replicate 8) (exact w64 (F s) L (small s) (by (var 0) 11585) tt) ∙ sym (lines_flat (F s) (rest_none (F s) (small s) t.if1.true)))
+    (ap (replicate 8) (exact w64 (F s) L (small s) (by (var 0) 11585) tt) ∙ sym (lines_flat (F s) (rest_none (F s) (small s) t.if-c1-c2-eq0.true)))
 
 -- ---- by halves
 
-abbrev start : tie.After-odd → tie.Start
+abbrev start : tie.After-odd-o → tie.Start
 start c = c.before.before.before.before.before.before.before.before.before.before.before
 
-even : (c : tie.After-odd) → c.before.even.result ≡ even_of (F (start c) 0) (F (start c) 2) (F (start c) 4) (F (start c) 6)
-even c = half_is (F (start c)) (small (start c)) even_of 0 2 4 6 c.before.even.ensures
+even : (c : tie.After-odd-o) → c.even-e.result ≡ even_of (F (start c) 0) (F (start c) 2) (F (start c) 4) (F (start c) 6)
+even c = half_is (F (start c)) (small (start c)) even_of 0 2 4 6 c.even-e.ensures
 
-odd : (c : tie.After-odd) → c.odd.result ≡ odd_of (F (start c) 1) (F (start c) 3) (F (start c) 5) (F (start c) 7)
-odd c = half_is (F (start c)) (small (start c)) odd_of 1 3 5 7 c.odd.ensures
+odd : (c : tie.After-odd-o) → c.odd-o.result ≡ odd_of (F (start c) 1) (F (start c) 3) (F (start c) 5) (F (start c) 7)
+odd c = half_is (F (start c)) (small (start c)) odd_of 1 3 5 7 c.odd-o.ensures
 
-returns_2 : tie.Need-returns-2
+returns_2 : tie.Need-returns
 unfolding rowed
 returns_2 c =
     let t = c.before.before in
     let s = start t in
-    c.join-row.ensures ∙ ap (λ xs. puts s.args.block.now (place s.args.i 1) (at xs) 8) (joined_is (F s) (small s) (even t) (odd t))
+    c.join_row.ensures ∙ ap (λ xs. puts s.args.block.now (place s.args.i 1) (at xs) 8) (joined_is (F s) (small s) (even t) (odd t))
 
 pub row_spec : {M : Type 1} → statement M
 row_spec =
@@ -62,27 +62,27 @@ row_spec =
     (tie.spec
     (λ c. omega (arith, c.requires.1))
     (λ c. omega (arith, c.requires.1))
-    (λ c. omega (arith, c.before.requires.1))
-    (λ c. omega (arith, c.before.requires.1))
-    (λ c. omega (arith, c.before.requires.1))
-    (λ c. omega (arith, c.before.before.requires.1))
-    (λ c. omega (arith, c.before.before.requires.1))
-    (λ c. omega (arith, c.before.before.requires.1))
-    (λ c. omega (arith, c.before.before.before.requires.1))
-    (λ c. omega (arith, c.before.before.before.requires.1))
-    (λ c. omega (arith, c.before.before.before.requires.1))
-    (λ c. omega (arith, c.before.before.before.before.requires.1))
-    (λ c. omega (arith, c.before.before.before.before.requires.1))
-    (λ c. omega (arith, c.before.before.before.before.requires.1))
-    (λ c. omega (arith, c.before.before.before.before.before.requires.1))
-    (λ c. omega (arith, c.before.before.before.before.before.requires.1))
-    (λ c. omega (arith, c.before.before.before.before.before.requires.1))
-    (λ c. omega (arith, c.before.before.before.before.before.before.requires.1))
-    (λ c. omega (arith, c.before.before.before.before.before.before.requires.1))
-    (λ c. omega (arith, c.before.before.before.before.before.before.requires.1))
-    (λ c. omega (arith, c.before.before.before.before.before.before.before.requires.1))
-    (λ c. omega (arith, c.before.before.before.before.before.before.before.requires.1))
-    (λ c. omega (arith, c.before.before.before.before.before.before.before.requires.1))
+    (λ c. omega (arith, c.requires.1))
+    (λ c. omega (arith, c.requires.1))
+    (λ c. omega (arith, c.requires.1))
+    (λ c. omega (arith, c.requires.1))
+    (λ c. omega (arith, c.requires.1))
+    (λ c. omega (arith, c.requires.1))
+    (λ c. omega (arith, c.requires.1))
+    (λ c. omega (arith, c.requires.1))
+    (λ c. omega (arith, c.requires.1))
+    (λ c. omega (arith, c.requires.1))
+    (λ c. omega (arith, c.requires.1))
+    (λ c. omega (arith, c.requires.1))
+    (λ c. omega (arith, c.requires.1))
+    (λ c. omega (arith, c.requires.1))
+    (λ c. omega (arith, c.requires.1))
+    (λ c. omega (arith, c.requires.1))
+    (λ c. omega (arith, c.requires.1))
+    (λ c. omega (arith, c.requires.1))
+    (λ c. omega (arith, c.requires.1))
+    (λ c. omega (arith, c.requires.1))
+    (λ c. omega (arith, c.requires.1))
     mul_spread
     (λ c κs. (flat c.before).requires.1)
     returns

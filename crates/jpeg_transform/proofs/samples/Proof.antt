@@ -30,19 +30,19 @@ one_level q l n z e h =
 
 -- the coefficient as the machine reads it back
 back : (r : tie.After-coefficient) → to_z w64 (of_z w64 r.coefficient.result) ≡ r.coefficient.result
-back r = to_z-of_z (fits_abs r.coefficient.ensures.1 tt)
+back r = to_z-of_z {w = w64} (fits_abs r.coefficient.ensures.1 tt)
 
-returns_2 : tie.Need-returns-2
+returns_2 : tie.Need-returns-then-places-eq1
 returns_2 c =
     let r = c.before.before.before.before in
     let s = r.before.before.before.before.before.before.before in
     let q = s.args.quantizer.now in
     let l = s.args.levels.now in
-    c.before.before.flat.ensures
+    c.flat.ensures
     ∙ ap (λ xs. over xs s.args.out.now)
-    (one_level q l s.args.places (to_z w64 (of_z w64 r.coefficient.result)) r.before.before.before.if2.true
-    (back r ∙ r.coefficient.ensures.0 ∙ ap₂ (λ z n. z *ℤ pos n) (to_z-of_z {w = w16} {z = at l 0} (sfits_of r.before.before.coefficient-arg.given)) r.before.byte_at.ensures))
-    ∙ painted_long q l s.args.places s.args.out.now r.before.before.before.before.if1.false
+    (one_level q l s.args.places (to_z w64 (of_z w64 r.coefficient.result)) r.if-places-eq1.true
+    (back r ∙ r.coefficient.ensures.0 ∙ ap₂ (λ z n. z *ℤ pos n) (to_z-of_z {w = w16} {z = at l 0} (sfits_of r.coefficient-arg-1.given)) r.byte_at.ensures))
+    ∙ painted_long q l s.args.places s.args.out.now r.if-out-lt64.false
 
 -- ---- the two passes
 
@@ -52,38 +52,38 @@ two_passes c g e h = ap (λ xs. list_of 64 (λ k. to_byte (at xs k))) (g ∙ ap 
 rows_requires : tie.Need-rows-requires
 rows_requires c κs =
     let s = c.before.before.before.before.before.before.before in
-    let e = c.before.dequantize.ensures in
+    let e = c.dequantize.ensures in
     (ap length e.0 ∙ length_coefficients s.args.quantizer.now s.args.levels.now s.args.places, e.1)
 
 columns_requires : tie.Need-columns-requires
 columns_requires c κs =
     let r = c.before.before in
-    (subst⁻¹ (Within (2 ^ 40)) r.rows.ensures (rows_small r.before.before.dequantize.ensures.1), refl)
+    (subst⁻¹ (Within (2 ^ 40)) r.rows.ensures (rows_small r.dequantize.ensures.1), refl)
 
-returns_3 : tie.Need-returns-3
+returns_3 : tie.Need-returns
 returns_3 c =
     let k = c.before.before.before.before.before in
     let r = k.before.before.before in
     let d = r.before.before in
     let s = d.before.before.before.before.before.before in
-    c.before.before.clamp.ensures
+    c.clamp.ensures
     ∙ ap (λ xs. over xs s.args.out.now) (two_passes (coefficients s.args.quantizer.now (take s.args.places s.args.levels.now)) k.columns.ensures r.rows.ensures d.dequantize.ensures.0)
-    ∙ painted_long s.args.quantizer.now s.args.levels.now s.args.places s.args.out.now d.before.before.before.if1.false
+    ∙ painted_long s.args.quantizer.now s.args.levels.now s.args.places s.args.out.now d.if-out-lt64.false
 
 pub samples_spec : {M : Type 1} → statement M
 samples_spec =
     tie.close
     (tie.spec
-    (λ c. painted_short _ _ _ _ c.if1.true)
+    (λ c. painted_short _ _ _ _ c.if-out-lt64.true)
     (λ c. search rules)
     (λ c κs. search rules)
     (λ c κs. search rules)
-    (λ c κs. (rw (back c.before) c.before.coefficient.ensures.1, c.before.before.before.before.before.if1.false))
+    (λ c κs. (rw (back c.before) c.coefficient.ensures.1, c.if-out-lt64.false))
     (λ c. search rules)
     returns_2
     (λ c κs. search rules)
     rows_requires
     columns_requires
-    (λ c κs. c.before.before.before.before.before.before.before.before.before.before.if1.false)
+    (λ c κs. c.if-out-lt64.false)
     (λ c. search rules)
     returns_3)

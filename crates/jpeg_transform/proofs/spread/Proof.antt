@@ -14,10 +14,10 @@ use Rattle.jpeg_transform.proofs.Stores.{place_is}
 use Rattle.jpeg_transform.proofs.spread.Statement.{statement}
 use Rattle.jpeg_transform.proofs.spread.Tie as tie
 
-abbrev invariant_loop : tie.invariant-loop
+abbrev invariant_loop : tie.invariant-loop-u
 invariant_loop block₀ i v u₀ block u = (u ≤ 8) × (block ≡ puts block₀ (place i 1) (λ k. to_z w64 v) u)
 
-abbrev decreases_loop : tie.decreases-loop
+abbrev decreases_loop : tie.decreases-loop-u
 decreases_loop block₀ i v u₀ block u = 8 - u
 
 -- one place more
@@ -28,21 +28,21 @@ next l i u z = ap (λ j. set (puts l (place i 1) (λ k. z) u) j z) (here ∙ sym
     here : i + u ≡ i + u * 1
     here = omega arith
 
-loop_holds : tie.Need-loop-init invariant_loop decreases_loop
+loop_holds : tie.Need-loop-u-init invariant_loop decreases_loop
 unfolding puts
 loop_holds c = (omega arith, refl)
 
-loop_again : tie.Need-loop-preserved invariant_loop decreases_loop
+loop_again : tie.Need-loop-u-preserved invariant_loop decreases_loop
 loop_again c =
     let a = c.before in
     let s = a.before in
-    (omega arith, ap (λ l. set l (s.args.i + a.loop.u) (to_z w64 (of_z w64 s.args.v))) a.loop.invariant.1 ∙ next s.args.block.now s.args.i a.loop.u (to_z w64 (of_z w64 s.args.v)))
+    (omega arith, ap (λ l. set l (s.args.i + a.loop-u.u) (to_z w64 (of_z w64 s.args.v))) a.loop-u.invariant.1 ∙ next s.args.block.now s.args.i a.loop-u.u (to_z w64 (of_z w64 s.args.v)))
 
 returns : tie.Need-returns invariant_loop decreases_loop
 returns c =
     let a = c.before in
     let s = a.before in
-    a.loop.invariant.1 ∙ ap₂ (λ z n. puts s.args.block.now (place s.args.i 1) (λ k. z) n) (to_z-of_z s.ranges.v) (omega arith)
+    a.loop-u.invariant.1 ∙ ap₂ (λ z n. puts s.args.block.now (place s.args.i 1) (λ k. z) n) (to_z-of_z s.ranges.v) (omega arith)
 
 pub spread_spec : {M : Type 1} → statement M
 spread_spec =
@@ -51,9 +51,9 @@ spread_spec =
     invariant_loop
     decreases_loop
     loop_holds
-    (λ c. omega (arith, c.before.before.requires))
-    (λ c. omega (arith, c.before.before.requires))
-    (λ c. omega (arith, c.before.before.requires))
+    (λ c. omega (arith, c.requires))
+    (λ c. omega (arith, c.requires))
+    (λ c. omega (arith, c.requires))
     (λ c. omega arith)
     (λ c. omega arith)
     loop_again

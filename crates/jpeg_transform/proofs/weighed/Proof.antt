@@ -12,7 +12,7 @@ use Rattle.jpeg_transform.proofs.weighed.Tie as tie
 
 -- where both are told
 abbrev Told : Type 0
-Told = tie.After-struct-told8
+Told = tie.After-struct_told-8-1
 
 abbrev start : Told → tie.Start
 start t = t.before.before.before.before.before.before.before.before
