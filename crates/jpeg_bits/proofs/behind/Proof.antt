@@ -29,34 +29,34 @@ module _ (c : tie.Start) where
   above : 8 ≤ c.args.rest → c.args.byte / 2 ^ c.args.rest % 2 ^ c.args.k ≡ 0
   above h = rw (none_above {x = c.args.byte} (omega (arith, c.ranges.byte)) h) (mod-eq_of_lt (pow_pos c.args.k))
 
-shl_result : tie.Need-overflow-shl-result
+shl_result : tie.Need-overflow_shl-result
 shl_result c = search rules
 
-returns : tie.Need-returns
-returns c = rw (shifted c.before c.before.args.v c.before.requires.0, above c.before c.if1.true) (omega arith)
+returns : tie.Need-returns-then-rest-ge8
+returns c = rw (shifted c.before c.args.v c.requires.0, above c.before c.if-rest-ge8.true) (omega arith)
 
-shr_part : tie.Need-overflow-shr-part
+shr_part : tie.Need-overflow_shr-part
 shr_part c = search rules
 
-shl_part : tie.Need-overflow-shl-part
+shl_part : tie.Need-overflow_shl-part
 shl_part c = search rules
 
-rem_part : tie.Need-nonzero-rem-part
+rem_part : tie.Need-nonzero_rem-part
 rem_part c = positive c.before _ (lit< tt) (lit< tt)
 
-shl_result_2 : tie.Need-overflow-shl-result-2
+shl_result_2 : tie.Need-overflow_shl-result-2
 shl_result_2 c = search rules
 
-add_result : tie.Need-overflow-add-result
+add_result : tie.Need-overflow_add-result
 add_result c =
     let part = part_small c.before (rem_part c) in
-    omega (arith, part, c.before.requires.0, product c.before part, product c.before c.before.requires.0)
+    omega (arith, part, c.requires.0, product c.before part, product c.before c.requires.0)
 
-returns_2 : tie.Need-returns-2
+returns_2 : tie.Need-returns
 returns_2 c =
-    ap₂ (λ p q. p + c.before.args.byte / 2 ^ c.before.args.rest % q)
-    (shifted c.before c.before.args.v c.before.requires.0)
-    (power_is c.before.args.k (omega (arith, c.before.requires.1)))
+    ap₂ (λ p q. p + c.args.byte / 2 ^ c.args.rest % q)
+    (shifted c.before c.args.v c.requires.0)
+    (power_is c.args.k (omega (arith, c.requires.1)))
 
 pub behind_spec : {M : Type 1} → statement M
 behind_spec = tie.close (tie.spec shl_result returns shr_part shl_part rem_part shl_result_2 add_result returns_2)

@@ -6,41 +6,41 @@ use Rattle.jpeg_bits.proofs.Next.{fresh_out, fresh_data, fresh_last, fresh_bare,
 use Rattle.jpeg_bits.proofs.fresh.Statement.{statement}
 use Rattle.jpeg_bits.proofs.fresh.Tie as tie
 
-returns : tie.Need-returns
-returns c = sym (fresh_out c.before.args.s.now c.before.args.at c.if1.true)
+returns : tie.Need-returns-then-s-at
+returns c = sym (fresh_out c.args.s.now c.args.at c.if-s-at.true)
 
-shared_slice_read_x : tie.Need-shared-slice-read-x
+shared_slice_read_x : tie.Need-bounds-s-at
 shared_slice_read_x c = search rules
 
-add_t10 : tie.Need-overflow-add-t10
+add_t10 : tie.Need-overflow_add-result
 add_t10 c = search rules
 
-returns_2 : tie.Need-returns-2
+returns_2 : tie.Need-returns-then-x
 returns_2 c =
-    sym (fresh_data c.before.before.before.args.s.now c.before.before.before.args.at c.before.before.if1.false (omega (arith, c.before.shared-slice-known.given c.before.before.before.args.at)) c.if2.true)
+    sym (fresh_data c.args.s.now c.args.at c.if-s-at.false (omega (arith, c.shared_slice_known-1.given c.args.at)) c.if-x.true)
 
-sub_if3 : tie.Need-overflow-sub-if3
+sub_if3 : tie.Need-overflow_sub-s
 sub_if3 c = search rules
 
-returns_3 : tie.Need-returns-3
-returns_3 c = sym (fresh_last c.before.before.before.before.args.s.now c.before.before.before.before.args.at c.before.before.before.if1.false c.before.if2.false (omega (arith, c.if3.true)))
+returns_3 : tie.Need-returns-then-s-at-lt2
+returns_3 c = sym (fresh_last c.args.s.now c.args.at c.if-s-at.false c.if-x.false (omega (arith, c.if-s-at-lt2.true)))
 
-add_if4 : tie.Need-overflow-add-if4
+add_if4 : tie.Need-overflow_add-at
 add_if4 c = search rules
 
-shared_slice_read_if4 : tie.Need-shared-slice-read-if4
+shared_slice_read_if4 : tie.Need-bounds-s-at-2
 shared_slice_read_if4 c = search rules
 
-returns_4 : tie.Need-returns-4
+returns_4 : tie.Need-returns-then-s-at-ne0
 returns_4 c =
-    sym (fresh_bare c.before.before.before.before.before.before.args.s.now c.before.before.before.before.before.before.args.at c.before.before.before.before.before.if1.false c.before.before.before.if2.false (omega (arith, c.before.before.before.before.before.if1.false, c.before.before.if3.false)) c.if4.true)
+    sym (fresh_bare c.args.s.now c.args.at c.if-s-at.false c.if-x.false (omega (arith, c.if-s-at.false, c.if-s-at-lt2.false)) c.if-s-at-ne0.true)
 
-add_t12 : tie.Need-overflow-add-t12
+add_t12 : tie.Need-overflow_add-result-2
 add_t12 c = search rules
 
-returns_5 : tie.Need-returns-5
+returns_5 : tie.Need-returns
 returns_5 c =
-    sym (fresh_full c.before.before.before.before.before.before.args.s.now c.before.before.before.before.before.before.args.at c.before.before.before.before.before.if1.false c.before.before.before.if2.false (omega (arith, c.before.before.before.before.before.if1.false, c.before.before.if3.false)) c.if4.false)
+    sym (fresh_full c.args.s.now c.args.at c.if-s-at.false c.if-x.false (omega (arith, c.if-s-at.false, c.if-s-at-lt2.false)) c.if-s-at-ne0.false)
 
 pub fresh_spec : {M : Type 1} → statement M
 fresh_spec =

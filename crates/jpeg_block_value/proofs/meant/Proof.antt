@@ -14,7 +14,7 @@ use Rattle.jpeg_block_value.proofs.Meanings.{meaning_low, meaning_high}
 use Rattle.jpeg_block_value.proofs.meant.Statement.{statement}
 use Rattle.jpeg_block_value.proofs.meant.Tie as tie
 
-shl_span : tie.Need-overflow-shl-span
+shl_span : tie.Need-overflow_shl-span
 shl_span c = search rules
 
 module _ (c : tie.Start) where
@@ -33,33 +33,33 @@ module _ (c : tie.Start) where
   spanned : Held w32 (to_z w32 shifted) (pos shifted) 65536
   spanned = plain 65536 (rw span small) tt
 
-mul_if1 : tie.Need-overflow-mul-if1
+mul_if1 : tie.Need-overflow_mul-v
 mul_if1 c = omega (arith, small c)
 
-add_result : tie.Need-overflow-add-result
+add_result : tie.Need-overflow_add-result
 add_result c = search rules
 
-cast_result : tie.Need-overflow-cast-result
+cast_result : tie.Need-overflow_cast-result
 cast_result c = record { sfits = omega (arith, small c.before) }
 
-cast_result_2 : tie.Need-overflow-cast-result-2
+cast_result_2 : tie.Need-overflow_cast-result-then-v-span
 cast_result_2 c = rw (span c.before) (record { sfits = omega (arith, small c.before) })
 
-sub_result : tie.Need-overflow-sub-result
+sub_result : tie.Need-overflow_sub-result
 sub_result c = less_fits (next c.before) (spanned c.before) tt
 
-returns : tie.Need-returns
+returns : tie.Need-returns-then-v-span
 returns c =
     (less (next c.before) (spanned c.before) tt).is
-    ∙ ap (λ (k : ℕ). pos (c.before.args.v + 1) -ℤ pos k) (span c.before)
-    ∙ sym (meaning_low _ _ c.before.requires.1 (rw (span c.before) at c.if1.true))
+    ∙ ap (λ (k : ℕ). pos (c.args.v + 1) -ℤ pos k) (span c.before)
+    ∙ sym (meaning_low _ _ c.requires.1 (rw (span c.before) at c.if-v-span.true))
 
-cast_result_3 : tie.Need-overflow-cast-result-3
+cast_result_3 : tie.Need-overflow_cast-result-2
 cast_result_3 c = record { sfits = omega (arith, small c.before) }
 
-returns_2 : tie.Need-returns-2
+returns_2 : tie.Need-returns
 returns_2 c =
-    to_z_pos w32 (omega (arith, small c.before)) ∙ sym (meaning_high _ _ c.before.requires.1 (rw (span c.before) at c.if1.false))
+    to_z_pos w32 (omega (arith, small c.before)) ∙ sym (meaning_high _ _ c.requires.1 (rw (span c.before) at c.if-v-span.false))
 
 pub meant_spec : {M : Type 1} → statement M
 meant_spec =
