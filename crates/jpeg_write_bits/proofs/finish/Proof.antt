@@ -10,32 +10,32 @@ use borrow.Author.Rules.{rules}
 use Rattle.jpeg_write_bits.proofs.finish.Statement.{statement}
 use Rattle.jpeg_write_bits.proofs.finish.Tie as tie
 
-returns : tie.Need-returns
-returns c = closed_full _ c.if1.true
+returns : tie.Need-returns-then-missing-eq8
+returns c = closed_full _ c.if-missing-eq8.true
 
-power_requires : tie.Need-power-requires
-power_requires c κs = omega (arith, (proper_begun _ c.before.before.requires).few)
+power_requires : tie.Need-power-full-requires
+power_requires c κs = omega (arith, (proper_begun _ c.requires).few)
 
-mul_byte : tie.Need-overflow-mul-byte
-mul_byte c = omega (arith, product_small (proper_begun _ c.before.before.before.before.requires) _ (le_refl _) c.before.power.ensures)
+mul_byte : tie.Need-overflow_mul-byte
+mul_byte c = omega (arith, product_small (proper_begun _ c.requires) _ (le_refl _) c.power-full.ensures)
 
-sub_byte : tie.Need-overflow-sub-byte
-sub_byte c = omega (arith, c.before.power.ensures, pow_pos c.before.before.before.before.args.p.missing)
+sub_byte : tie.Need-overflow_sub-byte
+sub_byte c = omega (arith, c.power-full.ensures, pow_pos c.args.p.missing)
 
-add_byte : tie.Need-overflow-add-byte
-add_byte c = omega (arith, with_ones (proper_begun _ c.before.before.before.before.requires) _ (le_refl _) c.before.power.ensures)
+add_byte : tie.Need-overflow_add-byte
+add_byte c = omega (arith, with_ones (proper_begun _ c.requires) _ (le_refl _) c.power-full.ensures)
 
-cast_put_data : tie.Need-overflow-cast-put-data
-cast_put_data c = omega (arith, with_ones (proper_begun _ c.before.before.before.before.before.requires) _ (le_refl _) c.before.before.power.ensures)
+cast_put_data : tie.Need-overflow_cast-byte
+cast_put_data c = omega (arith, with_ones (proper_begun _ c.requires) _ (le_refl _) c.power-full.ensures)
 
-put_data_requires : tie.Need-put-data-requires
+put_data_requires : tie.Need-put_data-requires
 put_data_requires c κs = search rules
 
-same_length : tie.Need-same-length
+same_length : tie.Need-shape_of-out
 same_length c = search rules
 
-returns_2 : tie.Need-returns-2
-returns_2 c = c.before.before.put-data.ensures ∙ closed_pad _ c.before.before.before.before.before.before.if1.false c.before.before.before.before.before.power.ensures
+returns_2 : tie.Need-returns
+returns_2 c = c.put_data.ensures ∙ closed_pad _ c.if-missing-eq8.false c.power-full.ensures
 
 pub finish_spec : {M : Type 1} → statement M
 finish_spec =

@@ -5,7 +5,7 @@ use Rattle.whole.specs.Powers.{power_is}
 use Rattle.jpeg_write_bits.proofs.power.Statement.{statement}
 use Rattle.jpeg_write_bits.proofs.power.Tie as tie
 
-shl_result : tie.Need-overflow-shl-result
+shl_result : tie.Need-overflow_shl-result
 shl_result c = search rules
 
 returns : tie.Need-returns

@@ -9,27 +9,27 @@ use Rattle.jpeg_write_bits.proofs.put_end.Statement.{statement}
 use Rattle.jpeg_write_bits.proofs.put_end.Tie as tie
 
 -- behind the test
-stands : (c : tie.Else1) → Proper c.before.before.before.args.p
-stands c = sym c.before.proper.ensures ∙ not-false _ c.if1.false
+stands : (c : tie.Else-not-proper) → Proper c.args.p
+stands c = sym c.proper.ensures ∙ not-false _ c.if-not-proper.false-raw
 
 proper_requires : tie.Need-proper-requires
 proper_requires c κs = search rules
 
-returns : tie.Need-returns
-returns c = end_not _ (sym c.before.proper.ensures ∙ not-true _ c.if1.true)
+returns : tie.Need-returns-then-not-proper
+returns c = end_not _ (sym c.proper.ensures ∙ not-true _ c.if-not-proper.true-raw)
 
-finish_requires : tie.Need-finish-requires
+finish_requires : tie.Need-finish-at-requires
 finish_requires c κs = stands c.before
 
-put_marker_requires : tie.Need-put-marker-requires
+put_marker_requires : tie.Need-put_marker-requires
 put_marker_requires c κs = search rules
 
-same_length : tie.Need-same-length
+same_length : tie.Need-shape_of-out
 same_length c = search rules
 
-returns_2 : tie.Need-returns-2
+returns_2 : tie.Need-returns
 returns_2 c =
-    c.before.before.put-marker.ensures ∙ ap (λ (s : Spot). bytes_at s (255 ∷ 217 ∷ [])) c.before.before.before.before.before.before.finish.ensures ∙ end_is _ (stands c.before.before.before.before.before.before.before.before)
+    c.put_marker.ensures ∙ ap (λ (s : Spot). bytes_at s (255 ∷ 217 ∷ [])) c.finish-at.ensures ∙ end_is _ (stands c.before.before.before.before.before.before.before.before)
 
 pub put_end_spec : {M : Type 1} → statement M
 put_end_spec =

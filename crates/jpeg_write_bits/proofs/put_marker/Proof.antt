@@ -6,17 +6,17 @@ use borrow.Author.Rules.{rules}
 use Rattle.jpeg_write_bits.proofs.put_marker.Statement.{statement}
 use Rattle.jpeg_write_bits.proofs.put_marker.Tie as tie
 
-put_byte_requires : tie.Need-put-byte-requires
+put_byte_requires : tie.Need-put_byte-next-requires
 put_byte_requires c κs = search rules
 
-put_byte_requires_2 : tie.Need-put-byte-requires-2
+put_byte_requires_2 : tie.Need-put_byte-requires
 put_byte_requires_2 c κs = search rules
 
-same_length : tie.Need-same-length
+same_length : tie.Need-shape_of-out
 same_length c = search rules
 
 returns : tie.Need-returns
-returns c = c.before.before.put-byte2.ensures ∙ ap (λ (s : Spot). byte_at s c.before.before.before.before.before.before.before.before.before.args.code) c.before.before.before.before.before.before.put_byte.ensures ∙ two_bytes _ _ _
+returns c = c.put_byte.ensures ∙ ap (λ (s : Spot). byte_at s c.args.code) c.put_byte-next.ensures ∙ two_bytes _ _ _
 
 pub put_marker_spec : {M : Type 1} → statement M
 put_marker_spec = tie.close (tie.spec put_byte_requires put_byte_requires_2 same_length returns)
