@@ -8,56 +8,56 @@ use Rattle.jpeg_block.proofs.Steps.{ask_inside, ask_outside}
 use Rattle.jpeg_block.proofs.ask.Statement.{statement}
 use Rattle.jpeg_block.proofs.ask.Tie as tie
 
-returns : tie.Need-returns
+returns : tie.Need-returns-then-x-le11
 unfolding ask_at
-returns c = simp (eq-eqb _ _ c.before.if1.true, le-leb _ _ c.if2.true)
+returns c = simp (eq-eqb _ _ c.if-place-eq0.true, le-leb _ _ c.if-x-le11.true)
 
-returns_2 : tie.Need-returns-2
+returns_2 : tie.Need-returns-then-place-eq0
 unfolding ask_at
-returns_2 c = simp (eq-eqb _ _ c.before.if1.true, lt-leb _ _ c.if2.false)
+returns_2 c = simp (eq-eqb _ _ c.if-place-eq0.true, lt-leb _ _ c.if-x-le11.false)
 
-returns_3 : tie.Need-returns-3
+returns_3 : tie.Need-returns-then-x-eq0
 unfolding ask_at
-returns_3 c = simp (ne_eqb _ _ c.before.if1.false, eq-eqb _ _ c.if3.true)
+returns_3 c = simp (ne_eqb _ _ c.if-place-eq0.false, eq-eqb _ _ c.if-x-eq0.true)
 
-returns_4 : tie.Need-returns-4
+returns_4 : tie.Need-returns-then-place-le48
 unfolding ask_at
 returns_4 c =
-    simp (ne_eqb _ _ c.before.before.before.if1.false, ne_eqb _ _ c.before.before.if3.false, eq-eqb _ _ c.before.if4.true, le-leb _ _ c.if5.true)
+    simp (ne_eqb _ _ c.if-place-eq0.false, ne_eqb _ _ c.if-x-eq0.false, eq-eqb _ _ c.if-x-eq240.true, le-leb _ _ c.if-place-le48.true)
 
-returns_5 : tie.Need-returns-5
+returns_5 : tie.Need-returns-then-x-eq240
 unfolding ask_at
-returns_5 c = simp (ne_eqb _ _ c.before.before.before.if1.false, ne_eqb _ _ c.before.before.if3.false, eq-eqb _ _ c.before.if4.true, lt-leb _ _ c.if5.false)
+returns_5 c = simp (ne_eqb _ _ c.if-place-eq0.false, ne_eqb _ _ c.if-x-eq0.false, eq-eqb _ _ c.if-x-eq240.true, lt-leb _ _ c.if-place-le48.false)
 
-returns_6 : tie.Need-returns-6
+returns_6 : tie.Need-returns-then-size-lt1
 unfolding ask_at
-returns_6 c = simp (ne_eqb _ _ c.before.before.before.if1.false, ne_eqb _ _ c.before.before.if3.false, ne_eqb _ _ c.before.if4.false, lt-leb _ _ c.if6.true)
+returns_6 c = simp (ne_eqb _ _ c.if-place-eq0.false, ne_eqb _ _ c.if-x-eq0.false, ne_eqb _ _ c.if-x-eq240.false, lt-leb _ _ c.if-size-lt1.true)
 
-returns_7 : tie.Need-returns-7
+returns_7 : tie.Need-returns-then-size-gt10
 unfolding ask_at
 returns_7 c =
-    simp (ne_eqb _ _ c.before.before.before.before.if1.false, ne_eqb _ _ c.before.before.before.if3.false, ne_eqb _ _ c.before.before.if4.false, le-leb _ _ c.before.if6.false, lt-leb _ _ c.if7.true)
+    simp (ne_eqb _ _ c.if-place-eq0.false, ne_eqb _ _ c.if-x-eq0.false, ne_eqb _ _ c.if-x-eq240.false, le-leb _ _ c.if-size-lt1.false, lt-leb _ _ c.if-size-gt10.true)
 
-returns_8 : tie.Need-returns-8
+returns_8 : tie.Need-returns-then-place-gt63
 returns_8 c =
     let sized = c.before in
     let other = sized.before.before in
-    sym (ask_outside _ _ other.before.before.if1.false other.before.if3.false other.if4.false sized.before.if6.false sized.if7.false (omega (arith, c.if8.true)))
+    sym (ask_outside _ _ other.if-place-eq0.false other.if-x-eq0.false other.if-x-eq240.false sized.if-size-lt1.false sized.if-size-gt10.false (omega (arith, c.if-place-gt63.true)))
 
-add_if9 : tie.Need-overflow-add-if9
+add_if9 : tie.Need-overflow_add-place
 add_if9 c = search rules
 
-returns_9 : tie.Need-returns-9
+returns_9 : tie.Need-returns-then-place-run-lt64
 returns_9 c =
     let sized = c.before.before in
     let other = sized.before.before in
-    sym (ask_inside _ _ other.before.before.if1.false other.before.if3.false other.if4.false sized.before.if6.false sized.if7.false c.if9.true)
+    sym (ask_inside _ _ other.if-place-eq0.false other.if-x-eq0.false other.if-x-eq240.false sized.if-size-lt1.false sized.if-size-gt10.false c.if-place-run-lt64.true)
 
-returns_10 : tie.Need-returns-10
+returns_10 : tie.Need-returns
 returns_10 c =
     let sized = c.before.before in
     let other = sized.before.before in
-    sym (ask_outside _ _ other.before.before.if1.false other.before.if3.false other.if4.false sized.before.if6.false sized.if7.false c.if9.false)
+    sym (ask_outside _ _ other.if-place-eq0.false other.if-x-eq0.false other.if-x-eq240.false sized.if-size-lt1.false sized.if-size-gt10.false c.if-place-run-lt64.false)
 
 pub ask_spec : {M : Type 1} → statement M
 ask_spec =

@@ -23,13 +23,13 @@ clear_requires c κs = search rules
 walk_requires : tie.Need-walk-requires
 walk_requires c κs = search rules
 
-enum_known_f : tie.Need-enum-known-f
+enum_known_f : tie.Need-enum_known-f
 enum_known_f c = search rules
 
-clear_requires_2 : tie.Need-clear-requires-2
+clear_requires_2 : tie.Need-clear-requires-in-Stop
 clear_requires_2 c κs = search rules
 
-enum_known_q : tie.Need-enum-known-q
+enum_known_q : tie.Need-enum_known-q
 enum_known_q c = search rules
 
 abbrev read : tie.Start → ℤ → Read Bits (List ℤ)
@@ -37,23 +37,23 @@ read c z = block (one c.args.s.now) (table_at c.args.t.now c.args.dc) (table_at 
 
 -- the walk is lent the prediction as bits
 module _ (c : tie.After-walk) where
-  held : read c.before.before.before.before.before.before (to_z w32 (of_z w32 c.before.before.before.before.before.before.args.pred)) ≡ read c.before.before.before.before.before.before c.before.before.before.before.before.before.args.pred
-  held = ap (read c.before.before.before.before.before.before) (to_z-of_z c.before.before.before.before.before.before.ranges.pred)
+  held : read c.before.before.before.before.before.before (to_z w32 (of_z w32 c.args.pred)) ≡ read c.before.before.before.before.before.before c.args.pred
+  held = ap (read c.before.before.before.before.before.before) (to_z-of_z c.ranges.pred)
 
-  answered : c.walk.result ≡ said (read c.before.before.before.before.before.before c.before.before.before.before.before.before.args.pred)
+  answered : c.walk.result ≡ said (read c.before.before.before.before.before.before c.args.pred)
   answered = c.walk.ensures.0 ∙ ap said held
 
-returns : tie.Need-returns
+returns : tie.Need-returns-in-Stop
 returns c =
-    let r : Refused (read c.before.before.before.before.before.before.before.before.before.before.before c.before.before.before.before.before.before.before.before.before.before.before.args.pred) c.before.before.before.f.given.0.0 = told _ (answered c.before.before.before.before.before) c.before.before.before.f.given.1 in
-    (sym c.before.before.before.f.given.1 ∙ answered c.before.before.before.before.before, c.clear2.ensures ∙ sym r.left)
+    let r : Refused (read c.before.before.before.before.before.before.before.before.before c.args.pred) c.in-Stop.f = told _ (answered c.before.before.before) c.in-Stop.is in
+    (sym c.in-Stop.is ∙ answered c.before.before.before, c.clear-in-Stop.ensures ∙ sym r.left)
 
-returns_2 : tie.Need-returns-2
+returns_2 : tie.Need-returns-in-Got
 returns_2 c =
-    let fits : SFits w32 c.before.q.given.0.1.0 = search rules in
-    let r : Taken (read c.before.before.before.before.before.before.before.before.before c.before.before.before.before.before.before.before.before.before.args.pred) c.before.q.given.0.0 c.before.q.given.0.1.0 c.before.q.given.0.1.1.0 = told _ (answered c.before.before.before) c.before.q.given.1 in (
-      ap (λ (z : ℤ). Got c.before.q.given.0.0 z c.before.q.given.0.1.1.0) (to_z-of_z fits) ∙ sym c.before.q.given.1 ∙ answered c.before.before.before,
-      c.before.before.before.walk.ensures.1 ∙ sym (levels_got (held c.before.before.before ∙ r.read) _) ∙ sym r.left,
+    let fits : SFits w32 c.in-Got.first = search rules in
+    let r : Taken (read c.before.before.before.before.before.before.before c.args.pred) c.in-Got.q c.in-Got.first c.in-Got.reach = told _ (answered c.before) c.in-Got.is in (
+      ap (λ (z : ℤ). Got c.in-Got.q z c.in-Got.reach) (to_z-of_z fits) ∙ sym c.in-Got.is ∙ answered c.before,
+      c.walk.ensures.1 ∙ sym (levels_got (held c.before ∙ r.read) _) ∙ sym r.left,
     )
 
 pub block_spec : {M : Type 1} → statement M

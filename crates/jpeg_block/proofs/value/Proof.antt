@@ -22,66 +22,66 @@ use Rattle.jpeg_block.proofs.value.Tie as tie
 amplitude_requires : tie.Need-amplitude-requires
 amplitude_requires c κs = search rules
 
-enum_known_f : tie.Need-enum-known-f
+enum_known_f : tie.Need-enum_known-f
 enum_known_f c = search rules
 
-enum_known_v : tie.Need-enum-known-v
+enum_known_v : tie.Need-enum_known-v
 enum_known_v c = search rules
 
-module _ (c : tie.After-known-told2) where
-  fits : SFits w32 c.before.v.given.0.0
+module _ (c : tie.In-Got) where
+  fits : SFits w32 c.in-Got.v
   fits = search rules
 
-  small : nat_abs c.before.v.given.0.0 < 2048
-  small = value_small _ _ c.before.before.before.before.before.args.at _ c.before.before.before.before.before.args.pred c.before.before.before.before.before.requires c.before.before.before.amplitude.ensures c.before.v.given.1
+  small : nat_abs c.in-Got.v < 2048
+  small = value_small _ _ c.args.at _ c.args.pred c.requires c.amplitude.ensures c.in-Got.is
 
-  small_fits : SFits w16 c.before.v.given.0.0
+  small_fits : SFits w16 c.in-Got.v
   small_fits = fits_abs (le_of_lt small) tt
 
-cast_t13 : tie.Need-overflow-cast-t13
+cast_t13 : tie.Need-overflow_cast-result
 cast_t13 c = rw (to_z-of_z (fits c.before)) (small_fits c.before)
 
-returns : tie.Need-returns
+returns : tie.Need-returns-then-at-ne0
 returns c =
-    ap (λ (z : ℤ). got (puts c.before.before.before.before.before.before.args.at z) c.before.before.v.given.0.1.0) (ap (λ (z : ℤ). to_z w16 (of_z w16 z)) (to_z-of_z (fits c.before)) ∙ to_z-of_z (small_fits c.before))
-    ∙ sym (value_later _ _ _ _ _ c.before.before.before.before.before.before.requires c.before.before.before.before.amplitude.ensures c.before.before.v.given.1 c.if1.true)
+    ap (λ (z : ℤ). got (puts c.args.at z) c.in-Got.q) (ap (λ (z : ℤ). to_z w16 (of_z w16 z)) (to_z-of_z (fits c.before)) ∙ to_z-of_z (small_fits c.before))
+    ∙ sym (value_later _ _ _ _ _ c.requires c.amplitude.ensures c.in-Got.is c.if-at-ne0.true)
 
-cast_sum : tie.Need-overflow-cast-sum
-cast_sum c = widened_fits tt c.before.before.before.before.before.before.ranges.pred
+cast_sum : tie.Need-overflow_cast-sum
+cast_sum c = widened_fits tt c.ranges.pred
 
-cast_sum_2 : tie.Need-overflow-cast-sum-2
+cast_sum_2 : tie.Need-overflow_cast-sum-in-Got
 cast_sum_2 c = widened_fits tt (fits c.before)
 
-add_sum : tie.Need-overflow-add-sum
-add_sum c = plus_fits (widened tt c.before.before.before.before.before.before.ranges.pred) (widened tt (fits c.before)) tt
+add_sum : tie.Need-overflow_add-sum
+add_sum c = plus_fits (widened tt c.ranges.pred) (widened tt (fits c.before)) tt
 
 predictable_requires : tie.Need-predictable-requires
 predictable_requires c κs = search rules
 
 module _ (c : tie.After-predictable) where
-  is : to_z w64 (of_z w64 (to_z w64 (of_z w64 (to_z w32 (of_z w32 c.before.before.before.before.before.before.before.args.pred))) +ℤ to_z w64 (of_z w64 (to_z w32 (of_z w32 c.before.before.before.v.given.0.0))))) ≡ c.before.before.before.before.before.before.before.args.pred +ℤ c.before.before.before.v.given.0.0
-  is = (plus (widened tt c.before.before.before.before.before.before.before.ranges.pred) (widened tt (fits c.before.before)) tt).is
+  is : to_z w64 (of_z w64 (to_z w64 (of_z w64 (to_z w32 (of_z w32 c.args.pred))) +ℤ to_z w64 (of_z w64 (to_z w32 (of_z w32 c.in-Got.v))))) ≡ c.args.pred +ℤ c.in-Got.v
+  is = (plus {w = w64} (widened tt c.ranges.pred) (widened tt (fits c.before.before)) tt).is
 
-  tested : c.predictable.result ≡ predictable (c.before.before.before.before.before.before.before.args.pred +ℤ c.before.before.before.v.given.0.0)
+  tested : c.predictable.result ≡ predictable (c.args.pred +ℤ c.in-Got.v)
   tested = c.predictable.ensures ∙ ap predictable is
 
-sum_level : (c : tie.Then2) → SFits w16 (c.before.before.before.before.before.before.before.before.args.pred +ℤ c.before.before.before.before.v.given.0.0)
-sum_level c = record { sfits = omega (arith, predictable_small (c.before.before.before.before.before.before.before.before.args.pred +ℤ c.before.before.before.before.v.given.0.0) (subst⁻¹ T (sym (tested c.before) ∙ c.if2.true) tt)) }
+sum_level : (c : tie.Then-predictable) → SFits w16 (c.args.pred +ℤ c.in-Got.v)
+sum_level c = record { sfits = omega (arith, predictable_small (c.args.pred +ℤ c.in-Got.v) (subst⁻¹ T (sym (tested c.before) ∙ c.if-predictable.true) tt)) }
 
-cast_t17 : tie.Need-overflow-cast-t17
+cast_t17 : tie.Need-overflow_cast-result-then-predictable
 cast_t17 c = rw (is c.before) (sum_level c)
 
-returns_2 : tie.Need-returns-2
+returns_2 : tie.Need-returns-then-predictable
 returns_2 c =
-    ap (λ (z : ℤ). got (puts c.before.before.before.before.before.before.before.before.args.at z) c.before.before.before.before.v.given.0.1.0) (ap (λ (z : ℤ). to_z w16 (of_z w16 z)) (is c.before) ∙ to_z-of_z (sum_level c))
-    ∙ sym (value_first _ _ _ _ _ c.before.before.before.before.before.before.before.before.requires c.before.before.before.before.before.before.amplitude.ensures c.before.before.before.before.v.given.1 c.before.before.if1.false (sym (tested c.before) ∙ c.if2.true))
+    ap (λ (z : ℤ). got (puts c.args.at z) c.in-Got.q) (ap (λ (z : ℤ). to_z w16 (of_z w16 z)) (is c.before) ∙ to_z-of_z (sum_level c))
+    ∙ sym (value_first _ _ _ _ _ c.requires c.amplitude.ensures c.in-Got.is c.if-at-ne0.false (sym (tested c.before) ∙ c.if-predictable.true))
 
-returns_3 : tie.Need-returns-3
-returns_3 c = sym (value_cut _ _ _ _ _ c.before.before.before.before.before.requires c.before.before.before.amplitude.ensures c.before.f.given.1)
+returns_3 : tie.Need-returns-in-Stop
+returns_3 c = sym (value_cut _ _ _ _ _ c.requires c.amplitude.ensures c.in-Stop.is)
 
-returns_4 : tie.Need-returns-4
+returns_4 : tie.Need-returns-else-predictable
 returns_4 c =
-    sym (value_far _ _ _ _ _ c.before.before.before.before.before.before.before.before.requires c.before.before.before.before.before.before.amplitude.ensures c.before.before.before.before.v.given.1 c.before.before.if1.false (sym (tested c.before) ∙ c.if2.false))
+    sym (value_far _ _ _ _ _ c.requires c.amplitude.ensures c.in-Got.is c.if-at-ne0.false (sym (tested c.before) ∙ c.if-predictable.false))
 
 pub value_spec : {M : Type 1} → statement M
 value_spec =
