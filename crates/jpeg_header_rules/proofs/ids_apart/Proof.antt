@@ -12,15 +12,15 @@ use Rattle.jpeg_header_rules.proofs.ids_apart.Tie as tie
 ids_long : (start : tie.Start) → length start.args.frame.ids ≡ 4
 ids_long start = search rules
 
-up_to_four_requires : tie.Need-up-to-four-requires
+up_to_four_requires : tie.Need-up_to_four-count-requires
 up_to_four_requires c κs = tt
 
-array_share_prefix_ids : tie.Need-array-share-prefix-ids
-array_share_prefix_ids c = omega (arith, ids_long c.before.before, c.up-to-four.ensures)
+array_share_prefix_ids : tie.Need-slice_bounds-ids-end
+array_share_prefix_ids c = omega (arith, ids_long c.before.before, c.up_to_four-count.ensures)
 
-slice_aggregate_apart : tie.Need-slice-aggregate-apart
+slice_aggregate_apart : tie.Need-slice_bounds-apart-end
 slice_aggregate_apart c =
-    let count = c.before.up-to-four in
+    let count = c.up_to_four-count in
     let start = c.before.before.before in
     sym (length-take-le count.result start.args.frame.ids (omega (arith, ids_long start, count.ensures)))
 
@@ -29,7 +29,7 @@ apart_requires c κs = tt
 
 returns : tie.Need-returns
 returns c =
-    let count = c.before.before.up-to-four in
+    let count = c.up_to_four-count in
     let start = c.before.before.before.before in
     let frame = start.args.frame in
     c.apart.ensures ∙ ap apart (first_of_four frame.channels count.result frame.ids count.ensures (ids_long start))

@@ -8,48 +8,48 @@ use Rattle.jpeg_header_rules.proofs.Rules.{ordered_at}
 use Rattle.jpeg_header_rules.proofs.in_order.Statement.{statement}
 use Rattle.jpeg_header_rules.proofs.in_order.Tie as tie
 
-abbrev invariant_loop : tie.invariant-loop
+abbrev invariant_loop : tie.invariant-loop-c
 invariant_loop body ids channels c₀ c = (c ≤ channels) × (each_channel channels (ordered_at body ids) ≡ from_channel (ordered_at body ids) channels c)
 
-abbrev decreases_loop : tie.decreases-loop
+abbrev decreases_loop : tie.decreases-loop-c
 decreases_loop body ids channels c₀ c = channels - c
 
 -- the test over the channels that the body counts, as far as the walk has come
-so_far : (c : tie.At-loop invariant_loop decreases_loop) → in_order c.before.before.before.before.args.body.now c.before.before.before.before.args.ids.now (byte c.before.before.before.before.args.body.now 0) ≡ from_channel (ordered_at c.before.before.before.before.args.body.now c.before.before.before.before.args.ids.now) c.before.byte_at.result c.loop.c
-so_far c = ap (in_order c.before.before.before.before.args.body.now c.before.before.before.before.args.ids.now) (sym c.before.byte_at.ensures) ∙ c.loop.invariant.1
+so_far : (c : tie.At-loop-c invariant_loop decreases_loop) → in_order c.args.body.now c.args.ids.now (byte c.args.body.now 0) ≡ from_channel (ordered_at c.args.body.now c.args.ids.now) c.byte_at-channels.result c.loop-c.c
+so_far c = ap (in_order c.args.body.now c.args.ids.now) (sym c.byte_at-channels.ensures) ∙ c.loop-c.invariant.1
 
-loop_holds : tie.Need-loop-init invariant_loop decreases_loop
-loop_holds c = (omega arith, from_first (ordered_at c.before.before.before.args.body.now c.before.before.before.args.ids.now) c.byte_at.result)
+loop_holds : tie.Need-loop-c-init invariant_loop decreases_loop
+loop_holds c = (omega arith, from_first (ordered_at c.args.body.now c.args.ids.now) c.byte_at-channels.result)
 
-mul_byte_at : tie.Need-overflow-mul-byte-at invariant_loop decreases_loop
-mul_byte_at c = omega (arith, c.loop-test.true, c.before.before.byte_at.ensures, c.before.before.before.before.shared-slice-known.given 0)
+mul_byte_at : tie.Need-overflow_mul-c invariant_loop decreases_loop
+mul_byte_at c = omega (arith, c.loop-c-test.true, c.byte_at-channels.ensures, c.shared_slice_known-1.given 0)
 
-add_byte_at : tie.Need-overflow-add-byte-at invariant_loop decreases_loop
-add_byte_at c = omega (arith, c.loop-test.true, c.before.before.byte_at.ensures, c.before.before.before.before.shared-slice-known.given 0)
+add_byte_at : tie.Need-overflow_add-c invariant_loop decreases_loop
+add_byte_at c = omega (arith, c.loop-c-test.true, c.byte_at-channels.ensures, c.shared_slice_known-1.given 0)
 
-byte_at_requires : tie.Need-byte-at-requires invariant_loop decreases_loop
+byte_at_requires : tie.Need-byte_at-channels-requires invariant_loop decreases_loop
 byte_at_requires c κs = tt
 
-byte_at_requires_2 : tie.Need-byte-at-requires-2 invariant_loop decreases_loop
+byte_at_requires_2 : tie.Need-byte_at-id-requires invariant_loop decreases_loop
 byte_at_requires_2 c κs = tt
 
-entry_at_requires : tie.Need-entry-at-requires invariant_loop decreases_loop
+entry_at_requires : tie.Need-entry_at-requires invariant_loop decreases_loop
 entry_at_requires c κs = tt
 
-returns : tie.Need-returns invariant_loop decreases_loop
-returns c = sym (so_far c.before.before.before.before ∙ from_off (ordered_at c.before.before.before.before.before.before.before.before.args.body.now c.before.before.before.before.before.before.before.before.args.ids.now) c.before.before.before.before.before.byte_at.result c.before.before.before.before.loop.c c.before.before.before.loop-test.true (ne_eqb _ _ (λ q. c.if1.true (c.before.before.byte-at2.ensures ∙ q ∙ sym c.before.entry_at.ensures))))
+returns : tie.Need-returns-then-id-entry_at invariant_loop decreases_loop
+returns c = sym (so_far c.before.before.before.before ∙ from_off (ordered_at c.args.body.now c.args.ids.now) c.byte_at-channels.result c.loop-c.c c.loop-c-test.true (ne_eqb _ _ (λ q. c.if-id-entry_at.true (c.byte_at-id.ensures ∙ q ∙ sym c.entry_at.ensures))))
 
-add_c : tie.Need-overflow-add-c invariant_loop decreases_loop
-add_c c = omega (arith, c.before.before.before.loop-test.true, c.before.before.before.before.before.byte_at.ensures, c.before.before.before.before.before.before.before.shared-slice-known.given 0)
+add_c : tie.Need-overflow_add-c-in-loop-c invariant_loop decreases_loop
+add_c c = omega (arith, c.loop-c-test.true, c.byte_at-channels.ensures, c.shared_slice_known-1.given 0)
 
-loop_less : tie.Need-loop-smaller invariant_loop decreases_loop
-loop_less c = omega (arith, c.before.before.before.loop-test.true)
+loop_less : tie.Need-loop-c-smaller invariant_loop decreases_loop
+loop_less c = omega (arith, c.loop-c-test.true)
 
-loop_again : tie.Need-loop-preserved invariant_loop decreases_loop
-loop_again c = (omega (arith, c.before.before.before.loop-test.true), c.before.before.before.before.loop.invariant.1 ∙ from_on (ordered_at c.before.before.before.before.before.before.before.before.args.body.now c.before.before.before.before.before.before.before.before.args.ids.now) c.before.before.before.before.before.byte_at.result c.before.before.before.before.loop.c c.before.before.before.loop-test.true (eq-eqb _ _ (sym c.before.before.byte-at2.ensures ∙ c.if1.false ∙ c.before.entry_at.ensures)))
+loop_again : tie.Need-loop-c-preserved invariant_loop decreases_loop
+loop_again c = (omega (arith, c.loop-c-test.true), c.loop-c.invariant.1 ∙ from_on (ordered_at c.args.body.now c.args.ids.now) c.byte_at-channels.result c.loop-c.c c.loop-c-test.true (eq-eqb _ _ (sym c.byte_at-id.ensures ∙ c.if-id-entry_at.false ∙ c.entry_at.ensures)))
 
-returns_2 : tie.Need-returns-2 invariant_loop decreases_loop
-returns_2 c = sym (so_far c.before ∙ from_end (ordered_at c.before.before.before.before.before.args.body.now c.before.before.before.before.before.args.ids.now) c.before.before.byte_at.result c.before.loop.c c.loop-test.false)
+returns_2 : tie.Need-returns invariant_loop decreases_loop
+returns_2 c = sym (so_far c.before ∙ from_end (ordered_at c.args.body.now c.args.ids.now) c.byte_at-channels.result c.loop-c.c c.loop-c-test.false)
 
 pub in_order_spec : {M : Type 1} → statement M
 in_order_spec =
