@@ -8,28 +8,28 @@ use Rattle.jpeg_render_pairs.proofs.Paired.{few_cb, few_cr, tinted_long, tinted_
 use Rattle.jpeg_render_pairs.proofs.tinted.Statement.{statement}
 use Rattle.jpeg_render_pairs.proofs.tinted.Tie as tie
 
-returns : tie.Need-returns
-returns c = sym (few_cb _ _ _ _ _ c.if1.true)
+returns : tie.Need-returns-then-cb-lt8
+returns c = sym (few_cb _ _ _ _ _ c.if-cb-lt8.true)
 
-returns_2 : tie.Need-returns-2
-returns_2 c = sym (few_cr _ _ _ _ _ c.before.if1.false c.if2.true)
+returns_2 : tie.Need-returns-then-cr-lt8
+returns_2 c = sym (few_cr _ _ _ _ _ c.if-cb-lt8.false c.if-cr-lt8.true)
 
-returns_3 : tie.Need-returns-3
-returns_3 c = sym (tinted_long _ _ _ _ _ c.before.before.if1.false c.before.if2.false c.if3.true)
+returns_3 : tie.Need-returns-then-n-gt16
+returns_3 c = sym (tinted_long _ _ _ _ _ c.if-cb-lt8.false c.if-cr-lt8.false c.if-n-gt16.true)
 
-mul_if4 : tie.Need-overflow-mul-if4
+mul_if4 : tie.Need-overflow_mul-n
 mul_if4 c = search rules
 
-returns_4 : tie.Need-returns-4
-returns_4 c = sym (tinted_cut _ _ _ _ _ c.before.before.before.if1.false c.before.before.if2.false c.before.if3.false c.if4.true)
+returns_4 : tie.Need-returns-then-out-n
+returns_4 c = sym (tinted_cut _ _ _ _ _ c.if-cb-lt8.false c.if-cr-lt8.false c.if-n-gt16.false c.if-out-n.true)
 
-red_parts_requires : tie.Need-red-parts-requires
+red_parts_requires : tie.Need-red_parts-requires
 red_parts_requires c κs = search rules
 
-green_parts_requires : tie.Need-green-parts-requires
+green_parts_requires : tie.Need-green_parts-requires
 green_parts_requires c κs = search rules
 
-blue_parts_requires : tie.Need-blue-parts-requires
+blue_parts_requires : tie.Need-blue_parts-requires
 blue_parts_requires c κs = search rules
 
 twice_requires : tie.Need-twice-requires
@@ -44,24 +44,24 @@ twice_requires_3 c κs = search rules
 tint_requires : tie.Need-tint-requires
 tint_requires c κs =
     record {
-      red = small_parts (spread_parts c.before.before.before.before.before.before.before.before.before.before.before.before.before.before.before.before.before.red-parts.ensures c.before.before.before.before.before.before.before.before.before.before.twice.ensures);
-      green = small_parts (spread_parts c.before.before.before.before.before.before.before.before.before.before.before.before.before.before.before.green-parts.ensures c.before.before.before.before.before.before.before.twice2.ensures);
-      blue = small_parts (spread_parts c.before.before.before.before.before.before.before.before.before.before.before.before.before.blue-parts.ensures c.before.before.before.before.twice3.ensures);
-      within = c.before.before.before.before.before.before.before.before.before.before.before.before.before.before.before.before.before.before.before.before.if3.false;
-      room = c.before.before.before.before.before.before.before.before.before.before.before.before.before.before.before.before.before.before.before.if4.false;
+      red = small_parts (spread_parts c.red_parts.ensures c.twice.ensures);
+      green = small_parts (spread_parts c.green_parts.ensures c.twice-2.ensures);
+      blue = small_parts (spread_parts c.blue_parts.ensures c.twice-3.ensures);
+      within = c.if-n-gt16.false;
+      room = c.if-out-n.false;
     }
 
-same_length : tie.Need-same-length
+same_length : tie.Need-shape_of-out
 same_length c = search rules
 
-returns_5 : tie.Need-returns-5
+returns_5 : tie.Need-returns
 returns_5 c =
-    pixels_same _ _ _ _ _ _ _ c.before.before.tint.ensures
-    (summed_in_pairs _ _ _ _ _ _ _ c.before.before.before.before.before.before.before.before.before.before.before.before.before.before.before.before.before.before.before.before.before.before.before.if3.false
-    (spread_parts c.before.before.before.before.before.before.before.before.before.before.before.before.before.before.before.before.before.before.before.before.red-parts.ensures c.before.before.before.before.before.before.before.before.before.before.before.before.before.twice.ensures)
-    (spread_parts c.before.before.before.before.before.before.before.before.before.before.before.before.before.before.before.before.before.before.green-parts.ensures c.before.before.before.before.before.before.before.before.before.before.twice2.ensures)
-    (spread_parts c.before.before.before.before.before.before.before.before.before.before.before.before.before.before.before.before.blue-parts.ensures c.before.before.before.before.before.before.before.twice3.ensures))
-    ∙ sym (tinted_drawn _ _ _ _ _ c.before.before.before.before.before.before.before.before.before.before.before.before.before.before.before.before.before.before.before.before.before.before.before.before.before.if1.false c.before.before.before.before.before.before.before.before.before.before.before.before.before.before.before.before.before.before.before.before.before.before.before.before.if2.false c.before.before.before.before.before.before.before.before.before.before.before.before.before.before.before.before.before.before.before.before.before.before.before.if3.false c.before.before.before.before.before.before.before.before.before.before.before.before.before.before.before.before.before.before.before.before.before.before.if4.false)
+    pixels_same _ _ _ _ _ _ _ c.tint.ensures
+    (summed_in_pairs _ _ _ _ _ _ _ c.if-n-gt16.false
+    (spread_parts c.red_parts.ensures c.twice.ensures)
+    (spread_parts c.green_parts.ensures c.twice-2.ensures)
+    (spread_parts c.blue_parts.ensures c.twice-3.ensures))
+    ∙ sym (tinted_drawn _ _ _ _ _ c.if-cb-lt8.false c.if-cr-lt8.false c.if-n-gt16.false c.if-out-n.false)
 
 pub tinted_spec : {M : Type 1} → statement M
 tinted_spec =

@@ -7,7 +7,7 @@ use Rattle.whole.specs.Expressions.{fits_abs}
 use Rattle.jpeg_render_pairs.proofs.wide.Statement.{statement}
 use Rattle.jpeg_render_pairs.proofs.wide.Tie as tie
 
-cast_result : tie.Need-overflow-cast-result
+cast_result : tie.Need-overflow_cast-result
 cast_result c = fits_abs {n = 255} (omega (arith, c.ranges.y)) tt
 
 returns : tie.Need-returns
