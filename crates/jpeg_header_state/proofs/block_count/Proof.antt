@@ -11,36 +11,36 @@ use Rattle.jpeg_header_state.proofs.block_count.Tie as tie
 ok : (c : tie.Start) → Numbers c.args.frame
 ok c = numbers_say c.args.frame c.requires
 
-across_is : (c : tie.After-mcus) → c.mcus.result ≡ mcus_across (shape_of c.before.before.args.frame)
-across_is c = let start = c.before.before in across_counted start.args.frame (ok start) c.before.of.ensures c.mcus.ensures
+across_is : (c : tie.After-mcus-across) → c.mcus-across.result ≡ mcus_across (shape_of c.args.frame)
+across_is c = let start = c.before.before in across_counted start.args.frame (ok start) c.of-mcu.ensures c.mcus-across.ensures
 
-down_is : (c : tie.After-mcus2) → c.mcus2.result ≡ mcus_down (shape_of c.before.before.before.args.frame)
-down_is c = let start = c.before.before.before in down_counted start.args.frame (ok start) c.before.before.of.ensures c.mcus2.ensures
+down_is : (c : tie.After-mcus-down) → c.mcus-down.result ≡ mcus_down (shape_of c.args.frame)
+down_is c = let start = c.before.before.before in down_counted start.args.frame (ok start) c.of-mcu.ensures c.mcus-down.ensures
 
-mcus_are : (c : tie.After-mcus2)
-    → (let shape = shape_of c.before.before.before.args.frame in c.before.mcus.result * c.mcus2.result ≡ mcus_across shape * mcus_down shape)
+mcus_are : (c : tie.After-mcus-down)
+    → (let shape = shape_of c.args.frame in c.mcus-across.result * c.mcus-down.result ≡ mcus_across shape * mcus_down shape)
 mcus_are c = ap₂ (λ (x y : ℕ). x * y) (across_is c.before) (down_is c)
 
-product_is : (c : tie.After-mcus2)
+product_is : (c : tie.After-mcus-down)
     → (let mcu = c.before.before in
-    c.before.mcus.result * c.mcus2.result * mcu.of.result.blocks ≡ block_count (shape_of mcu.before.args.frame))
+    c.mcus-across.result * c.mcus-down.result * mcu.of-mcu.result.blocks ≡ block_count (shape_of mcu.args.frame))
 product_is c =
     let mcu = c.before.before in
-    blocks_counted mcu.before.args.frame (ok mcu.before) mcu.of.ensures (across_is c.before) (down_is c)
+    blocks_counted mcu.args.frame (ok mcu.before) mcu.of-mcu.ensures (across_is c.before) (down_is c)
 
-of_requires : tie.Need-of-requires
+of_requires : tie.Need-of-mcu-requires
 of_requires c κs = tt
 
-mcus_requires : tie.Need-mcus-requires
+mcus_requires : tie.Need-mcus-across-requires
 mcus_requires c κs = tt
 
-mcus_requires_2 : tie.Need-mcus-requires-2
+mcus_requires_2 : tie.Need-mcus-down-requires
 mcus_requires_2 c κs = tt
 
-mul_result : tie.Need-overflow-mul-result
+mul_result : tie.Need-overflow_mul-result
 mul_result c = let start = c.before.before.before in omega (arith, mcus_are c, mcus_small start.args.frame (ok start))
 
-mul_result_2 : tie.Need-overflow-mul-result-2
+mul_result_2 : tie.Need-overflow_mul-result-2
 mul_result_2 c = let start = c.before.before.before.before in omega (arith, product_is c.before, count_small start.args.frame (ok start))
 
 returns : tie.Need-returns

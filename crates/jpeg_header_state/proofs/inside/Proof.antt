@@ -15,11 +15,11 @@ by_difference a n e h = go (leb n (e - a)) refl
     go true p = p ∙ sym (le-leb (a + n) e (omega (arith, h, leb-true n (e - a) p)))
     go false p = p ∙ sym (lt-leb (a + n) e (omega (arith, h, leb-false n (e - a) p)))
 
-returns : tie.Need-returns
-returns c = sym (lt-leb (c.before.args.at + c.before.args.length) c.before.args.end (omega (arith, c.if1.true)))
+returns : tie.Need-returns-then-end-at
+returns c = sym (lt-leb (c.args.at + c.args.length) c.args.end (omega (arith, c.if-end-at.true)))
 
-returns_2 : tie.Need-returns-2
-returns_2 c = by_difference _ _ _ c.if1.false
+returns_2 : tie.Need-returns
+returns_2 c = by_difference _ _ _ c.if-end-at.false
 
 pub inside_spec : {M : Type 1} → statement M
 inside_spec = tie.close (tie.spec returns returns_2)

@@ -14,24 +14,24 @@ use Rattle.jpeg_header_state.proofs.quantizer.Statement.{statement}
 use Rattle.jpeg_header_state.proofs.quantizer.Tie as tie
 
 -- what is left ends with the segment
-whole : (c : tie.Else1) → leb (c.before.before.before.args.state.at + length c.before.before.before.args.body.now) c.before.before.before.args.end ≡ true
-whole c = sym c.before.inside.ensures ∙ not-false _ c.if1.false
+whole : (c : tie.Else-not-inside) → leb (c.args.state.at + length c.args.body.now) c.args.end ≡ true
+whole c = sym c.inside.ensures ∙ not-false _ c.if-not-inside.false-raw
 
-held : (c : tie.Else1) → c.before.before.before.args.state.at + length c.before.before.before.args.body.now ≤ c.before.before.before.args.end
+held : (c : tie.Else-not-inside) → c.args.state.at + length c.args.body.now ≤ c.args.end
 held c = leb-true _ _ (whole c)
 
-known : (c : tie.Else3) → (let body = c.before.before.before.before.before.before.args.body.now in (65 ≤ length body) × (byte body 0 ≤ 3))
-known c = quantizer_known c.before.before.before.before.before.before.args.body.now (so (sym c.before.quantizer-fits.ensures ∙ not-false _ c.if3.false))
+known : (c : tie.Else-not-quantizer_fits) → (let body = c.args.body.now in (65 ≤ length body) × (byte body 0 ≤ 3))
+known c = quantizer_known c.args.body.now (so (sym c.quantizer_fits.ensures ∙ not-false _ c.if-not-quantizer_fits.false-raw))
 
 -- one that fits
 entered :
-    (c : tie.Else3)
-    → (let start = c.before.before.before.before.before.before.args in
+    (c : tie.Else-not-quantizer_fits)
+    → (let start = c.args in
     more (with_quantizer start.body.now start.state) ≡ in_segment start.body.now start.state start.end (quantizer start.body.now start.state start.end))
 entered c =
-    let start = c.before.before.before.before.before.before.args in
-    entry_in start.state start.end (quantizer_fits start.body.now) (with_quantizer start.body.now start.state) c.before.before.if2.false
-    (sym c.before.quantizer-fits.ensures ∙ not-false _ c.if3.false)
+    let start = c.args in
+    entry_in start.state start.end (quantizer_fits start.body.now) (with_quantizer start.body.now start.state) c.if-at-end.false
+    (sym c.quantizer_fits.ensures ∙ not-false _ c.if-not-quantizer_fits.false-raw)
     ∙ segment_holds start.body.now start.state start.end _ (whole c.before.before.before)
 
 inside_requires : tie.Need-inside-requires
@@ -40,11 +40,11 @@ inside_requires c κs = tt
 stop_requires : tie.Need-stop-requires
 stop_requires c κs = tt
 
-returns : tie.Need-returns
+returns : tie.Need-returns-then-not-inside
 returns c =
-    let start = c.before.before.before.before.args in
+    let start = c.args in
     c.stop.ensures ∙ ap stepped
-    (segment_past start.body.now start.state start.end _ (sym c.before.before.inside.ensures ∙ not-true _ c.before.if1.true))
+    (segment_past start.body.now start.state start.end _ (sym c.inside.ensures ∙ not-true _ c.if-not-inside.true-raw))
 
 moved_requires : tie.Need-moved-requires
 moved_requires c κs = tt
@@ -52,54 +52,54 @@ moved_requires c κs = tt
 more_requires : tie.Need-more-requires
 more_requires c κs = tt
 
-returns_2 : tie.Need-returns-2
+returns_2 : tie.Need-returns-then-at-end
 returns_2 c =
-    let start = c.before.before.before.before.before.before.args in
+    let start = c.args in
     c.more.ensures ∙ ap stepped
-    (ap more c.before.moved.ensures
-    ∙ entry_end start.state start.end (quantizer_fits start.body.now) (with_quantizer start.body.now start.state) c.before.before.if2.true
+    (ap more c.moved.ensures
+    ∙ entry_end start.state start.end (quantizer_fits start.body.now) (with_quantizer start.body.now start.state) c.if-at-end.true
     ∙ segment_holds start.body.now start.state start.end _ (whole c.before.before.before))
 
-quantizer_fits_requires : tie.Need-quantizer-fits-requires
+quantizer_fits_requires : tie.Need-quantizer_fits-requires
 quantizer_fits_requires c κs = tt
 
-stop_requires_2 : tie.Need-stop-requires-2
+stop_requires_2 : tie.Need-stop-requires-then-not-quantizer_fits
 stop_requires_2 c κs = tt
 
-returns_3 : tie.Need-returns-3
+returns_3 : tie.Need-returns-then-not-quantizer_fits
 returns_3 c =
-    let start = c.before.before.before.before.before.before.before.args in
-    c.stop2.ensures ∙ ap stepped
-    (entry_bad start.state start.end (quantizer_fits start.body.now) (with_quantizer start.body.now start.state) c.before.before.before.if2.false
-    (sym c.before.before.quantizer-fits.ensures ∙ not-true _ c.before.if3.true)
+    let start = c.args in
+    c.stop-then-not-quantizer_fits.ensures ∙ ap stepped
+    (entry_bad start.state start.end (quantizer_fits start.body.now) (with_quantizer start.body.now start.state) c.if-at-end.false
+    (sym c.quantizer_fits.ensures ∙ not-true _ c.if-not-quantizer_fits.true-raw)
     ∙ segment_holds start.body.now start.state start.end _ (whole c.before.before.before.before))
 
-byte_at_requires : tie.Need-byte-at-requires
+byte_at_requires : tie.Need-byte_at-id-requires
 byte_at_requires c κs = tt
 
-add_replaced : tie.Need-overflow-add-replaced
+add_replaced : tie.Need-overflow_add-at
 add_replaced c =
     let fit = c.before.before.before in
-    omega (arith, held fit.before.before.before, known fit, fit.before.before.before.before.before.before.ranges.end)
+    omega (arith, held fit.before.before.before, known fit, fit.ranges.end)
 
-replaced_requires : tie.Need-replaced-requires
-replaced_requires c κs = omega (arith, known c.before.before.before, c.before.before.byte_at.ensures)
+replaced_requires : tie.Need-replaced-quants-requires
+replaced_requires c κs = omega (arith, known c.before.before.before, c.byte_at-id.ensures)
 
-add_next : tie.Need-overflow-add-next
+add_next : tie.Need-overflow_add-next
 add_next c =
     let fit = c.before.before.before.before in
-    omega (arith, held fit.before.before.before, known fit, fit.before.before.before.before.before.before.ranges.end)
+    omega (arith, held fit.before.before.before, known fit, fit.ranges.end)
 
 more_requires_2 : tie.Need-more-requires-2
 more_requires_2 c κs = tt
 
-returns_4 : tie.Need-returns-4
+returns_4 : tie.Need-returns
 returns_4 c =
     let fit = c.before.before.before.before.before in
-    let start = fit.before.before.before.before.before.before.args in
-    let id = c.before.before.before.before.byte_at.ensures in
-    let stored = c.before.replaced.ensures ∙ ap (λ i. set start.state.tables.quants i (start.state.at + 1)) id in
-    c.more2.ensures ∙ ap stepped (ap more (with_quantizer_lem start.body.now start.state _ stored) ∙ entered fit)
+    let start = fit.args in
+    let id = c.byte_at-id.ensures in
+    let stored = c.replaced-quants.ensures ∙ ap (λ i. set start.state.tables.quants i (start.state.at + 1)) id in
+    c.more-2.ensures ∙ ap stepped (ap more (with_quantizer_lem start.body.now start.state _ stored) ∙ entered fit)
 
 pub quantizer_spec : {M : Type 1} → statement M
 quantizer_spec =

@@ -11,8 +11,8 @@ use Rattle.jpeg_header_state.proofs.tables.Tie as tie
 stop_requires : tie.Need-stop-requires
 stop_requires c κs = tt
 
-returns : tie.Need-returns
-returns c = c.stop.ensures ∙ ap stepped (sym (stop_yes (eqb c.before.before.args.from c.before.before.args.end) Malformed _ (eq-eqb _ _ c.before.if1.true)))
+returns : tie.Need-returns-then-from-end
+returns c = c.stop.ensures ∙ ap stepped (sym (stop_yes (eqb c.args.from c.args.end) Malformed _ (eq-eqb _ _ c.if-from-end.true)))
 
 moved_requires : tie.Need-moved-requires
 moved_requires c κs = tt
@@ -20,11 +20,11 @@ moved_requires c κs = tt
 more_requires : tie.Need-more-requires
 more_requires c κs = tt
 
-returns_2 : tie.Need-returns-2
+returns_2 : tie.Need-returns
 returns_2 c =
     c.more.ensures ∙ ap stepped
-    (ap more c.before.moved.ensures
-    ∙ sym (stop_go (eqb c.before.before.before.args.from c.before.before.before.args.end) Malformed _ (ne_eqb _ _ c.before.before.if1.false)))
+    (ap more c.moved.ensures
+    ∙ sym (stop_go (eqb c.args.from c.args.end) Malformed _ (ne_eqb _ _ c.if-from-end.false)))
 
 pub tables_spec : {M : Type 1} → statement M
 tables_spec =
