@@ -8,48 +8,48 @@ use borrow.Author.Rules.{rules}
 use Rattle.jpeg_scan.proofs.paint.Statement.{statement}
 use Rattle.jpeg_scan.proofs.paint.Tie as tie
 
-returns : tie.Need-returns
-returns c = rw (not-true c.before.before.before.args.write c.if1.true)
+returns : tie.Need-returns-then-not-write
+returns c = rw (not-true c.args.write c.if-not-write.true-raw)
 
-returns_2 : tie.Need-returns-2
+returns_2 : tie.Need-returns-then-scratch-k
 returns_2 c =
-    let a = c.before.before.before.before.args in
-    rw (not-false a.write c.before.if1.false, le-ltb a.k (length a.scratch.now / 64) c.if2.true)
+    let a = c.args in
+    rw (not-false a.write c.if-not-write.false-raw, le-ltb a.k (length a.scratch.now / 64) c.if-scratch-k.true)
 
-room : (c : tie.Else2) → (let a = c.before.before.before.before.args in 64 * a.k + 64 ≤ length a.scratch.now)
-room c = omega (arith, c.if2.false)
+room : (c : tie.Else-scratch-k) → (let a = c.args in 64 * a.k + 64 ≤ length a.scratch.now)
+room c = omega (arith, c.if-scratch-k.false)
 
-mul_a : tie.Need-overflow-mul-a
+mul_a : tie.Need-overflow_mul-a
 mul_a c = omega (arith, room c)
 
-add_e : tie.Need-overflow-add-e
+add_e : tie.Need-overflow_add-e
 add_e c = omega (arith, room c)
 
 quantizer_requires : tie.Need-quantizer-requires
 quantizer_requires c κs = search rules
 
-sub_samples : tie.Need-overflow-sub-samples
+sub_samples : tie.Need-slice_bounds-samples-count
 sub_samples c = search rules
 
-part_samples_start : tie.Need-slice-bounds-samples-start
+part_samples_start : tie.Need-slice_bounds-samples-start
 part_samples_start c = search rules
 
-part_samples_end : tie.Need-slice-bounds-samples-end
+part_samples_end : tie.Need-slice_bounds-samples-end
 part_samples_end c = omega (arith, room c.before)
 
 samples_requires : tie.Need-samples-requires
 samples_requires c κs = search rules
 
-same_length : tie.Need-same-length
+same_length : tie.Need-shape_of-scratch
 same_length c = search rules
 
-returns_3 : tie.Need-returns-3
+returns_3 : tie.Need-returns
 returns_3 c =
-    let tested = c.before.before.before.before.before in
-    let a = tested.before.before.before.before.args in
-    rw (not-false a.write tested.before.if1.false, lt-ltb a.k (length a.scratch.now / 64) tested.if2.false)
-    (painted_part (take 64 (drop a.at a.t.now)) a.levels.now a.reach (64 * a.k) (64 * a.k + 64 - 64 * a.k) a.scratch.now _ (omega arith) (room tested)
-    c.before.before.before.before.quantizer.ensures c.before.before.samples.ensures)
+    let tested = c in
+    let a = tested.args in
+    rw (not-false a.write tested.if-not-write.false-raw, lt-ltb a.k (length a.scratch.now / 64) tested.if-scratch-k.false)
+    (painted_part (take 64 (drop a.at a.t.now)) a.levels.now a.reach (64 * a.k) (64 * a.k + 64 - 64 * a.k) a.scratch.now _ (omega arith) (room tested.before.before.before.before.before)
+    c.quantizer.ensures c.samples.ensures)
 
 pub paint_spec : {M : Type 1} → statement M
 paint_spec =

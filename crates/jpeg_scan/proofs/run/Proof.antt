@@ -32,164 +32,164 @@ decreases_mcus s plan write scratch₀ interval blocks cursor₀ m₀ scratch cu
 nowhere_requires : tie.Need-nowhere-requires invariant_mcus decreases_mcus
 nowhere_requires c κs = search rules
 
-set_up : (c : tie.Else1 invariant_mcus decreases_mcus) → Ready c.before.before.before.before.args.s.now c.before.before.before.before.args.found c.before.before.before.before.args.plan
-set_up c = ready c.before.before.before.before.args.s.now c.before.before.before.before.args.found c.before.before.before.before.requires.0 c.if1.false
+set_up : (c : tie.Else-plan-eq0 invariant_mcus decreases_mcus) → Ready c.args.s.now c.args.found c.args.plan
+set_up c = ready c.args.s.now c.args.found c.requires.0 c.if-plan-eq0.false
 
-returns : tie.Need-returns invariant_mcus decreases_mcus
+returns : tie.Need-returns-then-plan-eq0 invariant_mcus decreases_mcus
 returns c =
-    let a = c.before.before.before.before.before.args in
-    let e = unready a.s.now a.found c.before.before.before.before.before.requires.0 c.before.if1.true in
+    let a = c.args in
+    let e = unready a.s.now a.found c.requires.0 c.if-plan-eq0.true in
     (ap Stop c.nowhere.ensures ∙ answer_stop e, left_stop a.s.now a.found a.write _ _ e (λ t. refl))
 
-blocks_are : (c : tie.Else1 invariant_mcus decreases_mcus) → c.before.before.before.before.args.plan.blocks ≡ c.before.before.before.before.args.found.blocks
+blocks_are : (c : tie.Else-plan-eq0 invariant_mcus decreases_mcus) → c.args.plan.blocks ≡ c.args.found.blocks
 blocks_are c = ap (λ (n : Plan). n.blocks) (set_up c).plan_is
 
-room : (c : tie.Else1 invariant_mcus decreases_mcus)
-    → (let a = c.before.before.before.before.args in a.write ≡ true → 64 * a.plan.blocks ≤ length a.scratch.now)
-room c t = omega (arith, c.before.before.before.before.requires.1 t, blocks_are c)
+room : (c : tie.Else-plan-eq0 invariant_mcus decreases_mcus)
+    → (let a = c.args in a.write ≡ true → 64 * a.plan.blocks ≤ length a.scratch.now)
+room c t = omega (arith, c.requires.1 t, blocks_are c)
 
-fresh_requires : tie.Need-fresh-requires invariant_mcus decreases_mcus
+fresh_requires : tie.Need-fresh-cursor-requires invariant_mcus decreases_mcus
 fresh_requires c κs = search rules
 
 mcus_holds : tie.Need-mcus-init invariant_mcus decreases_mcus
-mcus_holds c = begin _ _ _ _ _ (ap (λ (q : ScanCursor). q.done) c.fresh.ensures)
+mcus_holds c = begin _ _ _ _ _ (ap (λ (q : ScanCursor). q.done) c.fresh-cursor.ensures)
 
-at_end_requires : tie.Need-at-end-requires invariant_mcus decreases_mcus
+at_end_requires : tie.Need-at_end-requires invariant_mcus decreases_mcus
 at_end_requires c κs = search rules
 
 broke_requires : tie.Need-broke-requires invariant_mcus decreases_mcus
 broke_requires c κs = search rules
 
-restart_requires : tie.Need-restart-requires invariant_mcus decreases_mcus
+restart_requires : tie.Need-restart-a-requires invariant_mcus decreases_mcus
 restart_requires c κs = search rules
 
-enum_known_h : tie.Need-enum-known-h invariant_mcus decreases_mcus
+enum_known_h : tie.Need-enum_known-h invariant_mcus decreases_mcus
 enum_known_h c = search rules
 
-broke_requires_2 : tie.Need-broke-requires-2 invariant_mcus decreases_mcus
+broke_requires_2 : tie.Need-broke-requires-in-Yes invariant_mcus decreases_mcus
 broke_requires_2 c κs = search rules
 
-enum_told : tie.Need-enum-told invariant_mcus decreases_mcus
+enum_told : tie.Need-enum_told-1 invariant_mcus decreases_mcus
 enum_told c = search rules
 
-mcu_requires : tie.Need-mcu-requires invariant_mcus decreases_mcus
+mcu_requires : tie.Need-mcu-b-requires invariant_mcus decreases_mcus
 mcu_requires c κs =
-    let turn = c.before.before.before.before.before.before in
+    let turn = c.before.before.before.before.before in
     let begun = turn.before.before in
-    ((set_up begun).inside, λ t. omega (arith, room begun t, turn.mcus.invariant.size))
+    ((set_up begun.before).inside, λ t. omega (arith, room begun.before t, turn.mcus.invariant.size))
 
-enum_known_g : tie.Need-enum-known-g invariant_mcus decreases_mcus
+enum_known_g : tie.Need-enum_known-g invariant_mcus decreases_mcus
 enum_known_g c = search rules
 
-broke_in_requires : tie.Need-broke-in-requires invariant_mcus decreases_mcus
+broke_in_requires : tie.Need-broke_in-requires invariant_mcus decreases_mcus
 broke_in_requires c κs = search rules
 
-enum_told_2 : tie.Need-enum-told-2 invariant_mcus decreases_mcus
+enum_told_2 : tie.Need-enum_told-in-No-g invariant_mcus decreases_mcus
 enum_told_2 c = search rules
 
 limit : (c : tie.Start invariant_mcus decreases_mcus) → c.args.found.blocks < 2 ^ 64
-limit c = omega (arith, c.well-formed.1.0.1.1.1.1.1.1.0)
+limit c = omega (arith, c.well_formed.1.0.1.1.1.1.1.1.0)
 
-add_m : tie.Need-overflow-add-m invariant_mcus decreases_mcus
+add_m : tie.Need-overflow_add-m invariant_mcus decreases_mcus
 add_m c =
-    let tested = c.before.before.before.before.before.before.before.before.before.before in
-    let w = tested.before.before.mcus in
+    let tested = c.before.before.before.before.before.before.before.before in
+    let w = tested.mcus in
     let u = tested.before.before.before.before in
     omega (
       arith,
-      le-mul_of_pos_right w.m (set_up u).numbers.some,
-      at_mcu w.invariant tested.if2.false,
-      tested.if2.false,
-      blocks_are u,
-      limit u.before.before.before.before,
+      le-mul_of_pos_right w.m (set_up u.before).numbers.some,
+      at_mcu w.invariant tested.if-blocks-cursor.false,
+      tested.if-blocks-cursor.false,
+      blocks_are u.before,
+      limit u.before.before.before.before.before,
     )
 
 mcus_less : tie.Need-mcus-smaller invariant_mcus decreases_mcus
 mcus_less c =
-    let passed = c.before.before.before.before.before in
+    let passed = c.before.before.before.before in
     let told = passed.before.before in
-    let restarting = told.before.before in
-    let tested = restarting.before in
-    let walk = tested.before.before in
-    let st = (set_up walk.before.before).numbers in
+    let restarting = told.before in
+    let tested = restarting in
+    let walk = tested.before in
+    let st = (set_up walk.before.before.before.before.before).numbers in
     let more =
-    gained walk.mcus.invariant tested.if2.false restarting.restart.ensures told.enum_told.given.1 passed.mcu.ensures _ st
-    c.before.enum-told2.given.1 in
-    omega (arith, more, tested.if2.false, st.some)
+    gained walk.mcus.invariant tested.if-blocks-cursor.false restarting.restart-a.ensures told.in-No.is passed.mcu-b.ensures _ st
+    c.in-No-g.is in
+    omega (arith, more, tested.if-blocks-cursor.false, st.some)
 
 mcus_again : tie.Need-mcus-preserved invariant_mcus decreases_mcus
 mcus_again c =
-    let passed = c.before.before.before.before.before in
+    let passed = c.before.before.before.before in
     let told = passed.before.before in
-    let restarting = told.before.before in
-    let tested = restarting.before in
-    let walk = tested.before.before in
-    further walk.mcus.invariant tested.if2.false restarting.restart.ensures told.enum_told.given.1 passed.mcu.ensures _
-    (set_up walk.before.before).numbers c.before.enum-told2.given.1
+    let restarting = told.before in
+    let tested = restarting in
+    let walk = tested.before in
+    further walk.mcus.invariant tested.if-blocks-cursor.false restarting.restart-a.ensures told.in-No.is passed.mcu-b.ensures _
+    (set_up walk.before.before.before.before.before).numbers c.in-No-g.is
 
-same_length : tie.Need-same-length invariant_mcus decreases_mcus
-same_length c = c.before.before.before.before.mcus.invariant.size
+same_length : tie.Need-shape_of-scratch-then-at_end invariant_mcus decreases_mcus
+same_length c = c.mcus.invariant.size
 
 -- the blocks of the scan, from the cursor that the code starts with
-from_start : (c : tie.After-fresh invariant_mcus decreases_mcus) {o : Scanned (Cursor Bits) (List (List ℤ))}
-    → (let a = c.before.before.before.before.before.args in ahead a.s.now (plan_of a.s.now a.found) a.plan.blocks c.fresh.result ≡ o)
-    → (let a = c.before.before.before.before.before.args in ahead a.s.now (plan_of a.s.now a.found) a.found.blocks (at_start a.found.start) ≡ o)
+from_start : (c : tie.After-fresh-cursor invariant_mcus decreases_mcus) {o : Scanned (Cursor Bits) (List (List ℤ))}
+    → (let a = c.args in ahead a.s.now (plan_of a.s.now a.found) a.plan.blocks c.fresh-cursor.result ≡ o)
+    → (let a = c.args in ahead a.s.now (plan_of a.s.now a.found) a.found.blocks (at_start a.found.start) ≡ o)
 from_start c e =
-    let a = c.before.before.before.before.before.args in
+    let a = c.args in
     ap (λ (n : Plan). ahead a.s.now (plan_of a.s.now a.found) n.blocks (at_start n.start)) (sym (set_up c.before).plan_is)
-    ∙ ap (ahead a.s.now (plan_of a.s.now a.found) c.before.before.before.before.before.args.plan.blocks) (sym c.fresh.ensures) ∙ e
+    ∙ ap (ahead a.s.now (plan_of a.s.now a.found) c.args.plan.blocks) (sym c.fresh-cursor.ensures) ∙ e
 
-returns_2 : tie.Need-returns-2 invariant_mcus decreases_mcus
+returns_2 : tie.Need-returns-then-at_end invariant_mcus decreases_mcus
 returns_2 c =
-    let a = c.before.before.before.before.before.before.before.before.before.before.args in
-    let w = c.before.before.before.before.mcus.invariant in
-    let u = set_up c.before.before.before.before.before.before in
+    let a = c.args in
+    let w = c.mcus.invariant in
+    let u = set_up c.before.before.before.before.before.before.before in
     let e = scan_done a.s.now a.found u.readable_is
-    (from_start c.before.before.before.before.before (all_read w _ u.numbers c.before.before.if2.true)) (sym c.before.at-end.ensures ∙ c.if3.true) in
+    (from_start c.before.before.before.before.before.before (all_read w _ u.numbers c.if-blocks-cursor.true)) (sym c.at_end.ensures ∙ c.if-at_end.true) in
     (answer_done e, left_done a.s.now a.found a.write _ e ((w.on _ u.numbers).here _ u.quantizers))
 
-same_length_2 : tie.Need-same-length-2 invariant_mcus decreases_mcus
-same_length_2 c = c.before.before.before.before.before.mcus.invariant.size
+same_length_2 : tie.Need-shape_of-scratch-else-at_end invariant_mcus decreases_mcus
+same_length_2 c = c.mcus.invariant.size
 
-returns_3 : tie.Need-returns-3 invariant_mcus decreases_mcus
+returns_3 : tie.Need-returns-else-at_end invariant_mcus decreases_mcus
 returns_3 c =
-    let a = c.before.before.before.before.before.before.before.before.before.before.before.args in
-    let w = c.before.before.before.before.before.mcus.invariant in
-    let u = set_up c.before.before.before.before.before.before.before in
-    let all = from_start c.before.before.before.before.before.before (all_read w _ u.numbers c.before.before.before.if2.true) in
-    let e = scan_open a.s.now a.found u.readable_is all (sym c.before.before.at-end.ensures ∙ c.before.if3.false) in
+    let a = c.args in
+    let w = c.mcus.invariant in
+    let u = set_up c.before.before.before.before.before.before.before.before in
+    let all = from_start c.before.before.before.before.before.before.before (all_read w _ u.numbers c.if-blocks-cursor.true) in
+    let e = scan_open a.s.now a.found u.readable_is all (sym c.at_end.ensures ∙ c.if-at_end.false) in
     (ap Stop c.broke.ensures ∙ answer_stop e, left_stop a.s.now a.found a.write _ _ e (unchanged w _ u.numbers))
 
-same_length_3 : tie.Need-same-length-3 invariant_mcus decreases_mcus
-same_length_3 c = c.before.before.before.before.before.before.before.mcus.invariant.size
+same_length_3 : tie.Need-shape_of-scratch-in-Yes invariant_mcus decreases_mcus
+same_length_3 c = c.mcus.invariant.size
 
-returns_4 : tie.Need-returns-4 invariant_mcus decreases_mcus
+returns_4 : tie.Need-returns-in-Yes invariant_mcus decreases_mcus
 returns_4 c =
-    let a = c.before.before.before.before.before.before.before.before.before.before.before.before.before.args in
-    let w = c.before.before.before.before.before.before.before.mcus.invariant in
-    let u = set_up c.before.before.before.before.before.before.before.before.before in
-    let restarting = c.before.before.before.before in
-    let broke-there = stopped w restarting.before.if2.false restarting.restart.ensures _ u.numbers c.before.before.h.given.1 in
-    let e = scan_stop a.s.now a.found u.readable_is (from_start c.before.before.before.before.before.before.before.before broke-there) in
-    (ap Stop c.broke2.ensures ∙ answer_stop e, left_stop a.s.now a.found a.write _ _ e (unchanged w _ u.numbers))
+    let a = c.args in
+    let w = c.mcus.invariant in
+    let u = set_up c.before.before.before.before.before.before.before in
+    let restarting = c.before.before in
+    let broke-there = stopped w restarting.if-blocks-cursor.false restarting.restart-a.ensures _ u.numbers c.in-Yes.is in
+    let e = scan_stop a.s.now a.found u.readable_is (from_start c.before.before.before.before.before.before broke-there) in
+    (ap Stop c.broke-in-Yes.ensures ∙ answer_stop e, left_stop a.s.now a.found a.write _ _ e (unchanged w _ u.numbers))
 
-same_length_4 : tie.Need-same-length-4 invariant_mcus decreases_mcus
+same_length_4 : tie.Need-shape_of-scratch-in-Yes-g invariant_mcus decreases_mcus
 same_length_4 c =
-    let blocks_read = c.before.before.before.before.before.before in
-    blocks_read.mcu.ensures.size ∙ blocks_read.before.before.before.before.before.before.before.mcus.invariant.size
+    let blocks_read = c.before.before.before.before in
+    blocks_read.mcu-b.ensures.size ∙ blocks_read.mcus.invariant.size
 
-returns_5 : tie.Need-returns-5 invariant_mcus decreases_mcus
+returns_5 : tie.Need-returns-in-Yes-g invariant_mcus decreases_mcus
 returns_5 c =
-    let a = c.before.before.before.before.before.before.before.before.before.before.before.before.before.before.before.before.before.before.before.args in
-    let u = set_up c.before.before.before.before.before.before.before.before.before.before.before.before.before.before.before in
-    let blocks_read = c.before.before.before.before.before.before in
-    let restarting = c.before.before.before.before.before.before.before.before.before.before in
-    let walk = c.before.before.before.before.before.before.before.before.before.before.before.before.before in
+    let a = c.args in
+    let u = set_up c.before.before.before.before.before.before.before.before.before.before.before.before.before.before in
+    let blocks_read = c.before.before.before.before in
+    let restarting = c.before.before.before.before.before.before.before.before in
+    let walk = c.before.before.before.before.before.before.before.before.before.before in
     let b =
-    broken walk.mcus.invariant restarting.before.if2.false restarting.restart.ensures c.before.before.before.before.before.before.before.before.enum_told.given.1
-    blocks_read.mcu.ensures _ u.numbers c.before.before.g.given.1 in
-    let e = scan_stop a.s.now a.found u.readable_is (from_start walk.before b.0) in
-    (ap Stop c.broke-in.ensures ∙ answer_stop e, left_stop a.s.now a.found a.write _ _ e b.1)
+    broken walk.mcus.invariant restarting.if-blocks-cursor.false restarting.restart-a.ensures c.in-No.is
+    blocks_read.mcu-b.ensures _ u.numbers c.in-Yes-g.is in
+    let e = scan_stop a.s.now a.found u.readable_is (from_start walk.before.before.before b.0) in
+    (ap Stop c.broke_in.ensures ∙ answer_stop e, left_stop a.s.now a.found a.write _ _ e b.1)
 
 pub run_spec : {M : Type 1} → statement M
 run_spec =
