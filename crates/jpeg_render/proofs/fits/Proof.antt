@@ -11,35 +11,35 @@ use Rattle.jpeg_render.proofs.fits.Statement.{statement}
 use Rattle.jpeg_render.proofs.fits.Tie as tie
 
 -- behind the first test
-is_framed : (c : tie.Else1) → framed c.before.before.args.frame ≡ true
-is_framed c = sym c.before.framed.ensures ∙ not-false _ c.if1.false
+is_framed : (c : tie.Else-not-framed) → framed c.args.frame ≡ true
+is_framed c = sym c.framed.ensures ∙ not-false _ c.if-not-framed.false-raw
 
 framed_requires : tie.Need-framed-requires
 framed_requires c κs = c.requires
 
-returns : tie.Need-returns
+returns : tie.Need-returns-then-not-framed
 unfolding fits
-returns c = rw (sym c.before.framed.ensures ∙ not-true _ c.if1.true)
+returns c = rw (sym c.framed.ensures ∙ not-true _ c.if-not-framed.true-raw)
 
-mul_if2 : tie.Need-overflow-mul-if2
+mul_if2 : tie.Need-overflow_mul-frame
 mul_if2 c = omega (arith, pixels_most _ (framed_sized _ (is_framed c.before)))
 
-mul_if2_2 : tie.Need-overflow-mul-if2-2
+mul_if2_2 : tie.Need-overflow_mul-frame-2
 mul_if2_2 c = omega (arith, bytes_most _ (framed_sized _ (is_framed c.before.before)))
 
-returns_2 : tie.Need-returns-2
+returns_2 : tie.Need-returns-then-room-frame
 unfolding fits
-returns_2 c = rw (is_framed c.before.before.before, lt-leb _ _ c.if2.true)
+returns_2 c = rw (is_framed c.before.before.before, lt-leb _ _ c.if-room-frame.true)
 
-all_samples_requires : tie.Need-all-samples-requires
-all_samples_requires c κs = (framed_sized _ (is_framed c.before.before.before), c.before.before.before.before.before.requires)
+all_samples_requires : tie.Need-all_samples-requires
+all_samples_requires c κs = (framed_sized _ (is_framed c.before.before.before), c.requires)
 
-returns_3 : tie.Need-returns-3
+returns_3 : tie.Need-returns
 unfolding fits
 returns_3 c =
     let place = c.before.before.before.before in
     let start = place.before.before in
-    rw (is_framed place, le-leb _ _ c.before.if2.false) (ap (λ n. leb n start.args.samples) c.all-samples.ensures)
+    rw (is_framed place, le-leb _ _ c.if-room-frame.false) (ap (λ n. leb n start.args.samples) c.all_samples.ensures)
 
 pub fits_spec : {M : Type 1} → statement M
 fits_spec =

@@ -10,20 +10,20 @@ use Rattle.jpeg_render.specs.Rendered.{framed}
 use Rattle.jpeg_render.proofs.framed.Statement.{statement}
 use Rattle.jpeg_render.proofs.framed.Tie as tie
 
-is_sampled : (c : tie.Else1) → sampled c.before.before.args.frame ≡ true
-is_sampled c = measured_some _ (λ e. c.if1.false (ap (λ (k : Mcu). k.blocks) c.before.before.requires ∙ e))
+is_sampled : (c : tie.Else-m-eq0) → sampled c.args.frame ≡ true
+is_sampled c = measured_some _ (λ e. c.if-m-eq0.false (ap (λ (k : Mcu). k.blocks) c.requires ∙ e))
 
-returns : tie.Need-returns
+returns : tie.Need-returns-then-m-eq0
 unfolding framed
-returns c = rw (measured_none _ (sym (ap (λ (k : Mcu). k.blocks) c.before.before.requires) ∙ c.if1.true))
+returns c = rw (measured_none _ (sym (ap (λ (k : Mcu). k.blocks) c.requires) ∙ c.if-m-eq0.true))
 
-returns_2 : tie.Need-returns-2
+returns_2 : tie.Need-returns-then-frame-gt-SIDE
 unfolding framed
-returns_2 c = rw (is_sampled c.before.before, lt-leb _ _ c.if2.true)
+returns_2 c = rw (is_sampled c.before.before, lt-leb _ _ c.if-frame-gt-SIDE.true)
 
-returns_3 : tie.Need-returns-3
+returns_3 : tie.Need-returns
 unfolding framed
-returns_3 c = rw (is_sampled c.before.before.before, le-leb _ _ c.before.if2.false)
+returns_3 c = rw (is_sampled c.before.before.before, le-leb _ _ c.if-frame-gt-SIDE.false)
 
 pub framed_spec : {M : Type 1} → statement M
 framed_spec =

@@ -10,32 +10,32 @@ use Rattle.jpeg_render.proofs.layout.all_samples.Statement.{statement}
 use Rattle.jpeg_render.proofs.layout.all_samples.Tie as tie
 
 -- the MCUs of a picture, and its blocks, in the rules' words
-mcus_are : (c : tie.After-mcus2)
-    → c.before.mcus.result * c.mcus2.result
-    ≡ mcus_across (shape_of c.before.before.args.frame) * mcus_down (shape_of c.before.before.args.frame)
+mcus_are : (c : tie.After-mcus-down)
+    → c.mcus-across.result * c.mcus-down.result
+    ≡ mcus_across (shape_of c.args.frame) * mcus_down (shape_of c.args.frame)
 mcus_are c =
     let start = c.before.before in
-    ap₂ (λ (x y : ℕ). x * y) (across_asked _ start.requires.0 start.requires.1 c.before.mcus.ensures) (down_asked _ start.requires.0 start.requires.1 c.mcus2.ensures)
+    ap₂ (λ (x y : ℕ). x * y) (across_asked _ start.requires.0 start.requires.1 c.mcus-across.ensures) (down_asked _ start.requires.0 start.requires.1 c.mcus-down.ensures)
 
-product_is : (c : tie.After-mcus2)
-    → c.before.mcus.result * c.mcus2.result * c.before.before.args.m.blocks
-    ≡ mcus_across (shape_of c.before.before.args.frame) * mcus_down (shape_of c.before.before.args.frame) * areas (shape_of c.before.before.args.frame).factors
-product_is c = ap₂ (λ (x y : ℕ). x * y) (mcus_are c) (blocks_is _ c.before.before.requires.0 c.before.before.requires.1)
+product_is : (c : tie.After-mcus-down)
+    → c.mcus-across.result * c.mcus-down.result * c.args.m.blocks
+    ≡ mcus_across (shape_of c.args.frame) * mcus_down (shape_of c.args.frame) * areas (shape_of c.args.frame).factors
+product_is c = ap₂ (λ (x y : ℕ). x * y) (mcus_are c) (blocks_is _ c.requires.0 c.requires.1)
 
-mcus_requires : tie.Need-mcus-requires
+mcus_requires : tie.Need-mcus-across-requires
 mcus_requires c κs = search rules
 
-mcus_requires_2 : tie.Need-mcus-requires-2
+mcus_requires_2 : tie.Need-mcus-down-requires
 mcus_requires_2 c κs = search rules
 
-mul_result : tie.Need-overflow-mul-result
-mul_result c = omega (arith, mcus_are c, mcus_most _ c.before.before.requires.0)
+mul_result : tie.Need-overflow_mul-result
+mul_result c = omega (arith, mcus_are c, mcus_most _ c.requires.0)
 
-mul_result_2 : tie.Need-overflow-mul-result-2
-mul_result_2 c = omega (arith, product_is c.before, blocks_most _ c.before.before.before.requires.0)
+mul_result_2 : tie.Need-overflow_mul-result-2
+mul_result_2 c = omega (arith, product_is c.before, blocks_most _ c.requires.0)
 
-mul_result_3 : tie.Need-overflow-mul-result-3
-mul_result_3 c = omega (arith, product_is c.before, blocks_most _ c.before.before.before.requires.0)
+mul_result_3 : tie.Need-overflow_mul-result-3
+mul_result_3 c = omega (arith, product_is c.before, blocks_most _ c.requires.0)
 
 returns : tie.Need-returns
 unfolding block_count per_mcu

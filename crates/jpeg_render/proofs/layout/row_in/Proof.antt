@@ -18,25 +18,25 @@ across c =
     let block : c.args.v * c.args.down / c.args.largest / 8 ≤ 16 = omega (arith, own) in
     mul-le-mul {n₂ = 16} {m₂ = 4} block c.requires.wide
 
-mul_own : tie.Need-overflow-mul-own
+mul_own : tie.Need-overflow_mul-own
 mul_own c = omega (arith, product c)
 
-div_own : tie.Need-nonzero-div-own
+div_own : tie.Need-nonzero_div-own
 div_own c = search rules
 
-mul_result : tie.Need-overflow-mul-result
+mul_result : tie.Need-overflow_mul-result
 mul_result c = omega (arith, across c)
 
-add_result : tie.Need-overflow-add-result
+add_result : tie.Need-overflow_add-result
 add_result c = omega (arith, across c, c.requires.few)
 
-mul_result_2 : tie.Need-overflow-mul-result-2
+mul_result_2 : tie.Need-overflow_mul-result-2
 mul_result_2 c = omega (arith, across c, c.requires.few)
 
-mul_result_3 : tie.Need-overflow-mul-result-3
+mul_result_3 : tie.Need-overflow_mul-result-3
 mul_result_3 c = search rules
 
-add_result_2 : tie.Need-overflow-add-result-2
+add_result_2 : tie.Need-overflow_add-result-2
 add_result_2 c = omega (arith, across c, c.requires.few)
 
 returns : tie.Need-returns

@@ -8,39 +8,39 @@ use Rattle.jpeg_render.proofs.Mcus.{few_pixels, lists_2}
 use Rattle.jpeg_render.proofs.render.any_2.Statement.{statement}
 use Rattle.jpeg_render.proofs.render.any_2.Tie as tie
 
-element_copy_out_spread : tie.Need-element-copy-out-spread
+element_copy_out_spread : tie.Need-bounds-places-0
 element_copy_out_spread c = search rules
 
-add_spread : tie.Need-overflow-add-spread
-add_spread c = omega (arith, c.before.before.before.requires.lanes 0 (omega arith), c.before.before.before.well-formed)
+add_spread : tie.Need-overflow_add-places
+add_spread c = omega (arith, c.requires.lanes 0 (omega arith), c.well_formed)
 
-element_copy_out_spread_2 : tie.Need-element-copy-out-spread-2
+element_copy_out_spread_2 : tie.Need-bounds-across-0
 element_copy_out_spread_2 c = search rules
 
 spread_requires : tie.Need-spread-requires
-spread_requires c κs = (c.before.before.before.before.before.requires.lanes 0 (omega arith), refl)
+spread_requires c κs = (c.requires.lanes 0 (omega arith), refl)
 
-element_copy_out_spread_3 : tie.Need-element-copy-out-spread-3
+element_copy_out_spread_3 : tie.Need-bounds-places-1
 element_copy_out_spread_3 c = search rules
 
-add_spread_2 : tie.Need-overflow-add-spread-2
+add_spread_2 : tie.Need-overflow_add-places-2
 add_spread_2 c =
     let start = c.before.before.before.before.before.before.before in
-    omega (arith, start.requires.lanes 1 (omega arith), start.well-formed)
+    omega (arith, start.requires.lanes 1 (omega arith), start.well_formed)
 
-element_copy_out_spread_4 : tie.Need-element-copy-out-spread-4
+element_copy_out_spread_4 : tie.Need-bounds-across-1
 element_copy_out_spread_4 c = search rules
 
 spread_requires_2 : tie.Need-spread-requires-2
-spread_requires_2 c κs = (c.before.before.before.before.before.before.before.before.before.requires.lanes 1 (omega arith), refl)
+spread_requires_2 c κs = (c.requires.lanes 1 (omega arith), refl)
 
-join_2_requires : tie.Need-join-2-requires
+join_2_requires : tie.Need-join_2-requires
 join_2_requires c κs =
     let start = c.before.before.before.before.before.before.before.before.before.before.before.before.before in
     (few_pixels start.requires, start.requires.room)
 
-same_length : tie.Need-same-length
-same_length c = ap length c.before.before.join-2.ensures ∙ length_pixels _ _ _ _ _
+same_length : tie.Need-shape_of-out
+same_length c = ap length c.join_2.ensures ∙ length_pixels _ _ _ _ _
 
 returns : tie.Need-returns
 returns c =
@@ -48,7 +48,7 @@ returns c =
     let by-spread2 = by-join-2.before.before.before.before in
     let by-spread = by-spread2.before.before.before.before in
     let start = by-spread.before.before.before.before.before.before in
-    lists_2 _ _ start.requires _ _ by-spread.spread.ensures by-spread2.spread2.ensures by-join-2.join-2.ensures
+    lists_2 _ _ start.requires _ _ by-spread.spread.ensures by-spread2.spread-2.ensures by-join-2.join_2.ensures
 
 pub any_2_spec : {M : Type 1} → statement M
 any_2_spec =

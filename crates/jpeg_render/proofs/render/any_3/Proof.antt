@@ -10,67 +10,67 @@ use Rattle.jpeg_render.proofs.Mcus.{few_pixels, run_mcu}
 use Rattle.jpeg_render.proofs.render.any_3.Statement.{statement}
 use Rattle.jpeg_render.proofs.render.any_3.Tie as tie
 
-element_copy_out_spread : tie.Need-element-copy-out-spread
+element_copy_out_spread : tie.Need-bounds-places-0
 element_copy_out_spread c = search rules
 
-add_spread : tie.Need-overflow-add-spread
-add_spread c = omega (arith, c.before.before.before.requires.lanes 0 (omega arith), c.before.before.before.well-formed)
+add_spread : tie.Need-overflow_add-places
+add_spread c = omega (arith, c.requires.lanes 0 (omega arith), c.well_formed)
 
-element_copy_out_spread_2 : tie.Need-element-copy-out-spread-2
+element_copy_out_spread_2 : tie.Need-bounds-across-0
 element_copy_out_spread_2 c = search rules
 
 spread_requires : tie.Need-spread-requires
-spread_requires c κs = (c.before.before.before.before.before.requires.lanes 0 (omega arith), refl)
+spread_requires c κs = (c.requires.lanes 0 (omega arith), refl)
 
-element_copy_out_spread_3 : tie.Need-element-copy-out-spread-3
+element_copy_out_spread_3 : tie.Need-bounds-places-1
 element_copy_out_spread_3 c = search rules
 
-add_spread_2 : tie.Need-overflow-add-spread-2
+add_spread_2 : tie.Need-overflow_add-places-2
 add_spread_2 c =
     let start = c.before.before.before.before.before.before.before in
-    omega (arith, start.requires.lanes 1 (omega arith), start.well-formed)
+    omega (arith, start.requires.lanes 1 (omega arith), start.well_formed)
 
-element_copy_out_spread_4 : tie.Need-element-copy-out-spread-4
+element_copy_out_spread_4 : tie.Need-bounds-across-1
 element_copy_out_spread_4 c = search rules
 
 spread_requires_2 : tie.Need-spread-requires-2
-spread_requires_2 c κs = (c.before.before.before.before.before.before.before.before.before.requires.lanes 1 (omega arith), refl)
+spread_requires_2 c κs = (c.requires.lanes 1 (omega arith), refl)
 
-element_copy_out_spread_5 : tie.Need-element-copy-out-spread-5
+element_copy_out_spread_5 : tie.Need-bounds-places-2
 element_copy_out_spread_5 c = search rules
 
-add_spread_3 : tie.Need-overflow-add-spread-3
+add_spread_3 : tie.Need-overflow_add-places-3
 add_spread_3 c =
     let start = c.before.before.before.before.before.before.before.before.before.before.before in
-    omega (arith, start.requires.lanes 2 (omega arith), start.well-formed)
+    omega (arith, start.requires.lanes 2 (omega arith), start.well_formed)
 
-element_copy_out_spread_6 : tie.Need-element-copy-out-spread-6
+element_copy_out_spread_6 : tie.Need-bounds-across-2
 element_copy_out_spread_6 c = search rules
 
 spread_requires_3 : tie.Need-spread-requires-3
-spread_requires_3 c κs = (c.before.before.before.before.before.before.before.before.before.before.before.before.before.requires.lanes 2 (omega arith), refl)
+spread_requires_3 c κs = (c.requires.lanes 2 (omega arith), refl)
 
-mul_e : tie.Need-overflow-mul-e
-mul_e c = omega (arith, few_pixels c.before.before.before.before.before.before.before.before.before.before.before.before.before.before.requires)
+mul_e : tie.Need-overflow_mul-e
+mul_e c = omega (arith, few_pixels c.requires)
 
-add_e : tie.Need-overflow-add-e
+add_e : tie.Need-overflow_add-e
 add_e c =
     let start = c.before.before.before.before.before.before.before.before.before.before.before.before.before.before in
-    omega (arith, start.requires.room, start.well-formed)
+    omega (arith, start.requires.room, start.well_formed)
 
-sub_run : tie.Need-overflow-sub-run
+sub_run : tie.Need-slice_bounds-run-count
 sub_run c = omega arith
 
-part_run_start : tie.Need-slice-bounds-run-start
+part_run_start : tie.Need-slice_bounds-run-start
 part_run_start c = omega arith
 
-part_run_end : tie.Need-slice-bounds-run-end
-part_run_end c = c.before.before.before.before.before.before.before.before.before.before.before.before.before.before.before.before.before.requires.room
+part_run_end : tie.Need-slice_bounds-run-end
+part_run_end c = c.requires.room
 
 run_requires : tie.Need-run-requires
 run_requires c κs = tt
 
-same_length : tie.Need-same-length
+same_length : tie.Need-shape_of-out
 same_length c =
     let by-run = c.before.before in
     let start = by-run.before.before.before.before.before.before.before.before.before.before.before.before.before.before.before.before.before.before.before in
@@ -86,7 +86,7 @@ returns c =
     let by-spread2 = by-spread3.before.before.before.before in
     let by-spread = by-spread2.before.before.before.before in
     let start = by-spread.before.before.before.before.before.before in
-    run_mcu start.requires _ _ _ _ _ _ by-spread.spread.ensures by-spread2.spread2.ensures by-spread3.spread3.ensures
+    run_mcu start.requires _ _ _ _ _ _ by-spread.spread.ensures by-spread2.spread-2.ensures by-spread3.spread-3.ensures
     (run_in_part _ _ _ _ _ start.args.at (start.args.at + start.args.n * 3) start.args.out.now
     (few_pixels start.requires) refl start.requires.room by-run.run.ensures)
 

@@ -12,49 +12,49 @@ use Rattle.jpeg_render.proofs.render.coloured_2.Tie as tie
 gather_requires : tie.Need-gather-requires
 gather_requires c κs = search rules
 
-add_first_end : tie.Need-overflow-add-first-end
-add_first_end c = omega (arith, c.before.before.before.before.requires.second, c.before.before.before.before.well-formed)
+add_first_end : tie.Need-overflow_add-first_end
+add_first_end c = omega (arith, c.requires.second, c.well_formed)
 
-add_second_end : tie.Need-overflow-add-second-end
-add_second_end c = omega (arith, c.before.before.before.before.requires.third, c.before.before.before.before.well-formed)
+add_second_end : tie.Need-overflow_add-second_end
+add_second_end c = omega (arith, c.requires.third, c.well_formed)
 
-mul_e : tie.Need-overflow-mul-e
-mul_e c = omega (arith, c.before.before.before.before.requires.within)
+mul_e : tie.Need-overflow_mul-e
+mul_e c = omega (arith, c.requires.within)
 
-add_e : tie.Need-overflow-add-e
-add_e c = omega (arith, c.before.before.before.before.requires.room, c.before.before.before.before.well-formed)
+add_e : tie.Need-overflow_add-e
+add_e c = omega (arith, c.requires.room, c.well_formed)
 
-sub_tinted : tie.Need-overflow-sub-tinted
+sub_tinted : tie.Need-slice_bounds-tinted-count
 sub_tinted c = omega arith
 
-part_tinted_start : tie.Need-slice-bounds-tinted-start
+part_tinted_start : tie.Need-slice_bounds-tinted-start
 part_tinted_start c = omega arith
 
-part_tinted_end : tie.Need-slice-bounds-tinted-end
-part_tinted_end c = c.before.before.before.before.before.requires.second
+part_tinted_end : tie.Need-slice_bounds-tinted-end
+part_tinted_end c = c.requires.second
 
-sub_tinted_2 : tie.Need-overflow-sub-tinted-2
+sub_tinted_2 : tie.Need-slice_bounds-tinted-count-2
 sub_tinted_2 c = omega arith
 
-part_tinted_start_2 : tie.Need-slice-bounds-tinted-start-2
+part_tinted_start_2 : tie.Need-slice_bounds-tinted-start-2
 part_tinted_start_2 c = omega arith
 
-part_tinted_end_2 : tie.Need-slice-bounds-tinted-end-2
-part_tinted_end_2 c = c.before.before.before.before.before.before.requires.third
+part_tinted_end_2 : tie.Need-slice_bounds-tinted-end-2
+part_tinted_end_2 c = c.requires.third
 
-sub_tinted_3 : tie.Need-overflow-sub-tinted-3
+sub_tinted_3 : tie.Need-slice_bounds-tinted-count-3
 sub_tinted_3 c = omega arith
 
-part_tinted_start_3 : tie.Need-slice-bounds-tinted-start-3
+part_tinted_start_3 : tie.Need-slice_bounds-tinted-start-3
 part_tinted_start_3 c = omega arith
 
-part_tinted_end_3 : tie.Need-slice-bounds-tinted-end-3
-part_tinted_end_3 c = c.before.before.before.before.before.before.before.requires.room
+part_tinted_end_3 : tie.Need-slice_bounds-tinted-end-3
+part_tinted_end_3 c = c.requires.room
 
 tinted_requires : tie.Need-tinted-requires
 tinted_requires c κs = tt
 
-same_length : tie.Need-same-length
+same_length : tie.Need-shape_of-out
 same_length c =
     let by-tinted = c.before.before in
     let by-gather = by-tinted.before.before.before.before.before in

@@ -6,29 +6,29 @@ use borrow.Author.Tests.{eqb-true}
 use Rattle.jpeg_render.proofs.render.is_usual.Statement.{statement}
 use Rattle.jpeg_render.proofs.render.is_usual.Tie as tie
 
-returns : tie.Need-returns
+returns : tie.Need-returns-then-channels-ne3
 returns c = λ e. absurd (true≢false (sym e))
 
-element_copy_out_if2 : tie.Need-element-copy-out-if2
+element_copy_out_if2 : tie.Need-bounds-across-0
 element_copy_out_if2 c = search rules
 
-returns_2 : tie.Need-returns-2
+returns_2 : tie.Need-returns-then-across-largest
 returns_2 c = λ e. absurd (true≢false (sym e))
 
-element_copy_out_if3 : tie.Need-element-copy-out-if3
+element_copy_out_if3 : tie.Need-bounds-across-1
 element_copy_out_if3 c = search rules
 
-returns_3 : tie.Need-returns-3
+returns_3 : tie.Need-returns-then-across-ne1
 returns_3 c = λ e. absurd (true≢false (sym e))
 
-element_copy_out_result : tie.Need-element-copy-out-result
+element_copy_out_result : tie.Need-bounds-across-2
 element_copy_out_result c = search rules
 
-returns_4 : tie.Need-returns-4
+returns_4 : tie.Need-returns
 returns_4 c =
     let test-2 = c.before.before.before in
     let test = test-2.before.before in
-    λ e. record { three = test.if1.false; first = test-2.if2.false; second = c.before.if3.false; third = eqb-true _ 1 e }
+    λ e. record { three = test.if-channels-ne3.false; first = test-2.if-across-largest.false; second = c.if-across-ne1.false; third = eqb-true _ 1 e }
 
 pub is_usual_spec : {M : Type 1} → statement M
 is_usual_spec =

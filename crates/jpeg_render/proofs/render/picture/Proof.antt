@@ -5,40 +5,40 @@ use Rattle.jpeg_render.proofs.RowDrawn.{PictureTo, picture_none, still_drawable,
 use Rattle.jpeg_render.proofs.render.picture.Statement.{statement}
 use Rattle.jpeg_render.proofs.render.picture.Tie as tie
 
-abbrev invariant_loop : tie.invariant-loop
+abbrev invariant_loop : tie.invariant-loop-y
 invariant_loop frame m colour samples out₀ y₀ out y = PictureTo frame colour samples out₀ y out
 
-abbrev decreases_loop : tie.decreases-loop
+abbrev decreases_loop : tie.decreases-loop-y
 decreases_loop frame m colour samples out₀ y₀ out y = frame.height - y
 
-loop_holds : tie.Need-loop-init invariant_loop decreases_loop
-loop_holds c = picture_none _ _ _ _ c.before.before.requires.0
+loop_holds : tie.Need-loop-y-init invariant_loop decreases_loop
+loop_holds c = picture_none _ _ _ _ c.requires.0
 
 row_requires : tie.Need-row-requires invariant_loop decreases_loop
 row_requires c κs =
     let here = c.before.before.before in
     let start = here.before.before.before in
-    (still_drawable _ _ _ _ start.requires.0 here.loop.invariant, start.requires.1, c.before.if1.true)
+    (still_drawable _ _ _ _ start.requires.0 here.loop-y.invariant, start.requires.1, c.loop-y-test.true)
 
-add_y : tie.Need-overflow-add-y invariant_loop decreases_loop
-add_y c = omega (arith, c.before.before.before.before.if1.true, c.before.before.before.before.before.before.before.before.before.requires.0.sized.height_most)
+add_y : tie.Need-overflow_add-y invariant_loop decreases_loop
+add_y c = omega (arith, c.loop-y-test.true, c.requires.0.sized.height_most)
 
-loop_less : tie.Need-loop-smaller invariant_loop decreases_loop
-loop_less c = omega (arith, c.before.before.before.before.if1.true)
+loop_less : tie.Need-loop-y-smaller invariant_loop decreases_loop
+loop_less c = omega (arith, c.loop-y-test.true)
 
-loop_again : tie.Need-loop-preserved invariant_loop decreases_loop
+loop_again : tie.Need-loop-y-preserved invariant_loop decreases_loop
 loop_again c =
     let by_Row = c.before.before in
     let test = by_Row.before.before in
     let here = test.before.before in
     let start = here.before.before.before in
-    picture_next _ _ _ _ start.requires.0 here.loop.invariant test.if1.true by_Row.row.ensures
+    picture_next _ _ _ _ start.requires.0 here.loop-y.invariant test.loop-y-test.true by_Row.row.ensures
 
-same_length : tie.Need-same-length invariant_loop decreases_loop
-same_length c = c.before.before.loop.invariant.size
+same_length : tie.Need-shape_of-out invariant_loop decreases_loop
+same_length c = c.loop-y.invariant.size
 
 returns : tie.Need-returns invariant_loop decreases_loop
-returns c = picture_all _ _ _ _ c.before.before.before.before.before.requires.0 c.before.before.loop.invariant c.if1.false
+returns c = picture_all _ _ _ _ c.requires.0 c.loop-y.invariant c.loop-y-test.false
 
 pub picture_spec : {M : Type 1} → statement M
 picture_spec =

@@ -14,32 +14,32 @@ use Rattle.jpeg_render.proofs.render.runs.Tie as tie
 gather_requires : tie.Need-gather-requires
 gather_requires c κs = search rules
 
-mul_e : tie.Need-overflow-mul-e
-mul_e c = omega (arith, c.before.before.before.before.requires)
+mul_e : tie.Need-overflow_mul-e
+mul_e c = omega (arith, c.requires)
 
-add_e : tie.Need-overflow-add-e
-add_e c = omega (arith, c.before.before.before.before.requires, c.before.before.before.before.well-formed)
+add_e : tie.Need-overflow_add-e
+add_e c = omega (arith, c.requires, c.well_formed)
 
-sub_run : tie.Need-overflow-sub-run
+sub_run : tie.Need-slice_bounds-run-count
 sub_run c = omega arith
 
-part_run_start : tie.Need-slice-bounds-run-start
+part_run_start : tie.Need-slice_bounds-run-start
 part_run_start c = omega arith
 
-part_run_end : tie.Need-slice-bounds-run-end
-part_run_end c = c.before.before.before.before.before.requires.room
+part_run_end : tie.Need-slice_bounds-run-end
+part_run_end c = c.requires.room
 
 run_requires : tie.Need-run-requires
 run_requires c κs = tt
 
-same_length : tie.Need-same-length
+same_length : tie.Need-shape_of-out
 same_length c =
-    ap length (run_in_part _ _ _ _ _ c.before.before.before.before.before.before.before.before.before.args.at (c.before.before.before.before.before.before.before.before.before.args.at + c.before.before.before.before.before.before.before.before.before.args.n * 3) c.before.before.before.before.before.before.before.before.before.args.out.now c.before.before.before.before.before.before.before.before.before.requires.spread refl c.before.before.before.before.before.before.before.before.before.requires.room c.before.before.run.ensures) ∙ length_pixels _ _ _ _ _
+    ap length (run_in_part _ _ _ _ _ c.args.at (c.args.at + c.args.n * 3) c.args.out.now c.requires.spread refl c.requires.room c.run.ensures) ∙ length_pixels _ _ _ _ _
 
 returns : tie.Need-returns
 returns c =
-    pixels_same _ _ _ _ _ _ _ (run_in_part _ _ _ _ _ c.before.before.before.before.before.before.before.before.before.args.at (c.before.before.before.before.before.before.before.before.before.args.at + c.before.before.before.before.before.before.before.before.before.args.n * 3) c.before.before.before.before.before.before.before.before.before.args.out.now c.before.before.before.before.before.before.before.before.before.requires.spread refl c.before.before.before.before.before.before.before.before.before.requires.room c.before.before.run.ensures)
-    (λ i k h l. run_in_runs _ _ _ _ _ _ _ c.before.before.before.before.before.gather.ensures i k h)
+    pixels_same _ _ _ _ _ _ _ (run_in_part _ _ _ _ _ c.args.at (c.args.at + c.args.n * 3) c.args.out.now c.requires.spread refl c.requires.room c.run.ensures)
+    (λ i k h l. run_in_runs _ _ _ _ _ _ _ c.gather.ensures i k h)
 
 pub runs_spec : {M : Type 1} → statement M
 runs_spec =

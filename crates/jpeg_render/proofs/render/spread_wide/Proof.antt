@@ -9,61 +9,61 @@ use Rattle.jpeg_render.proofs.Spreading.{SpreadTo, spread_none, spread_next, spr
 use Rattle.jpeg_render.proofs.render.spread_wide.Statement.{statement}
 use Rattle.jpeg_render.proofs.render.spread_wide.Tie as tie
 
-abbrev invariant_loop : tie.invariant-loop
+abbrev invariant_loop : tie.invariant-loop-j
 invariant_loop samples chroma hs spread₀ j₀ spread j = SpreadTo samples chroma hs j spread
 
-abbrev decreases_loop : tie.decreases-loop
+abbrev decreases_loop : tie.decreases-loop-j
 decreases_loop samples chroma hs spread₀ j₀ spread j = 8 - j
 
-place : (c : tie.In-loop invariant_loop decreases_loop) → c.before.before.args.hs * c.before.loop.j ≤ 28
+place : (c : tie.In-loop-j invariant_loop decreases_loop) → c.args.hs * c.loop-j.j ≤ 28
 place c =
-    let last : c.before.loop.j ≤ 7 = omega arith in
-    mul-le-mul c.before.before.requires.2 last
+    let last : c.loop-j.j ≤ 7 = omega arith in
+    mul-le-mul c.requires.2 last
 
-loop_holds : tie.Need-loop-init invariant_loop decreases_loop
+loop_holds : tie.Need-loop-j-init invariant_loop decreases_loop
 loop_holds c = spread_none _ _ _ _ c.requires.1
 
-add_sample : tie.Need-overflow-add-sample invariant_loop decreases_loop
+add_sample : tie.Need-overflow_add-sample invariant_loop decreases_loop
 add_sample c = omega arith
 
-shared_slice_read_sample : tie.Need-shared-slice-read-sample invariant_loop decreases_loop
+shared_slice_read_sample : tie.Need-bounds-samples-chroma invariant_loop decreases_loop
 shared_slice_read_sample c = omega arith
 
-mul_at : tie.Need-overflow-mul-at invariant_loop decreases_loop
+mul_at : tie.Need-overflow_mul-at invariant_loop decreases_loop
 mul_at c = omega (arith, place c.before)
 
-element_write_spread : tie.Need-element-write-spread invariant_loop decreases_loop
-element_write_spread c = omega (arith, place c.before)
+element_write_spread : tie.Need-bounds-spread-at invariant_loop decreases_loop
+element_write_spread c = omega (arith, place c.before.before)
 
-add_spread : tie.Need-overflow-add-spread invariant_loop decreases_loop
-add_spread c = omega (arith, place c.before)
+add_spread : tie.Need-overflow_add-spread invariant_loop decreases_loop
+add_spread c = omega (arith, place c.before.before)
 
-element_write_spread_2 : tie.Need-element-write-spread-2 invariant_loop decreases_loop
-element_write_spread_2 c = omega (arith, place c.before)
+element_write_spread_2 : tie.Need-bounds-spread-at-in-loop-j invariant_loop decreases_loop
+element_write_spread_2 c = omega (arith, place c.before.before)
 
-add_spread_2 : tie.Need-overflow-add-spread-2 invariant_loop decreases_loop
-add_spread_2 c = omega (arith, place c.before)
+add_spread_2 : tie.Need-overflow_add-spread-in-loop-j invariant_loop decreases_loop
+add_spread_2 c = omega (arith, place c.before.before)
 
-element_write_spread_3 : tie.Need-element-write-spread-3 invariant_loop decreases_loop
-element_write_spread_3 c = omega (arith, place c.before)
+element_write_spread_3 : tie.Need-bounds-spread-at-in-loop-j-2 invariant_loop decreases_loop
+element_write_spread_3 c = omega (arith, place c.before.before)
 
-add_spread_3 : tie.Need-overflow-add-spread-3 invariant_loop decreases_loop
-add_spread_3 c = omega (arith, place c.before)
+add_spread_3 : tie.Need-overflow_add-spread-in-loop-j-2 invariant_loop decreases_loop
+add_spread_3 c = omega (arith, place c.before.before)
 
-element_write_spread_4 : tie.Need-element-write-spread-4 invariant_loop decreases_loop
-element_write_spread_4 c = omega (arith, place c.before)
+element_write_spread_4 : tie.Need-bounds-spread-at-in-loop-j-3 invariant_loop decreases_loop
+element_write_spread_4 c = omega (arith, place c.before.before)
 
-add_j : tie.Need-overflow-add-j invariant_loop decreases_loop
+add_j : tie.Need-overflow_add-j invariant_loop decreases_loop
 add_j c = omega arith
 
-loop_less : tie.Need-loop-smaller invariant_loop decreases_loop
+loop_less : tie.Need-loop-j-smaller invariant_loop decreases_loop
 loop_less c = omega arith
 
-loop_again : tie.Need-loop-preserved invariant_loop decreases_loop
-loop_again c = spread_next _ _ _ c.before.before.loop.j 4 (c.before.before.before.args.hs * c.before.before.loop.j) _ _ c.before.before.loop.invariant c.before.loop-test.true c.before.before.before.requires.2 refl (omega (arith, place c.before)) (four_times _ _ _)
+loop_again : tie.Need-loop-j-preserved invariant_loop decreases_loop
+loop_again c = spread_next _ _ _ c.loop-j.j 4 (c.args.hs * c.loop-j.j) _ _ c.loop-j.invariant c.loop-j-test.true c.requires.2 refl (omega (arith, place c.before.before)) (four_times _ _ _)
 
 returns : tie.Need-returns invariant_loop decreases_loop
-returns c = spread_all _ _ _ _ _ c.before.loop.invariant c.loop-test.false
+returns c = spread_all _ _ _ _ _ c.loop-j.invariant c.loop-j-test.false
 
 pub spread_wide_spec : {M : Type 1} → statement M
 spread_wide_spec =
