@@ -11,56 +11,56 @@ use Rattle.jpeg_header_state.proofs.Segments.{in_segment_lem}
 use Rattle.jpeg_header.proofs.step.Statement.{statement}
 use Rattle.jpeg_header.proofs.step.Tie as tie
 
-in_quants : (c : tie.After-case) → (c.before.before.before.args.state.at ≤ c.case.given.0.0) × (c.case.given.0.0 ≤ length c.before.before.before.args.s.now)
-in_quants c = subst (InsideCase (length c.before.before.before.args.s.now) c.before.before.before.args.state.at) c.case.given.1 c.before.before.before.requires.0
+in_quants : (c : tie.In-Quantizers) → (c.args.state.at ≤ c.in-Quantizers.end) × (c.in-Quantizers.end ≤ length c.args.s.now)
+in_quants c = subst (InsideCase (length c.args.s.now) c.args.state.at) c.in-Quantizers.is c.requires.0
 
-in_tables : (c : tie.After-case2) → (c.before.before.before.args.state.at ≤ c.case2.given.0.0) × (c.case2.given.0.0 ≤ length c.before.before.before.args.s.now)
-in_tables c = subst (InsideCase (length c.before.before.before.args.s.now) c.before.before.before.args.state.at) c.case2.given.1 c.before.before.before.requires.0
+in_tables : (c : tie.In-Huffman) → (c.args.state.at ≤ c.in-Huffman.end) × (c.in-Huffman.end ≤ length c.args.s.now)
+in_tables c = subst (InsideCase (length c.args.s.now) c.args.state.at) c.in-Huffman.is c.requires.0
 
-enum_told : tie.Need-enum-told
+enum_told : tie.Need-enum_told-1
 enum_told c = search rules
 
 marker_requires : tie.Need-marker-requires
-marker_requires c κs = (subst (InsideCase (length c.before.before.before.args.s.now) c.before.before.before.args.state.at) c.enum_told.given.1 c.before.before.before.requires.0, c.before.before.before.requires.1)
+marker_requires c κs = (subst (InsideCase (length c.args.s.now) c.args.state.at) c.in-Marker.is c.requires.0, c.requires.1)
 
-enum_known_case : tie.Need-enum-known-case
+enum_known_case : tie.Need-enum_known-case
 enum_known_case c = search rules
 
-sub_quantizer : tie.Need-overflow-sub-quantizer
-sub_quantizer c = (in_quants c.before).0
+sub_quantizer : tie.Need-slice_bounds-quantizer-count
+sub_quantizer c = (in_quants c).0
 
-part_quantizer_start : tie.Need-slice-bounds-quantizer-start
-part_quantizer_start c = omega (arith, in_quants c.before)
+part_quantizer_start : tie.Need-slice_bounds-quantizer-start
+part_quantizer_start c = omega (arith, in_quants c)
 
-part_quantizer_end : tie.Need-slice-bounds-quantizer-end
-part_quantizer_end c = omega (arith, in_quants c.before)
+part_quantizer_end : tie.Need-slice_bounds-quantizer-end
+part_quantizer_end c = omega (arith, in_quants c)
 
 quantizer_requires : tie.Need-quantizer-requires
 quantizer_requires c κs = tt
 
-enum_known_case_2 : tie.Need-enum-known-case-2
+enum_known_case_2 : tie.Need-enum_known-case-in-Huffman-1
 enum_known_case_2 c = search rules
 
-sub_huffman : tie.Need-overflow-sub-huffman
-sub_huffman c = (in_tables c.before).0
+sub_huffman : tie.Need-slice_bounds-huffman-count
+sub_huffman c = (in_tables c).0
 
-part_huffman_start : tie.Need-slice-bounds-huffman-start
-part_huffman_start c = omega (arith, in_tables c.before)
+part_huffman_start : tie.Need-slice_bounds-huffman-start
+part_huffman_start c = omega (arith, in_tables c)
 
-part_huffman_end : tie.Need-slice-bounds-huffman-end
-part_huffman_end c = omega (arith, in_tables c.before)
+part_huffman_end : tie.Need-slice_bounds-huffman-end
+part_huffman_end c = omega (arith, in_tables c)
 
 huffman_requires : tie.Need-huffman-requires
 huffman_requires c κs = tt
 
-returns : tie.Need-returns
-returns c = c.marker.ensures ∙ ap stepped (ap (step_in c.before.before.before.before.args.s.now c.before.before.before.before.args.colour c.before.before.before.before.args.state) (sym c.before.enum_told.given.1))
+returns : tie.Need-returns-in-Marker
+returns c = c.marker.ensures ∙ ap stepped (ap (step_in c.args.s.now c.args.colour c.args.state) (sym c.in-Marker.is))
 
-returns_2 : tie.Need-returns-2
-returns_2 c = c.quantizer.ensures ∙ ap stepped (in_segment_lem (window c.before.before.before.before.before.before.args.s.now c.before.before.before.before.before.before.args.state.at c.before.before.before.case.given.0.0) c.before.before.before.before.before.before.args.state c.before.before.before.case.given.0.0 _ (window_room c.before.before.before.before.before.before.args.s.now c.before.before.before.before.before.before.args.state.at c.before.before.before.case.given.0.0 (in_quants c.before.before.before).0) ∙ ap (step_in c.before.before.before.before.before.before.args.s.now c.before.before.before.before.before.before.args.colour c.before.before.before.before.before.before.args.state) (sym c.before.before.before.case.given.1))
+returns_2 : tie.Need-returns-in-Quantizers
+returns_2 c = c.quantizer.ensures ∙ ap stepped (in_segment_lem (window c.args.s.now c.args.state.at c.in-Quantizers.end) c.args.state c.in-Quantizers.end _ (window_room c.args.s.now c.args.state.at c.in-Quantizers.end (in_quants c.before.before).0) ∙ ap (step_in c.args.s.now c.args.colour c.args.state) (sym c.in-Quantizers.is))
 
-returns_3 : tie.Need-returns-3
-returns_3 c = c.huffman.ensures ∙ ap stepped (in_segment_lem (window c.before.before.before.before.before.before.args.s.now c.before.before.before.before.before.before.args.state.at c.before.before.before.case2.given.0.0) c.before.before.before.before.before.before.args.state c.before.before.before.case2.given.0.0 _ (window_room c.before.before.before.before.before.before.args.s.now c.before.before.before.before.before.before.args.state.at c.before.before.before.case2.given.0.0 (in_tables c.before.before.before).0) ∙ ap (step_in c.before.before.before.before.before.before.args.s.now c.before.before.before.before.before.before.args.colour c.before.before.before.before.before.before.args.state) (sym c.before.before.before.case2.given.1))
+returns_3 : tie.Need-returns-in-Huffman
+returns_3 c = c.huffman.ensures ∙ ap stepped (in_segment_lem (window c.args.s.now c.args.state.at c.in-Huffman.end) c.args.state c.in-Huffman.end _ (window_room c.args.s.now c.args.state.at c.in-Huffman.end (in_tables c.before.before).0) ∙ ap (step_in c.args.s.now c.args.colour c.args.state) (sym c.in-Huffman.is))
 
 pub step_spec : {M : Type 1} → statement M
 step_spec =

@@ -9,11 +9,11 @@ use Rattle.jpeg_header.proofs.Segment.unless_cut.Tie as tie
 stop_requires : tie.Need-stop-requires
 stop_requires c κs = tt
 
-returns : tie.Need-returns
-returns c = c.stop.ensures ∙ cond_yes c.before.before.args.self.cut (stepped (stop CutShort)) c.before.before.args.whole c.before.if1.true
+returns : tie.Need-returns-then-self
+returns c = c.stop.ensures ∙ cond_yes c.args.self.cut (stepped (stop CutShort)) c.args.whole c.if-self.true
 
-returns_2 : tie.Need-returns-2
-returns_2 c = cond_no c.before.args.self.cut (stepped (stop CutShort)) c.before.args.whole c.if1.false
+returns_2 : tie.Need-returns
+returns_2 c = cond_no c.args.self.cut (stepped (stop CutShort)) c.args.whole c.if-self.false
 
 pub unless_cut_spec : {M : Type 1} → statement M
 unless_cut_spec = tie.close (tie.spec stop_requires returns returns_2)
