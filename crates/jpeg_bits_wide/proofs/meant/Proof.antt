@@ -32,35 +32,35 @@ module _ (c : tie.Start) where
   spanned : Held w32 (to_z w32 shifted) (pos shifted) 65536
   spanned = plain 65536 (omega (arith, small)) tt
 
-shl_span : tie.Need-overflow-shl-span
+shl_span : tie.Need-overflow_shl-span
 shl_span c = search rules
 
-mul_if1 : tie.Need-overflow-mul-if1
+mul_if1 : tie.Need-overflow_mul-x
 mul_if1 c = search rules
 
-add_result : tie.Need-overflow-add-result
+add_result : tie.Need-overflow_add-result
 add_result c = search rules
 
-cast_result : tie.Need-overflow-cast-result
+cast_result : tie.Need-overflow_cast-result
 cast_result c = search rules
 
-cast_result_2 : tie.Need-overflow-cast-result-2
+cast_result_2 : tie.Need-overflow_cast-result-then-x-span
 cast_result_2 c = record { sfits = omega (arith, small c.before) }
 
-sub_result : tie.Need-overflow-sub-result
+sub_result : tie.Need-overflow_sub-result
 sub_result c = less_fits (next c.before) (spanned c.before) tt
 
-returns : tie.Need-returns
+returns : tie.Need-returns-then-x-span
 returns c =
     (less (next c.before) (spanned c.before) tt).is
-    ∙ ap (λ (k : ℕ). pos (c.before.args.v + 1) -ℤ pos k) (span c.before)
-    ∙ meant_low (n c.before) c.before.args.v (subst (λ k. 2 * c.before.args.v < k) (span c.before) c.if1.true)
+    ∙ ap (λ (k : ℕ). pos (c.args.v + 1) -ℤ pos k) (span c.before)
+    ∙ meant_low (n c.before) c.args.v (subst (λ k. 2 * c.args.v < k) (span c.before) c.if-x-span.true)
 
-cast_result_3 : tie.Need-overflow-cast-result-3
+cast_result_3 : tie.Need-overflow_cast-result-2
 cast_result_3 c = search rules
 
-returns_2 : tie.Need-returns-2
-returns_2 c = to_z_pos w32 (omega (arith, v_small c.before)) ∙ meant_high (n c.before) c.before.args.v (subst (λ k. k ≤ 2 * c.before.args.v) (span c.before) c.if1.false)
+returns_2 : tie.Need-returns
+returns_2 c = to_z_pos w32 (omega (arith, v_small c.before)) ∙ meant_high (n c.before) c.args.v (subst (λ k. k ≤ 2 * c.args.v) (span c.before) c.if-x-span.false)
 
 pub meant_spec : {M : Type 1} → statement M
 meant_spec =

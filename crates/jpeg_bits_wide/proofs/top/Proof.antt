@@ -12,16 +12,16 @@ every acc n h =
     let e : 64 - n ≡ 0 = omega arith in
     rw e (sym (div-one acc))
 
-returns : tie.Need-returns
-returns c = none c.before.args.acc _ (search rules) c.if1.true
+returns : tie.Need-returns-then-n-eq0
+returns c = none c.args.acc _ (search rules) c.if-n-eq0.true
 
-returns_2 : tie.Need-returns-2
-returns_2 c = every _ _ c.if2.true
+returns_2 : tie.Need-returns-then-n-gt64
+returns_2 c = every _ _ c.if-n-gt64.true
 
-shr_result : tie.Need-overflow-shr-result
+shr_result : tie.Need-overflow_shr-result
 shr_result c = search rules
 
-returns_3 : tie.Need-returns-3
+returns_3 : tie.Need-returns
 returns_3 c = search rules
 
 pub top_spec : {M : Type 1} → statement M
