@@ -13,103 +13,103 @@ use Rattle.jpeg_price.proofs.admit.Statement.{statement}
 use Rattle.jpeg_price.proofs.admit.Tie as tie
 
 -- the file is not too long
-short : (c : tie.Else1) → let start = c.before.before.before in too_long start.args.s.now start.args.limits ≡ false
-short c = sym c.before.too_long.ensures ∙ c.if1.false
+short : (c : tie.Else-too_long) → let start = c.before.before.before in too_long start.args.s.now start.args.limits ≡ false
+short c = sym c.too_long.ensures ∙ c.if-too_long.false
 
 -- what is to be paid is 2n + 1
 header_payment :
-    (c : tie.After-pay)
+    (c : tie.After-pay-paid)
     → let start = c.before.before.before.before.before in
-    c.pay.result ≡ answered (pay (header_price start.args.s.now) OverBudget start.args.budget)
+    c.pay-paid.result ≡ answered (pay (header_price start.args.s.now) OverBudget start.args.budget)
 header_payment c =
     let start = c.before.before.before.before.before in
-    c.pay.ensures ∙ ap (λ price. answered (pay price OverBudget start.args.budget)) c.before.header-price.ensures
+    c.pay-paid.ensures ∙ ap (λ price. answered (pay price OverBudget start.args.budget)) c.header_price.ensures
 
 -- and behind it the header is read
 header_paid :
-    (c : tie.After-enum-told)
-    → let payment = c.before.before.before in
+    (c : tie.In-Accepted)
+    → let payment = c.before.before in
     let start = payment.before.before.before.before.before in
-    pay (header_price start.args.s.now) OverBudget start.args.budget ≡ accepts tt payment.pay.result.budget
+    pay (header_price start.args.s.now) OverBudget start.args.budget ≡ accepts tt payment.pay-paid.result.budget
 header_paid c =
-    let payment = c.before.before.before in
+    let payment = c.before.before in
     let start = payment.before.before.before.before.before in
-    paid (pay (header_price start.args.s.now) OverBudget start.args.budget) (header_payment payment) c.enum_told.given.1
+    paid (pay (header_price start.args.s.now) OverBudget start.args.budget) (header_payment payment) c.in-Accepted.is
 
-too_long_requires : tie.Need-too-long-requires
+too_long_requires : tie.Need-too_long-requires
 too_long_requires c κs = search rules
 
 refused_requires : tie.Need-refused-requires
 refused_requires c κs = search rules
 
-returns : tie.Need-returns
+returns : tie.Need-returns-then-too_long
 returns c =
     let tested = c.before.before in
     let start = tested.before.before in
-    let long = sym tested.too_long.ensures ∙ c.before.if1.true in
+    let long = sym tested.too_long.ensures ∙ c.if-too_long.true in
     c.refused.ensures ∙ admitted_long start.args.s.now start.args.colour start.args.limits start.args.budget long
 
-header_price_requires : tie.Need-header-price-requires
+header_price_requires : tie.Need-header_price-requires
 header_price_requires c κs =
     let start = c.before.before.before in
     (not_long start.args.s.now start.args.limits (short c)).1
 
-pay_requires : tie.Need-pay-requires
+pay_requires : tie.Need-pay-paid-requires
 pay_requires c κs = search rules
 
-enum_known_verdict : tie.Need-enum-known-verdict
+enum_known_verdict : tie.Need-enum_known-verdict
 enum_known_verdict c = search rules
 
-refused_requires_2 : tie.Need-refused-requires-2
+refused_requires_2 : tie.Need-refused-requires-in-Refused
 refused_requires_2 c κs = search rules
 
-enum_told : tie.Need-enum-told
+enum_told : tie.Need-enum_told-1
 enum_told c = search rules
 
-header_requires : tie.Need-header-requires
+header_requires : tie.Need-header-head-requires
 header_requires c κs = search rules
 
-enum_known_read : tie.Need-enum-known-read
+enum_known_read : tie.Need-enum_known-read
 enum_known_read c = search rules
 
-refused_requires_3 : tie.Need-refused-requires-3
+refused_requires_3 : tie.Need-refused-requires-in-Refused-read
 refused_requires_3 c κs = search rules
 
-enum_told_2 : tie.Need-enum-told-2
+enum_told_2 : tie.Need-enum_told-in-Accepted-read
 enum_told_2 c = search rules
 
 weigh_requires : tie.Need-weigh-requires
 weigh_requires c κs = search rules
 
-returns_2 : tie.Need-returns-2
+returns_2 : tie.Need-returns-in-Refused
 returns_2 c =
-    let told = c.before.before in
-    let payment = told.before.before.before in
+    let told = c.before in
+    let payment = told.before in
     let priced = payment.before.before in
     let start = priced.before.before.before in
-    let below = unpaid (pay (header_price start.args.s.now) OverBudget start.args.budget) (header_payment payment) told.verdict.given.1 in
-    c.refused2.ensures
-    ∙ admitted_poor start.args.s.now start.args.colour start.args.limits start.args.budget (short priced) _ _ below
+    let below = unpaid (pay (header_price start.args.s.now) OverBudget start.args.budget) (header_payment payment.before) told.in-Refused.is in
+    c.refused-in-Refused.ensures
+    ∙ admitted_poor start.args.s.now start.args.colour start.args.limits start.args.budget (short priced.before) _ _ below
 
-returns_3 : tie.Need-returns-3
+returns_3 : tie.Need-returns-in-Refused-read
 returns_3 c =
-    let told = c.before.before in
-    let read = told.before.before.before in
+    let told = c.before in
+    let read = told.before in
     let on = read.before in
-    let priced = on.before.before.before.before.before in
+    let priced = on.before.before.before.before in
     let start = priced.before.before.before in
-    let stopped = stop_verdict (header start.args.s.now start.args.colour) _ _ read.header.ensures told.read.given.1 in
-    c.refused3.ensures
-    ∙ admitted_head start.args.s.now start.args.colour start.args.limits start.args.budget (short priced) _ (header_paid on) _ stopped
+    let stopped = stop_verdict (header start.args.s.now start.args.colour) _ _ read.header-head.ensures told.in-Refused-read.is in
+    c.refused-in-Refused-read.ensures
+    ∙ admitted_head start.args.s.now start.args.colour start.args.limits start.args.budget (short priced.before) _ (header_paid on.before) _ stopped
 
-returns_4 : tie.Need-returns-4
+returns_4 : tie.Need-returns-in-Accepted-read
 returns_4 c =
     let told = c.before in
-    let read = told.before.before.before in
+    let read = told.before.before in
     let on = read.before in
-    let priced = on.before.before.before.before.before in
+    let priced = on.before.before.before.before in
     let start = priced.before.before.before in
-    let found = done_found (header start.args.s.now start.args.colour) _ read.header.ensures told.enum-told2.given.1 in
+    let found = done_found (header start.args.s.now start.args.colour) _ read.header-head.ensures told.in-Accepted-read.is in
     c.weigh.ensures
     ∙ admitted_record start.args.s.now start.args.colour start.args.limits start.args.budget (short priced) _ (header_paid on) _ found
 

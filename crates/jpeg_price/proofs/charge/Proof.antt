@@ -7,46 +7,46 @@ use borrow.Author.Rules.{rules}
 use Rattle.jpeg_price.proofs.charge.Statement.{statement}
 use Rattle.jpeg_price.proofs.charge.Tie as tie
 
-past_counting_requires : tie.Need-past-counting-requires
+past_counting_requires : tie.Need-past_counting-requires
 past_counting_requires c κs = search rules
 
 undecoded_requires : tie.Need-undecoded-requires
 undecoded_requires c κs = search rules
 
-returns : tie.Need-returns
+returns : tie.Need-returns-then-past_counting
 returns c =
     let tested = c.before.before in
     let start = tested.before in
-    let long : 2 ^ 64 ≤ 2 * start.args.n + 1 = leb-true _ _ (sym tested.past-counting.ensures ∙ c.before.if1.true) in
+    let long : 2 ^ 64 ≤ 2 * start.args.n + 1 = leb-true _ _ (sym tested.past_counting.ensures ∙ c.if-past_counting.true) in
     c.undecoded.ensures ∙ uncounted start.args.n start.args.work start.args.budget (omega arith) (omega (arith, long))
 
-header_price_requires : tie.Need-header-price-requires
-header_price_requires c κs = leb-false _ _ (sym c.before.past-counting.ensures ∙ c.if1.false)
+header_price_requires : tie.Need-header_price-price-requires
+header_price_requires c κs = leb-false _ _ (sym c.past_counting.ensures ∙ c.if-past_counting.false)
 
-sub_if2 : tie.Need-overflow-sub-if2
+sub_if2 : tie.Need-overflow_sub-price
 sub_if2 c = search rules
 
-undecoded_requires_2 : tie.Need-undecoded-requires-2
+undecoded_requires_2 : tie.Need-undecoded-requires-then-price-work
 undecoded_requires_2 c κs = search rules
 
-returns_2 : tie.Need-returns-2
+returns_2 : tie.Need-returns-then-price-work
 returns_2 c =
     let priced = c.before.before in
     let start = priced.before.before.before in
-    let large : 2 ^ 64 ≤ 2 * start.args.n + 1 + start.args.work = omega (arith, c.before.if2.true, priced.header-price.ensures) in
-    c.undecoded2.ensures ∙ uncounted start.args.n start.args.work start.args.budget (omega arith) large
+    let large : 2 ^ 64 ≤ 2 * start.args.n + 1 + start.args.work = omega (arith, c.if-price-work.true, priced.header_price-price.ensures) in
+    c.undecoded-then-price-work.ensures ∙ uncounted start.args.n start.args.work start.args.budget (omega arith) large
 
-add_pay : tie.Need-overflow-add-pay
+add_pay : tie.Need-overflow_add-price
 add_pay c = search rules
 
 pay_requires : tie.Need-pay-requires
 pay_requires c κs = search rules
 
-returns_3 : tie.Need-returns-3
+returns_3 : tie.Need-returns
 returns_3 c =
     let priced = c.before.before in
     let start = priced.before.before.before in
-    counted start.args.n start.args.work start.args.budget c.pay.ensures priced.header-price.ensures
+    counted start.args.n start.args.work start.args.budget c.pay.ensures priced.header_price-price.ensures
 
 pub charge_spec : {M : Type 1} → statement M
 charge_spec =

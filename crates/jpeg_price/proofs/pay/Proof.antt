@@ -12,22 +12,22 @@ covers_requires c κs = search rules
 undecoded_requires : tie.Need-undecoded-requires
 undecoded_requires c κs = search rules
 
-returns : tie.Need-returns
+returns : tie.Need-returns-then-not-covers
 returns c =
     let tested = c.before.before in
     let start = tested.before in
-    let below = leb-false _ _ (sym tested.covers.ensures ∙ not-true _ c.before.if1.true) in
+    let below = leb-false _ _ (sym tested.covers.ensures ∙ not-true _ c.if-not-covers.true-raw) in
     c.undecoded.ensures ∙ poor start.args.price start.args.x start.args.budget below
 
-less_requires : tie.Need-less-requires
+less_requires : tie.Need-less-left-requires
 less_requires c κs = search rules
 
-returns_2 : tie.Need-returns-2
+returns_2 : tie.Need-returns
 returns_2 c =
     let tested = c.before.before in
     let start = tested.before in
-    let enough = leb-true _ _ (sym tested.covers.ensures ∙ not-false _ c.before.if1.false) in
-    ap (λ left. record { verdict = Accepted; budget = left }) c.less.ensures
+    let enough = leb-true _ _ (sym tested.covers.ensures ∙ not-false _ c.if-not-covers.false-raw) in
+    ap (λ left. record { verdict = Accepted; budget = left }) c.less-left.ensures
     ∙ rich start.args.price start.args.x start.args.budget enough
 
 pub pay_spec : {M : Type 1} → statement M

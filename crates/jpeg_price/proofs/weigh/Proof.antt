@@ -7,48 +7,48 @@ use borrow.Author.Rules.{rules}
 use Rattle.jpeg_price.proofs.weigh.Statement.{statement}
 use Rattle.jpeg_price.proofs.weigh.Tie as tie
 
-too_large_requires : tie.Need-too-large-requires
+too_large_requires : tie.Need-too_large-requires
 too_large_requires c κs = search rules
 
 refused_requires : tie.Need-refused-requires
 refused_requires c κs = search rules
 
-returns : tie.Need-returns
+returns : tie.Need-returns-then-too_large
 returns c =
     let tested = c.before.before in
     let start = tested.before in
     c.refused.ensures
-    ∙ weighed_large start.args.limits start.args.left start.args.found _ tested.too_large.ensures c.before.if1.true
+    ∙ weighed_large start.args.limits start.args.left start.args.found _ tested.too_large.ensures c.if-too_large.true
 
-pay_requires : tie.Need-pay-requires
+pay_requires : tie.Need-pay-paid-requires
 pay_requires c κs = search rules
 
-enum_known_verdict : tie.Need-enum-known-verdict
+enum_known_verdict : tie.Need-enum_known-verdict
 enum_known_verdict c = search rules
 
-refused_requires_2 : tie.Need-refused-requires-2
+refused_requires_2 : tie.Need-refused-requires-in-Refused
 refused_requires_2 c κs = search rules
 
-enum_told : tie.Need-enum-told
+enum_told : tie.Need-enum_told-1
 enum_told c = search rules
 
-returns_2 : tie.Need-returns-2
+returns_2 : tie.Need-returns-in-Refused
 returns_2 c =
-    let told = c.before.before in
-    let payment = told.before.before.before in
+    let told = c.before in
+    let payment = told.before in
     let small = payment.before in
     let start = small.before.before in
-    let below = unpaid (pay start.args.found.work WorkOverBudget start.args.left) payment.pay.ensures told.verdict.given.1 in
-    c.refused2.ensures
-    ∙ weighed_poor start.args.limits start.args.left start.args.found _ small.before.too_large.ensures small.if1.false _ _ below
+    let below = unpaid (pay start.args.found.work WorkOverBudget start.args.left) payment.pay-paid.ensures told.in-Refused.is in
+    c.refused-in-Refused.ensures
+    ∙ weighed_poor start.args.limits start.args.left start.args.found _ small.too_large.ensures small.if-too_large.false _ _ below
 
-returns_3 : tie.Need-returns-3
+returns_3 : tie.Need-returns-in-Accepted
 returns_3 c =
-    let payment = c.before.before.before in
+    let payment = c.before.before in
     let small = payment.before in
     let start = small.before.before in
-    let taken = paid (pay start.args.found.work WorkOverBudget start.args.left) payment.pay.ensures c.enum_told.given.1 in
-    weighed_well start.args.limits start.args.left start.args.found _ small.before.too_large.ensures small.if1.false _ taken
+    let taken = paid (pay start.args.found.work WorkOverBudget start.args.left) payment.pay-paid.ensures c.in-Accepted.is in
+    weighed_well start.args.limits start.args.left start.args.found _ small.too_large.ensures small.if-too_large.false _ taken
 
 pub weigh_spec : {M : Type 1} → statement M
 weigh_spec =
