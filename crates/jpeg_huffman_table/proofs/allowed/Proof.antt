@@ -6,24 +6,24 @@ use Rattle.jpeg_huffman_table.specs.Looks.{allowed}
 use Rattle.jpeg_huffman_table.proofs.allowed.Statement.{statement}
 use Rattle.jpeg_huffman_table.proofs.allowed.Tie as tie
 
-returns : tie.Need-returns
+returns : tie.Need-returns-then-first
 unfolding allowed
-returns c = rw c.if1.true
+returns c = rw c.if-first.true
 
-returns_2 : tie.Need-returns-2
+returns_2 : tie.Need-returns-then-x-eq0
 unfolding allowed
-returns_2 c = rw (c.before.if1.false, eq-eqb _ _ c.if2.true)
+returns_2 c = rw (c.if-first.false, eq-eqb _ _ c.if-x-eq0.true)
 
-returns_3 : tie.Need-returns-3
+returns_3 : tie.Need-returns-then-x-eq240
 unfolding allowed
-returns_3 c = rw (c.before.before.if1.false, ne_eqb _ _ c.before.if2.false, eq-eqb _ _ c.if3.true)
+returns_3 c = rw (c.if-first.false, ne_eqb _ _ c.if-x-eq0.false, eq-eqb _ _ c.if-x-eq240.true)
 
 within_requires : tie.Need-within-requires
 within_requires c κs = search rules
 
-returns_4 : tie.Need-returns-4
+returns_4 : tie.Need-returns
 unfolding allowed
-returns_4 c = c.within.ensures ∙ rw (c.before.before.before.if1.false, ne_eqb _ _ c.before.before.if2.false, ne_eqb _ _ c.before.if3.false)
+returns_4 c = c.within.ensures ∙ rw (c.if-first.false, ne_eqb _ _ c.if-x-eq0.false, ne_eqb _ _ c.if-x-eq240.false)
 
 pub allowed_spec : {M : Type 1} → statement M
 allowed_spec = tie.close (tie.spec returns returns_2 returns_3 within_requires returns_4)

@@ -8,10 +8,10 @@ use lib.Seq.{get_or-take, get_or-drop, length-take-le, paste, paste-zero, paste-
 use Rattle.jpeg_huffman_table.proofs.copy.Statement.{statement}
 use Rattle.jpeg_huffman_table.proofs.copy.Tie as tie
 
-abbrev invariant_loop : tie.invariant-loop
+abbrev invariant_loop : tie.invariant-loop-i
 invariant_loop look₀ from to i₀ look i = (i ≤ 512) × (look ≡ paste look₀ to (drop from look₀) i)
 
-abbrev decreases_loop : tie.decreases-loop
+abbrev decreases_loop : tie.decreases-loop-i
 decreases_loop look₀ from to i₀ look i = 512 - i
 
 -- one entry more
@@ -37,47 +37,47 @@ module _ (old : List ℕ) (from to i : ℕ) (long : length old ≡ 4096) (before
       next : suc i ≡ i + 1
       next = omega arith
 
-loop_holds : tie.Need-loop-init invariant_loop decreases_loop
+loop_holds : tie.Need-loop-i-init invariant_loop decreases_loop
 loop_holds c = (omega arith, paste-zero c.args.look.now c.args.to (drop c.args.from c.args.look.now))
 
-add_look : tie.Need-overflow-add-look invariant_loop decreases_loop
-add_look c = omega (arith, c.loop-test.true, c.before.before.requires.1, c.before.before.requires.2)
+add_look : tie.Need-overflow_add-look invariant_loop decreases_loop
+add_look c = omega (arith, c.loop-i-test.true, c.requires.1, c.requires.2)
 
-mul_look : tie.Need-overflow-mul-look invariant_loop decreases_loop
-mul_look c = omega (arith, c.loop-test.true, c.before.before.requires.1, c.before.before.requires.2)
+mul_look : tie.Need-offset_bounds-look-from invariant_loop decreases_loop
+mul_look c = omega (arith, c.loop-i-test.true, c.requires.1, c.requires.2)
 
-element_copy_out_look : tie.Need-element-copy-out-look invariant_loop decreases_loop
-element_copy_out_look c = omega (arith, c.loop-test.true, c.before.before.requires.1, c.before.before.requires.2)
+element_copy_out_look : tie.Need-bounds-look-from invariant_loop decreases_loop
+element_copy_out_look c = omega (arith, c.loop-i-test.true, c.requires.1, c.requires.2)
 
-add_look_2 : tie.Need-overflow-add-look-2 invariant_loop decreases_loop
-add_look_2 c = omega (arith, c.before.loop-test.true, c.before.before.before.requires.2)
+add_look_2 : tie.Need-overflow_add-look-in-loop-i invariant_loop decreases_loop
+add_look_2 c = omega (arith, c.loop-i-test.true, c.requires.2)
 
-mul_look_2 : tie.Need-overflow-mul-look-2 invariant_loop decreases_loop
-mul_look_2 c = omega (arith, c.before.loop-test.true, c.before.before.before.requires.2)
+mul_look_2 : tie.Need-offset_bounds-look-to invariant_loop decreases_loop
+mul_look_2 c = omega (arith, c.loop-i-test.true, c.requires.2)
 
-element_write_look : tie.Need-element-write-look invariant_loop decreases_loop
-element_write_look c = omega (arith, c.before.loop-test.true, c.before.before.before.requires.2)
+element_write_look : tie.Need-bounds-look-to invariant_loop decreases_loop
+element_write_look c = omega (arith, c.loop-i-test.true, c.requires.2)
 
-add_i : tie.Need-overflow-add-i invariant_loop decreases_loop
-add_i c = omega (arith, c.before.loop-test.true)
+add_i : tie.Need-overflow_add-i invariant_loop decreases_loop
+add_i c = omega (arith, c.loop-i-test.true)
 
-loop_less : tie.Need-loop-smaller invariant_loop decreases_loop
-loop_less c = omega (arith, c.before.loop-test.true)
+loop_less : tie.Need-loop-i-smaller invariant_loop decreases_loop
+loop_less c = omega (arith, c.loop-i-test.true)
 
-loop_again : tie.Need-loop-preserved invariant_loop decreases_loop
+loop_again : tie.Need-loop-i-preserved invariant_loop decreases_loop
 loop_again c =
     let test = c.before in
     let here = test.before in
     let start = here.before in (
-      omega (arith, test.loop-test.true),
-      more start.args.look.now start.args.from start.args.to here.loop.i
-          start.requires.0 start.requires.1 start.requires.2 test.loop-test.true here.loop.invariant.1,
+      omega (arith, test.loop-i-test.true),
+      more start.args.look.now start.args.from start.args.to here.loop-i.i
+          start.requires.0 start.requires.1 start.requires.2 test.loop-i-test.true here.loop-i.invariant.1,
     )
 
 returns : tie.Need-returns invariant_loop decreases_loop
 returns c =
-    let all : c.before.loop.i ≡ 512 = omega (arith, c.loop-test.false, c.before.loop.invariant.0) in
-    c.before.loop.invariant.1 ∙ ap (paste c.before.before.args.look.now c.before.before.args.to (drop c.before.before.args.from c.before.before.args.look.now)) all
+    let all : c.loop-i.i ≡ 512 = omega (arith, c.loop-i-test.false, c.loop-i.invariant.0) in
+    c.loop-i.invariant.1 ∙ ap (paste c.args.look.now c.args.to (drop c.args.from c.args.look.now)) all
 
 pub copy_spec : {M : Type 1} → statement M
 copy_spec =

@@ -11,13 +11,13 @@ use Rattle.jpeg_huffman_table.specs.Looks.{field_at}
 use Rattle.jpeg_huffman_table.proofs.field.Statement.{statement}
 use Rattle.jpeg_huffman_table.proofs.field.Tie as tie
 
-sub_result : tie.Need-overflow-sub-result
+sub_result : tie.Need-overflow_sub-result
 sub_result c = search rules
 
-shr_result : tie.Need-overflow-shr-result
+shr_result : tie.Need-overflow_shr-result
 shr_result c = search rules
 
-shl_result : tie.Need-overflow-shl-result
+shl_result : tie.Need-overflow_shl-result
 shl_result c = search rules
 
 module _ (c : tie.Start) where
@@ -33,10 +33,10 @@ module _ (c : tie.Start) where
   small : (1 * 2 ^ (c.args.size % 16)) % 18446744073709551616 ≤ 32768
   small = rw span (pow_mono {j = 15} few)
 
-rem_result : tie.Need-nonzero-rem-result
+rem_result : tie.Need-nonzero_rem-result-4
 rem_result c = some c
 
-cast_result : tie.Need-overflow-cast-result
+cast_result : tie.Need-overflow_cast-result
 cast_result c = omega (arith, small c, mod-lt (c.args.acc / 2 ^ ((64 - c.args.total % 64) % 64)) (some c))
 
 returns : tie.Need-returns

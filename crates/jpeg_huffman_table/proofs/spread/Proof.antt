@@ -8,10 +8,10 @@ use lib.Seq.{paste, paste-zero, paste-suc, length-paste}
 use Rattle.jpeg_huffman_table.proofs.spread.Statement.{statement}
 use Rattle.jpeg_huffman_table.proofs.spread.Tie as tie
 
-abbrev invariant_loop : tie.invariant-loop
+abbrev invariant_loop : tie.invariant-loop-i
 invariant_loop look₀ from n e i₀ look i = (i ≤ n) × (look ≡ paste look₀ from (replicate n e) i)
 
-abbrev decreases_loop : tie.decreases-loop
+abbrev decreases_loop : tie.decreases-loop-i
 decreases_loop look₀ from n e i₀ look i = n - i
 
 module _ (old : List ℕ) (from n e : ℕ) (long : length old ≡ 512) (room : from + n ≤ 512) where
@@ -30,36 +30,36 @@ module _ (old : List ℕ) (from n e : ℕ) (long : length old ≡ 512) (room : f
       next : suc i ≡ i + 1
       next = omega arith
 
-loop_holds : tie.Need-loop-init invariant_loop decreases_loop
+loop_holds : tie.Need-loop-i-init invariant_loop decreases_loop
 loop_holds c = (omega arith, paste-zero c.args.look.now c.args.from (replicate c.args.n c.args.e))
 
-add_look : tie.Need-overflow-add-look invariant_loop decreases_loop
-add_look c = omega (arith, c.loop-test.true, c.before.before.requires.1)
+add_look : tie.Need-overflow_add-look invariant_loop decreases_loop
+add_look c = omega (arith, c.loop-i-test.true, c.requires.1)
 
-mul_look : tie.Need-overflow-mul-look invariant_loop decreases_loop
-mul_look c = omega (arith, c.loop-test.true, c.before.before.requires.1)
+mul_look : tie.Need-offset_bounds-look-from invariant_loop decreases_loop
+mul_look c = omega (arith, c.loop-i-test.true, c.requires.1)
 
-slice_write_look : tie.Need-slice-write-look invariant_loop decreases_loop
+slice_write_look : tie.Need-bounds-look-from invariant_loop decreases_loop
 slice_write_look c =
-    let same = kept _ _ _ _ c.before.before.requires.0 c.before.before.requires.1 _ c.before.loop.invariant.0 c.before.loop.invariant.1 in
-    omega (arith, same, c.loop-test.true, c.before.before.requires.1)
+    let same = kept _ _ _ _ c.requires.0 c.requires.1 _ c.loop-i.invariant.0 c.loop-i.invariant.1 in
+    omega (arith, same, c.loop-i-test.true, c.requires.1)
 
-add_i : tie.Need-overflow-add-i invariant_loop decreases_loop
-add_i c = omega (arith, c.loop-test.true, c.before.before.requires.1)
+add_i : tie.Need-overflow_add-i invariant_loop decreases_loop
+add_i c = omega (arith, c.loop-i-test.true, c.requires.1)
 
-loop_less : tie.Need-loop-smaller invariant_loop decreases_loop
-loop_less c = omega (arith, c.loop-test.true)
+loop_less : tie.Need-loop-i-smaller invariant_loop decreases_loop
+loop_less c = omega (arith, c.loop-i-test.true)
 
-loop_again : tie.Need-loop-preserved invariant_loop decreases_loop
-loop_again c = (omega (arith, c.loop-test.true), more _ _ _ _ c.before.before.requires.0 c.before.before.requires.1 _ c.loop-test.true c.before.loop.invariant.1)
+loop_again : tie.Need-loop-i-preserved invariant_loop decreases_loop
+loop_again c = (omega (arith, c.loop-i-test.true), more _ _ _ _ c.requires.0 c.requires.1 _ c.loop-i-test.true c.loop-i.invariant.1)
 
-same_length : tie.Need-same-length invariant_loop decreases_loop
-same_length c = kept _ _ _ _ c.before.before.requires.0 c.before.before.requires.1 _ c.before.loop.invariant.0 c.before.loop.invariant.1 ∙ sym c.before.before.requires.0
+same_length : tie.Need-shape_of-look invariant_loop decreases_loop
+same_length c = kept _ _ _ _ c.requires.0 c.requires.1 _ c.loop-i.invariant.0 c.loop-i.invariant.1 ∙ sym c.requires.0
 
 returns : tie.Need-returns invariant_loop decreases_loop
 returns c =
-    let all : c.before.loop.i ≡ c.before.before.args.n = omega (arith, c.loop-test.false, c.before.loop.invariant.0) in
-    c.before.loop.invariant.1 ∙ ap (paste c.before.before.args.look.now c.before.before.args.from (replicate c.before.before.args.n c.before.before.args.e)) all
+    let all : c.loop-i.i ≡ c.args.n = omega (arith, c.loop-i-test.false, c.loop-i.invariant.0) in
+    c.loop-i.invariant.1 ∙ ap (paste c.args.look.now c.args.from (replicate c.args.n c.args.e)) all
 
 pub spread_spec : {M : Type 1} → statement M
 spread_spec =
