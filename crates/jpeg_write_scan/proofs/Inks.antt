@@ -48,9 +48,9 @@ moves_not {due} code ink old e f = subst⁻¹ (λ (d : Bool). Moves (cut d code)
     on (Done p) rest = final_on code rest (page old p)
     on Uncoded rest = refl
 
-pub moves_mark : {due : Bool} {code : ℕ} {p q : Pen} (old : List ℕ) {new : List ℕ} {ink : Outcome} → due ≡ true → ink ≡ Done p → Proper p → page new q ≡ restarted (page old p) code → Moves (cut due code) ink old (Done q) new
+pub moves_mark : {due : Bool} (code : ℕ) {p q : Pen} (old : List ℕ) {new : List ℕ} {ink : Outcome} → due ≡ true → ink ≡ Done p → Proper p → page new q ≡ restarted (page old p) code → Moves (cut due code) ink old (Done q) new
 unfolding final_by
-moves_mark {due} {code} {p} {q} old {new} {ink} d e h g =
+moves_mark {due} code {p} {q} old {new} {ink} d e h g =
     subst⁻¹ (λ (i : Outcome). Moves (cut due code) i old (Done q) new) e
     (subst⁻¹ (λ (t : Bool). Moves (cut t code) (Done p) old (Done q) new) d
     (record {

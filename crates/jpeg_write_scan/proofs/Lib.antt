@@ -12,6 +12,3 @@ pub mod McuPassed
 pub mod ScanPassed
 pub mod SettledAnswers
 pub mod SureScans
-pub mod McuFollowed
-pub mod ScanFollowed
-pub mod WideAnswers

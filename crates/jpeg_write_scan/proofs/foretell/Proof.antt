@@ -16,45 +16,45 @@ use Rattle.jpeg_write_scan.proofs.SureScans.{foretold_measured, read_stop, read_
 use Rattle.jpeg_write_scan.proofs.foretell.Statement.{statement}
 use Rattle.jpeg_write_scan.proofs.foretell.Tie as tie
 
-set_up : (c : tie.After-shared-slice-known2) → Ready c.before.before.args.s.now c.before.before.args.found c.before.before.args.plan
-set_up c = ready c.before.before.args.s.now c.before.before.args.found c.before.before.requires.0 (λ z. omega (arith, c.before.before.requires.1, z))
+set_up : (c : tie.After-shared_slice_known-2-1) → Ready c.args.s.now c.args.found c.args.plan
+set_up c = ready c.args.s.now c.args.found c.requires.0 (λ z. omega (arith, c.requires.1, z))
 
-sure_so : (c : tie.Else1) → sure c.before.before.before.before.before.args.found c.before.before.before.before.before.args.words.now (length c.before.before.before.before.before.args.s.now - c.before.before.before.before.before.args.plan.start) c.before.before.before.before.before.args.room ≡ true
-sure_so c = sym c.before.sure.ensures ∙ not-false _ c.if1.false
+sure_so : (c : tie.Else-not-sure) → sure c.args.found c.args.words.now (length c.args.s.now - c.args.plan.start) c.args.room ≡ true
+sure_so c = sym c.sure.ensures ∙ not-false _ c.if-not-sure.false-raw
 
-sure_not : (c : tie.Then1) → sure c.before.before.before.before.before.args.found c.before.before.before.before.before.args.words.now (length c.before.before.before.before.before.args.s.now - c.before.before.before.before.before.args.plan.start) c.before.before.before.before.before.args.room ≡ false
-sure_not c = sym c.before.sure.ensures ∙ not-true _ c.if1.true
+sure_not : (c : tie.Then-not-sure) → sure c.args.found c.args.words.now (length c.args.s.now - c.args.plan.start) c.args.room ≡ false
+sure_not c = sym c.sure.ensures ∙ not-true _ c.if-not-sure.true-raw
 
-sub_coded : tie.Need-overflow-sub-coded
+sub_coded : tie.Need-overflow_sub-coded
 sub_coded c = (set_up c.before).inside
 
 sure_requires : tie.Need-sure-requires
 sure_requires c κs = tt
 
 measure_requires : tie.Need-measure-requires
-measure_requires c κs = ((set_up c.before.before.before).inside, c.before.before.before.before.before.requires.1, omega (arith, c.before.before.before.before.before.requires.2, ap (λ (n : Plan). n.blocks) (set_up c.before.before.before).plan_is), c.before.before.before.before.before.requires.3)
+measure_requires c κs = ((set_up c.before.before.before).inside, c.requires.1, omega (arith, c.requires.2, ap (λ (n : Plan). n.blocks) (set_up c.before.before.before).plan_is), c.requires.3)
 
-returns : tie.Need-returns
-returns c = measured_settled (set_up c.before.before.before.before) c.before.before.before.before.before.before.requires.2 c.measure.ensures ∙ foretold_measured (sure c.before.before.before.before.before.before.args.found c.before.before.before.before.before.before.args.words.now (length c.before.before.before.before.before.before.args.s.now - c.before.before.before.before.before.before.args.plan.start) c.before.before.before.before.before.before.args.room) c.before.before.before.before.before.before.args.room (settled_of c.before.before.before.before.before.before.args.s.now c.before.before.before.before.before.before.args.found) (sure_not c.before)
+returns : tie.Need-returns-then-not-sure
+returns c = measured_settled (set_up c.before.before.before.before) c.requires.2 c.measure.ensures ∙ foretold_measured (sure c.args.found c.args.words.now (length c.args.s.now - c.args.plan.start) c.args.room) c.args.room (settled_of c.args.s.now c.args.found) (sure_not c.before)
 
 validate_requires : tie.Need-validate-requires
 validate_requires c κs = search rules
 
-enum_known_f : tie.Need-enum-known-f
+enum_known_f : tie.Need-enum_known-f
 enum_known_f c = search rules
 
-enum_told : tie.Need-enum-told
+enum_told : tie.Need-enum_told-1
 enum_told c = search rules
 
-returns_2 : tie.Need-returns-2
+returns_2 : tie.Need-returns-in-Stop
 returns_2 c =
-    read_stop (set_up c.before.before.before.before.before.before.before) c.before.before.before.before.before.before.before.before.before.requires.3 c.before.before.before.before.before.before.before.before.before.requires.2 c.before.before.before.before.before.before.before.before.before.args.room c.before.before.before.validate.ensures c.before.f.given.1
-    ∙ ap (λ (t : Bool). foretold t c.before.before.before.before.before.before.before.before.before.args.room (settled_of c.before.before.before.before.before.before.before.before.before.args.s.now c.before.before.before.before.before.before.before.before.before.args.found)) (sym (sure_so c.before.before.before.before))
+    read_stop (set_up c.before.before.before.before.before) c.requires.3 c.requires.2 c.args.room c.validate.ensures c.in-Stop.is
+    ∙ ap (λ (t : Bool). foretold t c.args.room (settled_of c.args.s.now c.args.found)) (sym (sure_so c.before.before))
 
-returns_3 : tie.Need-returns-3
+returns_3 : tie.Need-returns-in-Done
 returns_3 c =
-    read_done (set_up c.before.before.before.before.before.before) c.before.before.before.before.before.before.before.before.requires.3 c.before.before.before.before.before.before.before.before.requires.2 c.before.before.before.before.before.before.before.before.args.room c.before.before.validate.ensures c.enum_told.given.1
-    ∙ ap (λ (t : Bool). foretold t c.before.before.before.before.before.before.before.before.args.room (settled_of c.before.before.before.before.before.before.before.before.args.s.now c.before.before.before.before.before.before.before.before.args.found)) (sym (sure_so c.before.before.before))
+    read_done (set_up c.before.before.before.before.before) c.requires.3 c.requires.2 c.args.room c.validate.ensures c.in-Done.is
+    ∙ ap (λ (t : Bool). foretold t c.args.room (settled_of c.args.s.now c.args.found)) (sym (sure_so c.before.before))
 
 pub foretell_spec : {M : Type 1} → statement M
 foretell_spec =

@@ -7,35 +7,35 @@ use borrow.Author.Rules.{rules}
 use Rattle.jpeg_write_scan.proofs.mark.Statement.{statement}
 use Rattle.jpeg_write_scan.proofs.mark.Tie as tie
 
-restart_due_requires : tie.Need-restart-due-requires
+restart_due_requires : tie.Need-restart_due-requires
 restart_due_requires c κs = search rules
 
-returns : tie.Need-returns
-returns c = moves_not _ _ _ (sym c.before.restart-due.ensures ∙ not-true _ c.if1.true) c.before.before.before.requires
+returns : tie.Need-returns-then-not-restart_due
+returns c = moves_not _ _ _ (sym c.restart_due.ensures ∙ not-true _ c.if-not-restart_due.true-raw) c.requires
 
-enum_told : tie.Need-enum-told
+enum_told : tie.Need-enum_told-1
 enum_told c = search rules
 
-enum_known_ink : tie.Need-enum-known-ink
+enum_known_ink : tie.Need-enum_known-ink
 enum_known_ink c = search rules
 
-restart_code_requires : tie.Need-restart-code-requires
+restart_code_requires : tie.Need-restart_code-code-requires
 restart_code_requires c κs = search rules
 
-cast_restart : tie.Need-overflow-cast-restart
+cast_restart : tie.Need-overflow_cast-code
 cast_restart c = search rules
 
 restart_requires : tie.Need-restart-requires
 restart_requires c κs = search rules
 
-returns_2 : tie.Need-returns-2
-returns_2 c = moves_none _ _ _ c.enum_told.given.1
+returns_2 : tie.Need-returns-in-Uncoded
+returns_2 c = moves_none _ _ _ c.in-Uncoded.is
 
-same_length : tie.Need-same-length
+same_length : tie.Need-shape_of-out
 same_length c = search rules
 
-returns_3 : tie.Need-returns-3
-returns_3 c = moves_mark _ (sym c.before.before.before.before.before.before.before.before.before.restart-due.ensures ∙ not-false _ c.before.before.before.before.before.before.before.before.if1.false) c.before.before.before.before.before.before.ink.given.1 (fit_pen c.before.before.before.before.before.before.ink.given.1 c.before.before.before.before.before.before.before.before.before.before.before.requires) (c.before.before.restart.ensures ∙ ap (restarted _) c.before.before.before.before.restart-code.ensures)
+returns_3 : tie.Need-returns-in-Done
+returns_3 c = moves_mark _ _ (sym c.restart_due.ensures ∙ not-false _ c.if-not-restart_due.false-raw) c.in-Done.is (fit_pen c.in-Done.is c.requires) (c.restart.ensures ∙ ap (restarted _) c.restart_code-code.ensures)
 
 pub mark_spec : {M : Type 1} → statement M
 mark_spec =

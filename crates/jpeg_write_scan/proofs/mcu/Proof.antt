@@ -34,87 +34,87 @@ abbrev decreases_walk : tie.decreases-walk
 decreases_walk s plan words out₀ start dcs acs order₀ levels₀ bits₀ predictors₀ done₀ ink₀ j₀ out order levels bits predictors done ink j = plan.per - j
 
 walk_holds : tie.Need-walk-init invariant_walk decreases_walk
-walk_holds c = (begin _ _ _ _ _ c.before.before.before.before.before.before.before.requires.2, first_digit _)
+walk_holds c = (begin _ _ _ _ _ c.requires.2, first_digit _)
 
-channel_requires : tie.Need-channel-requires invariant_walk decreases_walk
+channel_requires : tie.Need-channel-c-requires invariant_walk decreases_walk
 channel_requires c κs = search rules
 
-few_channels : (c : tie.After-channel invariant_walk decreases_walk) → c.channel.result < 4
-few_channels c = omega (arith, c.channel.ensures)
+few_channels : (c : tie.After-channel-c invariant_walk decreases_walk) → c.channel-c.result < 4
+few_channels c = omega (arith, c.channel-c.ensures)
 
-mul_prediction : tie.Need-overflow-mul-prediction invariant_walk decreases_walk
+mul_prediction : tie.Need-offset_bounds-predictors-c invariant_walk decreases_walk
 mul_prediction c = omega (arith, few_channels c)
 
-array_copy_out_prediction : tie.Need-array-copy-out-prediction invariant_walk decreases_walk
+array_copy_out_prediction : tie.Need-bounds-predictors-c invariant_walk decreases_walk
 array_copy_out_prediction c = few_channels c
 
-slice_aggregate_block : tie.Need-slice-aggregate-block invariant_walk decreases_walk
-slice_aggregate_block c = sym (length-take-le _ _ c.before.before.before.before.before.before.before.before.before.before.before.before.before.before.before.requires.0)
+slice_aggregate_block : tie.Need-slice_bounds-block-end invariant_walk decreases_walk
+slice_aggregate_block c = sym (length-take-le _ _ c.requires.0)
 
-mul_block : tie.Need-overflow-mul-block invariant_walk decreases_walk
-mul_block c = omega (arith, few_channels c.before.before)
+mul_block : tie.Need-offset_bounds-dcs-c invariant_walk decreases_walk
+mul_block c = omega (arith, few_channels c.before)
 
-array_read_block : tie.Need-array-read-block invariant_walk decreases_walk
-array_read_block c = few_channels c.before.before
+array_read_block : tie.Need-bounds-dcs-c invariant_walk decreases_walk
+array_read_block c = few_channels c.before
 
-mul_block_2 : tie.Need-overflow-mul-block-2 invariant_walk decreases_walk
-mul_block_2 c = omega (arith, few_channels c.before.before)
+mul_block_2 : tie.Need-offset_bounds-acs-c invariant_walk decreases_walk
+mul_block_2 c = omega (arith, few_channels c.before)
 
-array_read_block_2 : tie.Need-array-read-block-2 invariant_walk decreases_walk
-array_read_block_2 c = few_channels c.before.before
+array_read_block_2 : tie.Need-bounds-acs-c invariant_walk decreases_walk
+array_read_block_2 c = few_channels c.before
 
 block_requires : tie.Need-block-requires invariant_walk decreases_walk
 block_requires c κs = search rules
 
-enum_known_f : tie.Need-enum-known-f invariant_walk decreases_walk
+enum_known_f : tie.Need-enum_known-f invariant_walk decreases_walk
 enum_known_f c = search rules
 
-enum_known_b : tie.Need-enum-known-b invariant_walk decreases_walk
+enum_known_b : tie.Need-enum_known-b invariant_walk decreases_walk
 enum_known_b c = search rules
 
-put_on_requires : tie.Need-put-on-requires invariant_walk decreases_walk
+put_on_requires : tie.Need-put_on-ink-requires invariant_walk decreases_walk
 put_on_requires c κs =
-    let asked = c.before.before.before.before.before in
-    let told = asked.before.before.before.before in
-    let turn = told.before.before.before.before.before in
-    let start = turn.before.before.before.before.before.before.before.before in (
+    let asked = c in
+    let told = asked in
+    let turn = told in
+    let start = turn in (
       turn.walk.invariant.0.fit,
-      omega (arith, few_channels told),
+      omega (arith, few_channels told.before.before.before.before.before.before),
       sheet_long (head start.args.plan start.args.s.now) start.args.plan start.requires.1,
-      quiet_block _ asked.block.ensures.0 c.before.before.before.b.given.1 asked.block.ensures.1,
+      quiet_block _ asked.block.ensures.0 c.in-Got.is asked.block.ensures.1,
     )
 
-mul_predictors : tie.Need-overflow-mul-predictors invariant_walk decreases_walk
-mul_predictors c = omega (arith, few_channels c.before.before.before.before.before.before.before.before.before.before.before.before)
+mul_predictors : tie.Need-offset_bounds-predictors-c-in-Got invariant_walk decreases_walk
+mul_predictors c = omega (arith, few_channels c.before.before.before.before.before.before.before.before.before)
 
-array_set_from_predictors : tie.Need-array-set-from-predictors invariant_walk decreases_walk
-array_set_from_predictors c = omega (arith, few_channels c.before.before.before.before.before.before.before.before.before.before.before.before)
+array_set_from_predictors : tie.Need-bounds-predictors-c-in-Got invariant_walk decreases_walk
+array_set_from_predictors c = omega (arith, few_channels c.before.before.before.before.before.before.before.before.before)
 
 blocks_limit : (c : tie.Start invariant_walk decreases_walk) → c.args.plan.blocks < 2 ^ 64
-blocks_limit c = omega (arith, c.well-formed.1.0.1.1.1.1.1.1.1.0)
+blocks_limit c = omega (arith, c.well_formed.1.0.1.1.1.1.1.1.1.0)
 
 per_limit : (c : tie.Start invariant_walk decreases_walk) → c.args.plan.per < 2 ^ 64
-per_limit c = omega (arith, c.well-formed.1.0.1.1.1.1.1.0)
+per_limit c = omega (arith, c.well_formed.1.0.1.1.1.1.1.0)
 
-add_done : tie.Need-overflow-add-done invariant_walk decreases_walk
+add_done : tie.Need-overflow_add-done invariant_walk decreases_walk
 add_done c =
-    let unread = c.before.before.before.before.before.before.before.before.before.before.before.before.before in
-    let start = unread.before.before.before.before.before.before.before.before.before.before.before.before in
-    omega (arith, unread.if2.false, blocks_limit start)
+    let unread = c in
+    let start = unread in
+    omega (arith, unread.if-plan-done.false, blocks_limit start.before.before.before.before.before.before.before.before.before.before.before.before.before.before.before.before.before.before.before.before.before.before)
 
-add_j : tie.Need-overflow-add-j invariant_walk decreases_walk
+add_j : tie.Need-overflow_add-j invariant_walk decreases_walk
 add_j c =
-    let inside = c.before.before.before.before.before.before.before.before.before.before.before.before.before.before.before in
-    let start = inside.before.before.before.before.before.before.before.before.before.before in
-    omega (arith, inside.if1.false, per_limit start)
+    let inside = c in
+    let start = inside in
+    omega (arith, inside.if-plan-j.false, per_limit start.before.before.before.before.before.before.before.before.before.before.before.before.before.before.before.before.before.before.before.before.before.before)
 
 walk_less : tie.Need-walk-smaller invariant_walk decreases_walk
-walk_less c = omega (arith, c.before.before.before.before.before.before.before.before.before.before.before.before.before.before.before.if1.false)
+walk_less c = omega (arith, c.if-plan-j.false)
 
 -- what the block said and left, for the prediction as it stands
 module _ (c : tie.After-block invariant_walk decreases_walk) where
-  abbrev told : tie.After-channel invariant_walk decreases_walk
-  told = c.before.before.before.before
+  abbrev told : tie.After-channel-c invariant_walk decreases_walk
+  told = c.before.before.before
 
   abbrev turn : tie.At-walk invariant_walk decreases_walk
   turn = told.before.before.before.before.before
@@ -123,10 +123,10 @@ module _ (c : tie.After-block invariant_walk decreases_walk) where
   start = turn.before.before.before.before.before.before.before.before
 
   abbrev prediction : ℤ
-  prediction = get_or turn.walk.predictors told.channel.result (pos 0)
+  prediction = get_or turn.walk.predictors told.channel-c.result (pos 0)
 
   abbrev block_here : ℤ → Read Bits (List ℤ)
-  block_here z = block_by (head start.args.plan start.args.s.now) start.args.plan start.args.s.now told.channel.result z turn.walk.bits
+  block_here z = block_by (head start.args.plan start.args.s.now) start.args.plan start.args.s.now told.channel-c.result z turn.walk.bits
 
   prediction_fits : SFits w32 prediction
   prediction_fits = search rules
@@ -138,48 +138,48 @@ module _ (c : tie.After-block invariant_walk decreases_walk) where
   kept e = e ∙ ap (λ (z : ℤ). levels_of (block_here z)) (to_z-of_z prediction_fits)
 
   moved : (l : List ℤ) {r : Outcome} {new : List ℕ}
-      → Moves (onto (block_in start.args.words.now told.channel.result (to_z w32 (of_z w32 prediction)) l)) turn.walk.ink turn.walk.out r new
-      → Moves (onto (block_in start.args.words.now told.channel.result prediction l)) turn.walk.ink turn.walk.out r new
-  moved l {r} {new} h = subst (λ (z : ℤ). Moves (onto (block_in start.args.words.now told.channel.result z l)) turn.walk.ink turn.walk.out r new) (to_z-of_z prediction_fits) h
+      → Moves (onto (block_in start.args.words.now told.channel-c.result (to_z w32 (of_z w32 prediction)) l)) turn.walk.ink turn.walk.out r new
+      → Moves (onto (block_in start.args.words.now told.channel-c.result prediction l)) turn.walk.ink turn.walk.out r new
+  moved l {r} {new} h = subst (λ (z : ℤ). Moves (onto (block_in start.args.words.now told.channel-c.result z l)) turn.walk.ink turn.walk.out r new) (to_z-of_z prediction_fits) h
 
 walk_again : tie.Need-walk-preserved invariant_walk decreases_walk
 walk_again c =
-    let b = c.before.before.before.before.before.before.before.before in
-    let f : SFits w32 c.before.before.before.before.before.before.b.given.0.1.0 = search rules in
-    let told = c.before.before.before.before.before.before.before.before.before.before.before.before in
-    let unread = told.before in
-    let inside = unread.before.before in
-    let turn = inside.before.before in
-    let start = turn.before.before.before.before.before.before.before.before in (
-      rw (to_z-of_z f) (further turn.walk.invariant.0 inside.if1.false unread.if2.false
-          (told.channel.ensures ∙ ap (λ (k : ℕ). k % 4) turn.walk.invariant.1) (read b) c.before.before.before.before.before.before.b.given.1
-          (kept b b.block.ensures.1) start.requires.1 (search rules) (moved b b.block.new.1.1.1.1.1.1.0 c.before.before.put_on.ensures)),
+    let b = c in
+    let f : SFits w32 c.in-Got.first = search rules in
+    let told = c in
+    let unread = told in
+    let inside = unread in
+    let turn = inside in
+    let start = turn in (
+      rw (to_z-of_z f) (further turn.walk.invariant.0 inside.if-plan-j.false unread.if-plan-done.false
+          (told.channel-c.ensures ∙ ap (λ (k : ℕ). k % 4) turn.walk.invariant.1) (read b.before.before.before.before.before.before) c.in-Got.is
+          (kept b.before.before.before.before.before.before b.block.ensures.1) start.requires.1 (search rules) (moved b.before.before.before.before.before.before b.block.new.levels c.put_on-ink.ensures)),
       ap (λ (k : ℕ). k / 4) turn.walk.invariant.1 ∙ later_digit _ turn.walk.j,
     )
 
-same_length : tie.Need-same-length invariant_walk decreases_walk
-same_length c = c.before.before.walk.invariant.0.size
+same_length : tie.Need-shape_of-out-then-plan-j invariant_walk decreases_walk
+same_length c = c.walk.invariant.0.size
 
-returns : tie.Need-returns invariant_walk decreases_walk
-returns c = whole c.before.before.walk.invariant.0 c.if1.true
+returns : tie.Need-returns-then-plan-j invariant_walk decreases_walk
+returns c = whole c.walk.invariant.0 c.if-plan-j.true
 
-same_length_2 : tie.Need-same-length-2 invariant_walk decreases_walk
-same_length_2 c = c.before.before.before.before.walk.invariant.0.size
+same_length_2 : tie.Need-shape_of-out-then-plan-done invariant_walk decreases_walk
+same_length_2 c = c.walk.invariant.0.size
 
-returns_2 : tie.Need-returns-2 invariant_walk decreases_walk
-returns_2 c = out c.before.before.before.before.walk.invariant.0 c.if2.true
+returns_2 : tie.Need-returns-then-plan-done invariant_walk decreases_walk
+returns_2 c = out c.walk.invariant.0 c.if-plan-done.true
 
-same_length_3 : tie.Need-same-length-3 invariant_walk decreases_walk
-same_length_3 c = c.before.before.before.before.before.before.before.before.before.before.before.before.walk.invariant.0.size
+same_length_3 : tie.Need-shape_of-out-in-Stop invariant_walk decreases_walk
+same_length_3 c = c.walk.invariant.0.size
 
-returns_3 : tie.Need-returns-3 invariant_walk decreases_walk
+returns_3 : tie.Need-returns-in-Stop invariant_walk decreases_walk
 returns_3 c =
-    let told = c.before.before.before.before.before.before.before in
-    let unread = told.before in
-    let inside = unread.before.before in
-    let turn = inside.before.before in
-    broken turn.walk.invariant.0 inside.if1.false unread.if2.false (told.channel.ensures ∙ ap (λ (k : ℕ). k % 4) turn.walk.invariant.1)
-    (read c.before.before.before) c.before.f.given.1
+    let told = c in
+    let unread = told in
+    let inside = unread in
+    let turn = inside in
+    broken turn.walk.invariant.0 inside.if-plan-j.false unread.if-plan-done.false (told.channel-c.ensures ∙ ap (λ (k : ℕ). k % 4) turn.walk.invariant.1)
+    (read c.before) c.in-Stop.is
 
 pub mcu_spec : {M : Type 1} → statement M
 mcu_spec =

@@ -34,16 +34,16 @@ invariant_walk out₀ dc ac levels pred reach q₀ place₀ run₀ out q place r
 abbrev decreases_walk : tie.decreases-walk
 decreases_walk out₀ dc ac levels pred reach q₀ place₀ run₀ out q place run = 2 * (length levels - place) + run
 
-returns : tie.Need-returns invariant_walk decreases_walk
+returns : tie.Need-returns-then-levels-eq0 invariant_walk decreases_walk
 returns c =
-    is_lack (block_empty c.before.before.before.before.args.dc.now c.before.before.before.before.args.ac.now c.before.before.before.before.args.pred c.before.before.before.before.args.levels.now c.if1.true)
+    is_lack (block_empty c.args.dc.now c.args.ac.now c.args.pred c.args.levels.now c.if-levels-eq0.true)
 
 walk_holds : tie.Need-walk-init invariant_walk decreases_walk
 walk_holds c =
-    record { full = omega (arith, c.if1.false); within = omega arith; low = omega arith; long = refl; onto = onto_start _ _ c.before.before.before.before.requires.0 }
+    record { full = omega (arith, c.if-levels-eq0.false); within = omega arith; low = omega arith; long = refl; onto = onto_start _ _ c.requires.0 }
 
-zeros_to_requires : tie.Need-zeros-to-requires invariant_walk decreases_walk
-zeros_to_requires c κs = (c.before.before.before.before.before.requires.1, c.walk.invariant.within)
+zeros_to_requires : tie.Need-zeros_to-zeros-requires invariant_walk decreases_walk
+zeros_to_requires c κs = (c.requires.1, c.walk.invariant.within)
 
 -- the block from a place on
 abbrev to_come : tie.Start invariant_walk decreases_walk → ℕ → ℕ → Written
@@ -54,61 +54,61 @@ whole c =
     ap (λ (z : ℤ). block_by (coder_of c.args.dc.now) (coder_of c.args.ac.now) z c.args.levels.now) (sym (to_z-of_z c.ranges.pred))
     ∙ sym (onwards_block _ _ _ _ 0)
 
-behind : (c : tie.After-zeros-to invariant_walk decreases_walk) → Behind c.before.before.before.before.before.before.args.dc.now c.before.before.before.before.before.before.args.ac.now (to_z w32 (of_z w32 c.before.before.before.before.before.before.args.pred)) c.before.before.before.before.before.before.args.levels.now c.before.walk.place c.before.walk.run c.zeros-to.result
-behind c = zeros_behind _ _ _ _ _ _ c.before.walk.invariant.within c.before.walk.invariant.low c.zeros-to.ensures
+behind : (c : tie.After-zeros_to-zeros invariant_walk decreases_walk) → Behind c.args.dc.now c.args.ac.now (to_z w32 (of_z w32 c.args.pred)) c.args.levels.now c.walk.place c.walk.run c.zeros_to-zeros.result
+behind c = zeros_behind _ _ _ _ _ _ c.walk.invariant.within c.walk.invariant.low c.zeros_to-zeros.ensures
 
-add_place : tie.Need-overflow-add-place invariant_walk decreases_walk
+add_place : tie.Need-overflow_add-place invariant_walk decreases_walk
 add_place c = omega (arith, (behind c).within)
 
-add_run : tie.Need-overflow-add-run invariant_walk decreases_walk
+add_run : tie.Need-overflow_add-run invariant_walk decreases_walk
 add_run c = omega (arith, (behind c).within, (behind c).low)
 
-is_over_requires : tie.Need-is-over-requires invariant_walk decreases_walk
+is_over_requires : tie.Need-is_over-requires invariant_walk decreases_walk
 is_over_requires c κs = search rules
 
-next_requires : tie.Need-next-requires invariant_walk decreases_walk
+next_requires : tie.Need-next-turn-requires invariant_walk decreases_walk
 next_requires c κs = search rules
 
-word_at_requires : tie.Need-word-at-requires invariant_walk decreases_walk
+word_at_requires : tie.Need-word_at-word-requires invariant_walk decreases_walk
 word_at_requires c κs = search rules
 
-within : (c : tie.After-next invariant_walk decreases_walk) → Fits c.before.before.before.before.before.before.before.before.before.args.levels.now (c.before.before.before.before.walk.place + c.before.before.before.zeros-to.result) (c.before.before.before.before.walk.run + c.before.before.before.zeros-to.result) c.next.result
-within c = turn_within _ _ _ _ c.before.before.before.before.walk.invariant.full (behind c.before.before.before).low c.before.before.is-over.ensures c.before.if2.false c.next.ensures (behind c.before.before.before).within
+within : (c : tie.After-next-turn invariant_walk decreases_walk) → Fits c.args.levels.now (c.walk.place + c.zeros_to-zeros.result) (c.walk.run + c.zeros_to-zeros.result) c.next-turn.result
+within c = turn_within _ _ _ _ c.walk.invariant.full (behind c.before.before.before).low c.is_over.ensures c.if-is_over.false c.next-turn.ensures (behind c.before.before.before).within
 
-put_symbol_requires : tie.Need-put-symbol-requires invariant_walk decreases_walk
+put_symbol_requires : tie.Need-put_symbol-requires invariant_walk decreases_walk
 put_symbol_requires c κs = search rules
 
-enum_told : tie.Need-enum-told invariant_walk decreases_walk
+enum_told : tie.Need-enum_told-1 invariant_walk decreases_walk
 enum_told c = search rules
 
-enum_known_t : tie.Need-enum-known-t invariant_walk decreases_walk
+enum_known_t : tie.Need-enum_known-t invariant_walk decreases_walk
 enum_known_t c = search rules
 
-stands : (c : tie.After-word-at invariant_walk decreases_walk) → to_come c.before.before.before.before.before.before.before.before.before.before c.before.before.before.before.before.walk.place c.before.before.before.before.before.walk.run ≡ word_code c.word_at.result c.before.next.result.field c.before.next.result.size then to_come c.before.before.before.before.before.before.before.before.before.before c.before.next.result.place c.before.next.result.run
+stands : (c : tie.After-word_at-word invariant_walk decreases_walk) → to_come c.before.before.before.before.before.before.before.before.before.before c.walk.place c.walk.run ≡ word_code c.word_at-word.result c.next-turn.result.field c.next-turn.result.size then to_come c.before.before.before.before.before.before.before.before.before.before c.next-turn.result.place c.next-turn.result.run
 stands c =
     (behind c.before.before.before.before).same
-    ∙ onwards_turn _ _ _ _ c.before.before.before.before.before.walk.invariant.full (behind c.before.before.before.before).low c.before.before.before.is-over.ensures c.before.before.if2.false c.before.next.ensures _ _ (behind c.before.before.before.before).ready c.word_at.ensures
+    ∙ onwards_turn _ _ _ _ c.walk.invariant.full (behind c.before.before.before.before).low c.is_over.ensures c.if-is_over.false c.next-turn.ensures _ _ (behind c.before.before.before.before).ready c.word_at-word.ensures
 
 walk_less : tie.Need-walk-smaller invariant_walk decreases_walk
-walk_less c = omega (arith, (within c.before.before.before.before.before.before.before.before).less, (behind c.before.before.before.before.before.before.before.before.before.before.before).less)
+walk_less c = omega (arith, (within c.before.before.before.before.before.before).less, (behind c.before.before.before.before.before.before.before.before.before).less)
 
 walk_again : tie.Need-walk-preserved invariant_walk decreases_walk
 walk_again c =
-    record { full = c.before.before.before.before.before.before.before.before.before.before.before.before.walk.invariant.full; within = (within c.before.before.before.before.before.before.before.before).within; low = (within c.before.before.before.before.before.before.before.before).low; long = search rules; onto = onto_more c.before.before.before.before.before.before.before.before.before.before.before.before.walk.invariant.onto _ _ (stands c.before.before.before.before.before.before.before) (puts_done (puts_symbol _ _ _ _ _ c.before.before.before.before.before.before.before.before.before.before.before.before.walk.invariant.onto.proper (within c.before.before.before.before.before.before.before.before).few c.before.before.before.before.before.put-symbol.ensures) c.before.t.given.1) }
+    record { full = c.walk.invariant.full; within = (within c.before.before.before.before.before.before).within; low = (within c.before.before.before.before.before.before).low; long = search rules; onto = onto_more c.walk.invariant.onto _ _ (stands c.before.before.before.before.before) (puts_done (puts_symbol _ _ _ _ _ c.walk.invariant.onto.proper (within c.before.before.before.before.before.before).few c.put_symbol.ensures) c.in-Done.is) }
 
-same_length : tie.Need-same-length invariant_walk decreases_walk
+same_length : tie.Need-shape_of-out-then-is_over invariant_walk decreases_walk
 same_length c = search rules
 
-returns_2 : tie.Need-returns-2 invariant_walk decreases_walk
+returns_2 : tie.Need-returns-then-is_over invariant_walk decreases_walk
 returns_2 c =
-    puts_as (whole c.before.before.before.before.before.before.before.before) (is_done (onto_end c.before.before.before.walk.invariant.onto ((behind c.before.before).same ∙ onwards_over _ _ _ _ _ _ c.before.before.before.walk.invariant.full (sym c.before.is-over.ensures ∙ c.if2.true))))
+    puts_as (whole c.before.before.before.before.before.before.before.before) (is_done (onto_end c.walk.invariant.onto ((behind c.before.before).same ∙ onwards_over _ _ _ _ _ _ c.walk.invariant.full (sym c.is_over.ensures ∙ c.if-is_over.true))))
 
-same_length_2 : tie.Need-same-length-2 invariant_walk decreases_walk
+same_length_2 : tie.Need-shape_of-out-in-Uncoded invariant_walk decreases_walk
 same_length_2 c = search rules
 
-returns_3 : tie.Need-returns-3 invariant_walk decreases_walk
+returns_3 : tie.Need-returns-in-Uncoded invariant_walk decreases_walk
 returns_3 c =
-    puts_as (whole c.before.before.before.before.before.before.before.before.before.before.before.before.before.before.before.before) (is_lack (onto_lacks c.before.before.before.before.before.before.before.before.before.before.before.walk.invariant.onto (stands c.before.before.before.before.before.before ∙ lacks_then _ (puts_lack (puts_symbol _ _ _ _ _ c.before.before.before.before.before.before.before.before.before.before.before.walk.invariant.onto.proper (within c.before.before.before.before.before.before.before).few c.before.before.before.before.put-symbol.ensures) c.enum_told.given.1))))
+    puts_as (whole c.before.before.before.before.before.before.before.before.before.before.before.before.before.before.before) (is_lack (onto_lacks c.walk.invariant.onto (stands c.before.before.before.before.before ∙ lacks_then _ (puts_lack (puts_symbol _ _ _ _ _ c.walk.invariant.onto.proper (within c.before.before.before.before.before.before).few c.put_symbol.ensures) c.in-Uncoded.is))))
 
 pub put_block_spec : {M : Type 1} → statement M
 put_block_spec =

@@ -26,56 +26,56 @@ parts ws c z l f =
     ap₂ (λ (x y : ℕ). block_by (coder_of (take x (drop (512 * c) ws))) (coder_of (take y (drop (512 * c + 256) ws))) (to_z w32 (of_z w32 z)) l) a b
     ∙ ap (λ (d : ℤ). block_by (coder_of (words_in (512 * c) ws)) (coder_of (words_in (512 * c + 256) ws)) d l) (to_z-of_z f)
 
-mul_a : tie.Need-overflow-mul-a
+mul_a : tie.Need-overflow_mul-a
 mul_a c = search rules
 
-add_b : tie.Need-overflow-add-b
+add_b : tie.Need-overflow_add-b
 add_b c = search rules
 
-add_e : tie.Need-overflow-add-e
+add_e : tie.Need-overflow_add-e
 add_e c = search rules
 
-enum_told : tie.Need-enum-told
+enum_told : tie.Need-enum_told-1
 enum_told c = search rules
 
-enum_known_ink : tie.Need-enum-known-ink
+enum_known_ink : tie.Need-enum_known-ink
 enum_known_ink c = search rules
 
-mul_put_block : tie.Need-overflow-mul-put-block
+mul_put_block : tie.Need-offset_bounds-words-a
 mul_put_block c = search rules
 
-sub_put_block : tie.Need-overflow-sub-put-block
+sub_put_block : tie.Need-slice_bounds-put_block-count
 sub_put_block c = search rules
 
-part_put_block_start : tie.Need-slice-bounds-put-block-start
+part_put_block_start : tie.Need-slice_bounds-put_block-start
 part_put_block_start c = search rules
 
-part_put_block_end : tie.Need-slice-bounds-put-block-end
+part_put_block_end : tie.Need-slice_bounds-put_block-end
 part_put_block_end c = search rules
 
-mul_put_block_2 : tie.Need-overflow-mul-put-block-2
+mul_put_block_2 : tie.Need-offset_bounds-words-b
 mul_put_block_2 c = search rules
 
-sub_put_block_2 : tie.Need-overflow-sub-put-block-2
+sub_put_block_2 : tie.Need-slice_bounds-put_block-count-in-Done
 sub_put_block_2 c = search rules
 
-part_put_block_start_2 : tie.Need-slice-bounds-put-block-start-2
+part_put_block_start_2 : tie.Need-slice_bounds-put_block-start-in-Done
 part_put_block_start_2 c = search rules
 
-part_put_block_end_2 : tie.Need-slice-bounds-put-block-end-2
+part_put_block_end_2 : tie.Need-slice_bounds-put_block-end-in-Done
 part_put_block_end_2 c = search rules
 
-put_block_requires : tie.Need-put-block-requires
-put_block_requires c κs = (fit_pen c.before.before.before.before.before.ink.given.1 c.before.before.before.before.before.before.before.before.before.requires.0, c.before.before.before.before.before.before.before.before.before.requires.3)
+put_block_requires : tie.Need-put_block-requires
+put_block_requires c κs = (fit_pen c.in-Done.is c.requires.0, c.requires.3)
 
-returns : tie.Need-returns
-returns c = moves_none _ _ _ c.enum_told.given.1
+returns : tie.Need-returns-in-Uncoded
+returns c = moves_none _ _ _ c.in-Uncoded.is
 
-same_length : tie.Need-same-length
+same_length : tie.Need-shape_of-out
 same_length c = search rules
 
-returns_2 : tie.Need-returns-2
-returns_2 c = moves_block c.before.before.before.before.before.before.before.before.ink.given.1 (parts c.before.before.before.before.before.before.before.before.before.before.before.before.args.words.now c.before.before.before.before.before.before.before.before.before.before.before.before.args.c c.before.before.before.before.before.before.before.before.before.before.before.before.args.pred c.before.before.before.before.before.before.before.before.before.before.before.before.args.levels.now c.before.before.before.before.before.before.before.before.before.before.before.before.ranges.pred) c.before.before.put-block.ensures
+returns_2 : tie.Need-returns-in-Done
+returns_2 c = moves_block c.in-Done.is (parts c.args.words.now c.args.c c.args.pred c.args.levels.now c.ranges.pred) c.put_block.ensures
 
 pub put_on_spec : {M : Type 1} → statement M
 put_on_spec =

@@ -5,16 +5,16 @@ use borrow.Author.Rules.{rules}
 use Rattle.jpeg_write_scan.proofs.zeros_to.Statement.{statement}
 use Rattle.jpeg_write_scan.proofs.zeros_to.Tie as tie
 
-sub_result : tie.Need-overflow-sub-result
+sub_result : tie.Need-overflow_sub-result
 sub_result c = search rules
 
-returns : tie.Need-returns
-returns c = zeros_quiet _ _ _ c.before.requires.0 (omega (arith, c.if1.true))
+returns : tie.Need-returns-then-reach-place
+returns c = zeros_quiet _ _ _ c.requires.0 (omega (arith, c.if-reach-place.true))
 
-zeros_from_requires : tie.Need-zeros-from-requires
+zeros_from_requires : tie.Need-zeros_from-requires
 zeros_from_requires c κs = search rules
 
-returns_2 : tie.Need-returns-2
+returns_2 : tie.Need-returns
 returns_2 c = search rules
 
 pub zeros_to_spec : {M : Type 1} → statement M
