@@ -1,7 +1,7 @@
 #!/usr/bin/env python3
 """Rewrites the names that the toolchain gives the places, steps and goals of a function, in the crate's proofs/F/Proof.antt.
 
-usage: relabel.py CRATE_FOLDER NAMES.json
+usage: relabel.py CRATE_FOLDER NAMES.json [FUNCTION..]
 
 NAMES.json is what `rt check --generated FOLDER --old-names` writes in the crate's folder. A file is rewritten once: what already has the
 new names is left. What could not be followed is printed.
@@ -47,6 +47,13 @@ class Places:
                 return True
         return False
 
+    def closing(self, k):
+        """The place at which the arm that place k is inside of is whole, or k."""
+        while self.inner(k):
+            a = self.arms[k]
+            k = next(j for j, p in enumerate(self.prev) if p == k and self.arms[j] and self.arms[j][0] == a[0] and self.arms[j][1] == a[1] + 1)
+        return k
+
     def back(self, i, n):
         for _ in range(n):
             if i is None:
@@ -72,12 +79,13 @@ class Places:
 
 
 class Text:
-    def __init__(self, e, text, said):
-        self.e, self.text, self.said = e, text, said
+    def __init__(self, e, text, said, drop=False):
+        self.e, self.text, self.said, self.drop = e, text, said, drop
         self.p = Places(e)
 
     def run(self):
         self.text = self.text.replace(".type-inv", ".type_inv").replace(".well-formed", ".well_formed")
+        self.text = re.sub(r"\.pre(?![\w-])", ".requires", self.text)
         self.goals()
         blocks = re.split(r"(?m)^(?=\S)", self.text)
         # a signature and its clause belong together
@@ -93,7 +101,39 @@ class Text:
                 current = b
                 name = w if re.match(r"(?:(?:pub|abbrev|unfoldable) +)*\S+(?: \{[^\n]*\})* :", b) else None
         joined.append(current)
-        return "".join(self.block(b) for b in joined)
+        return "".join(self.block(b, {}) for b in joined)
+
+    def nested(self, b, env):
+        """A module over places: its header's places are known in all that it holds."""
+        head, rest = b.split(" where", 1)
+        env = dict(env)
+        for m in re.finditer(r"\(([\w' ]+) : tie\.([\w-]+)", head):
+            for x in m[1].split():
+                if m[2] in self.old_places:
+                    env[x] = self.old_places[m[2]]
+        head = self.rewrite(head, env)
+        indent = re.search(r"(?m)^( +)\S", rest)
+        if not indent:
+            return head + " where" + rest
+        pad = indent[1]
+        lines = [line[len(pad) :] if line.startswith(pad) else line for line in rest.split("\n")]
+        flat = "\n".join(lines)
+        parts = re.split(r"(?m)^(?=[^\s-])", flat)
+        joined, current, name = [], "", None
+        for part in parts:
+            m = re.match(r"(?:(?:pub|abbrev|unfoldable) +)*(\S+)", part)
+            w = m[1] if m else None
+            if w == "unfolding" or (name is not None and w == name):
+                current += part
+            else:
+                joined.append(current)
+                current = part
+                name = w if re.match(r"(?:(?:pub|abbrev|unfoldable) +)*\S+(?: \{[^\n]*\})* :", part) else None
+        joined.append(current)
+        done = "".join(self.block(part, env) for part in joined)
+        back = "\n".join(pad + line if line.strip() else line for line in done.split("\n"))
+        # the first part is what stands behind `where` on its line
+        return head + " where" + back[len(pad) if back.startswith(pad) and not rest.startswith(pad) else 0 :]
 
     def goals(self):
         """Goals by their place in the list that `tie.spec` takes."""
@@ -109,7 +149,7 @@ class Text:
         for (old, new), at in zip(needs, self.e["asked_at"]):
             self.asked[new] = at[0]
         loops = {canon(l[0][0]): l[0][1] for l in self.e["loops"]}
-        place = {canon(o): n for o, n in zip(self.p.names, self.p.new)}
+        place = {canon(o): self.p.new[self.p.closing(k)] for k, o in enumerate(self.p.names)}
 
         def put(m):
             t = m[1]
@@ -137,18 +177,22 @@ class Text:
         self.where = {}
         self.old_places = {}
         # remember the old place of each `tie.Place` by its new name
-        for o, n in zip(self.p.names, self.p.new):
-            self.old_places.setdefault(n, self.p.names.index(o))
+        for k, n in enumerate(self.p.new):
+            self.old_places.setdefault(n, k)
         self.text = re.sub(r"(?<![\w.-])tie\.([\w-]+)", put, self.text)
 
-    def block(self, b):
+    def block(self, b, outer):
+        if re.match(r"module _? *", b) and " where" in b:
+            return self.nested(b, outer)
+        if "tie.spec" in b:
+            b = self.inline(b)
         head = re.match(r"(?:(?:pub|abbrev|unfoldable) +)*(\S+)(?: \{[^\n]*\})* : *(.*)", b)
         if not head:
             return b
-        env = {}
+        env = dict(outer)
         name = head[1]
         need = re.search(r"(?m)^(?:(?:pub|abbrev|unfoldable) +)*" + re.escape(name) + r" : tie\.Need-([\w-]+)", b)
-        clause = re.search(r"(?m)^" + re.escape(name) + r"((?: +[^\s=]+)*) +=", b)
+        clause = re.search(r"(?m)^" + re.escape(name) + r"((?: +[^\s=:(→]+)*) +=", b)
         params = clause[1].split() if clause else []
         if need:
             at = self.asked.get(need[1])
@@ -160,8 +204,54 @@ class Text:
                 if m[2] in self.old_places:
                     env[m[1]] = self.old_places[m[2]]
             m = re.search(r" : tie\.([A-Z][\w-]*)[^→]*→", signature)
-            if m and params and m[1] in self.old_places and not env:
+            if m and params and m[1] in self.old_places and params[0] not in env:
                 env[params[0]] = self.old_places[m[1]]
+        return self.rewrite(b, env)
+
+    def inline(self, b):
+        """Answers that are written where `tie.spec` takes them, by their place."""
+        k = b.index("tie.spec") + len("tie.spec")
+        args, i, depth, start = [], k, 0, None
+        while i < len(b):
+            ch = b[i]
+            if ch in "([{":
+                if depth == 0 and start is None:
+                    start = i
+                depth += 1
+            elif ch in ")]}":
+                if depth == 0:
+                    if start is not None:
+                        args.append((start, i))
+                    start = None
+                    break
+                depth -= 1
+                if depth == 0 and start is not None and b[start] == "(":
+                    args.append((start, i + 1))
+                    start = None
+            elif ch.isspace():
+                if depth == 0 and start is not None:
+                    args.append((start, i))
+                    start = None
+            elif depth == 0 and start is None:
+                start = i
+            i += 1
+        if start is not None:
+            args.append((start, i))
+        loops = len(self.e["loops"])
+        needs = self.e["needs"]
+        if len(args) == len(needs) + 2 * loops:
+            args = args[2 * loops :]
+        elif len(args) != len(needs):
+            self.said.append(f"{len(args)} answers for {len(needs)} goals")
+            return b
+        for (x, y), at in reversed(list(zip(args, self.e["asked_at"]))):
+            t = b[x:y]
+            m = re.match(r"\(λ ([\w']+)", t)
+            if m and canon(at[0]) in self.p.index:
+                b = b[:x] + self.rewrite(t, {m[1]: self.p.index[canon(at[0])]}) + b[y:]
+        return b
+
+    def rewrite(self, b, env):
         # let-bound contexts
         out, last = [], 0
         pattern = re.compile(r"\blet +([\w'-]+)(?: : [^=\n]*)? = ([\w'-]+)((?:\.before)*) in\b|" + CHAIN.pattern)
@@ -171,7 +261,7 @@ class Text:
             if m[1]:
                 x, y, n = m[1], m[2], m[3].count(".before")
                 if y in env:
-                    i, at = env[y], self.p.back(env[y], n)
+                    i, at = env[y], self.p.back(env[y], 0 if self.drop else n)
                     k, j = self.record(i, at)
                     env[x] = j
                     out.append(f"let {x} = {y}{'.before' * k} in")
@@ -185,6 +275,8 @@ class Text:
 
     def record(self, i, at):
         """New steps from place i to a record from which place `at` can be seen, and its place."""
+        if self.drop:
+            return 0, i
         if at is None:
             return 0, i
         k = self.p.steps(i, at)
@@ -211,6 +303,8 @@ class Text:
         while comps and comps[0] == "before":
             comps.pop(0)
             n += 1
+        if self.drop:
+            n = 0
         at = self.p.back(i, n)
         if at is None:
             self.said.append(f"too far back: {whole}")
@@ -223,9 +317,10 @@ class Text:
             comps[0] = f.replace("-", "_")
             return ".".join([x, *comps])
         path = list(self.p.path(at))
-        for q in path:
-            if canon(self.p.field[q][0]) == canon(f) and self.p.field[q][0]:
-                return self.step(x, i, q, comps, whole)
+        for name in (canon(f), canon(f).removesuffix("_lem")):
+            for q in path:
+                if canon(self.p.field[q][0]) == name and self.p.field[q][0]:
+                    return self.step(x, i, q, comps, whole)
         self.said.append(f"no step {f}: {whole}")
         return whole
 
@@ -264,7 +359,7 @@ class Text:
         return out
 
 
-def main(folder, names):
+def main(folder, names, *dropped):
     with open(names) as f:
         table = json.load(f)
     for key, e in table.items():
@@ -278,7 +373,7 @@ def main(folder, names):
             text = f.read()
         said = []
         try:
-            new = Text(e, text, said).run()
+            new = Text(e, text, said, m[1] in dropped).run()
         except Exception as ex:
             said.append(f"failed: {ex!r}")
             new = text
