@@ -9,47 +9,47 @@ use Rattle.jpeg_settle.proofs.file.Tie as tie
 unsettled_requires : tie.Need-unsettled-requires
 unsettled_requires c κs = search rules
 
-returns : tie.Need-returns
-returns c = refiled_long c.before.before.before.before.args.s.now c.before.before.before.before.args.found c.before.before.before.before.args.rest c.before.before.before.before.args.out.now (omega (arith, c.before.if1.true)) c.unsettled.ensures
+returns : tie.Need-returns-then-s-ge-UNCOUNTED
+returns c = refiled_long c.args.s.now c.args.found c.args.rest c.args.out.now (omega (arith, c.if-s-ge-UNCOUNTED.true)) c.unsettled.ensures
 
 scan_requires : tie.Need-scan-requires
 scan_requires c κs = search rules
 
-enum_known_f : tie.Need-enum-known-f
+enum_known_f : tie.Need-enum_known-f
 enum_known_f c = search rules
 
-unsettled_requires_2 : tie.Need-unsettled-requires-2
+unsettled_requires_2 : tie.Need-unsettled-requires-in-Stop
 unsettled_requires_2 c κs = search rules
 
-enum_told : tie.Need-enum-told
+enum_told : tie.Need-enum_told-1
 enum_told c = search rules
 
-unsettled_requires_3 : tie.Need-unsettled-requires-3
+unsettled_requires_3 : tie.Need-unsettled-requires-in-Lacking
 unsettled_requires_3 c κs = search rules
 
-enum_known_n : tie.Need-enum-known-n
+enum_known_n : tie.Need-enum_known-n
 enum_known_n c = search rules
 
 join_requires : tie.Need-join-requires
-join_requires c κs = file_within c.before.before.before.before.before.before.before.before.before.before.before.args.s.now c.before.before.before.before.before.before.before.before.before.before.before.args.found (omega (arith, c.before.before.before.before.before.before.before.before.if1.false)) c.before.before.before.before.before.before.before.before.before.before.before.args.rest c.before.before.before.before.before.before.before.before.before.before.before.args.out.now c.before.before.before.before.before.before.scan.ensures.0 c.before.before.before.before.before.before.scan.ensures.1 c.before.before.n.given.1
+join_requires c κs = file_within c.args.s.now c.args.found (omega (arith, c.if-s-ge-UNCOUNTED.false)) c.args.rest c.args.out.now c.scan.ensures.0 c.scan.ensures.1 c.in-Done.is
 
-same_length : tie.Need-same-length
+same_length : tie.Need-shape_of-out-in-Stop
 same_length c = search rules
 
-returns_2 : tie.Need-returns-2
-returns_2 c = file_stop c.before.before.before.before.before.before.before.before.before.before.before.args.s.now c.before.before.before.before.before.before.before.before.before.before.before.args.found (omega (arith, c.before.before.before.before.before.before.before.before.if1.false)) c.before.before.before.before.before.before.before.before.before.before.before.args.rest c.before.before.before.before.before.before.before.before.before.before.before.args.out.now c.before.before.before.before.before.before.scan.ensures.0 c.before.before.before.before.before.before.scan.ensures.1 c.before.before.f.given.1 c.unsettled2.ensures
+returns_2 : tie.Need-returns-in-Stop
+returns_2 c = file_stop c.args.s.now c.args.found (omega (arith, c.if-s-ge-UNCOUNTED.false)) c.args.rest c.args.out.now c.scan.ensures.0 c.scan.ensures.1 c.in-Stop.is c.unsettled-in-Stop.ensures
 
-same_length_2 : tie.Need-same-length-2
+same_length_2 : tie.Need-shape_of-out-in-Lacking
 same_length_2 c = search rules
 
-returns_3 : tie.Need-returns-3
-returns_3 c = file_none c.before.before.before.before.before.before.before.before.before.before.args.s.now c.before.before.before.before.before.before.before.before.before.before.args.found (omega (arith, c.before.before.before.before.before.before.before.if1.false)) c.before.before.before.before.before.before.before.before.before.before.args.rest c.before.before.before.before.before.before.before.before.before.before.args.out.now c.before.before.before.before.before.scan.ensures.0 c.before.before.before.before.before.scan.ensures.1 c.before.enum_told.given.1 c.unsettled3.ensures
+returns_3 : tie.Need-returns-in-Lacking
+returns_3 c = file_none c.args.s.now c.args.found (omega (arith, c.if-s-ge-UNCOUNTED.false)) c.args.rest c.args.out.now c.scan.ensures.0 c.scan.ensures.1 c.in-Lacking.is c.unsettled-in-Lacking.ensures
 
-same_length_3 : tie.Need-same-length-3
+same_length_3 : tie.Need-shape_of-out-in-Done
 same_length_3 c = search rules
 
-returns_4 : tie.Need-returns-4
-returns_4 c = c.before.before.join.ensures ∙ file_done c.before.before.before.before.before.before.before.before.before.before.before.before.before.before.args.s.now c.before.before.before.before.before.before.before.before.before.before.before.before.before.before.args.found (omega (arith, c.before.before.before.before.before.before.before.before.before.before.before.if1.false)) c.before.before.before.before.before.before.before.before.before.before.before.before.before.before.args.rest c.before.before.before.before.before.before.before.before.before.before.before.before.before.before.args.out.now c.before.before.before.before.before.before.before.before.before.scan.ensures.0 c.before.before.before.before.before.before.before.before.before.scan.ensures.1 c.before.before.before.before.before.n.given.1
+returns_4 : tie.Need-returns-in-Done
+returns_4 c = c.join.ensures ∙ file_done c.args.s.now c.args.found (omega (arith, c.if-s-ge-UNCOUNTED.false)) c.args.rest c.args.out.now c.scan.ensures.0 c.scan.ensures.1 c.in-Done.is
 
 pub file_spec : {M : Type 1} → statement M
 file_spec =
