@@ -13,20 +13,20 @@ asked_requires c κs = search rules
 fresh_requires : tie.Need-fresh-requires
 fresh_requires c κs = search rules
 
-decode_requires : tie.Need-decode-requires
+decode_requires : tie.Need-decode-seen-requires
 decode_requires c κs = search rules
 
 number_requires : tie.Need-number-requires
 number_requires c κs = search rules
 
-same_length : tie.Need-same-length
+same_length : tie.Need-shape_of-output
 same_length c = search rules
 
-same_length_2 : tie.Need-same-length-2
+same_length_2 : tie.Need-shape_of-scratch
 same_length_2 c = search rules
 
 returns : tie.Need-returns
-returns c = rw c.number.ensures (ap decoded ((rw (c.before.before.before.before.before.before.before.before.before.before.asked.ensures, c.before.before.before.before.before.before.before.fresh.ensures) at c.before.before.before.before.before.before.decode.ensures) ∙ asked_decodes _ (all_bytes c.before.before.before.before.before.before.before.before.before.before.before.before.before.before.args.bytes.now (λ i. omega (arith, c.before.before.before.before.before.before.before.before.before.before.before.before.before.shared-slice-known.given i))) _ _ _ _))
+returns c = rw c.number.ensures (ap decoded ((rw (c.asked.ensures, c.fresh.ensures) at c.decode-seen.ensures) ∙ asked_decodes _ (all_bytes c.args.bytes.now (λ i. omega (arith, c.shared_slice_known-1.given i))) _ _ _ _))
 
 pub tillsparrow_decode_spec : {M : Type 1} → statement M
 tillsparrow_decode_spec =

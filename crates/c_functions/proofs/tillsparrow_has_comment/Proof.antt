@@ -10,13 +10,13 @@ limits_requires c κs = search rules
 fresh_requires : tie.Need-fresh-requires
 fresh_requires c κs = search rules
 
-has_comment_requires : tie.Need-has-comment-requires
+has_comment_requires : tie.Need-has_comment-seen-requires
 has_comment_requires c κs = search rules
 
-digit_requires : tie.Need-digit-requires
+digit_requires : tie.Need-digit-there-requires
 digit_requires c κs = search rules
 
-named_requires : tie.Need-named-requires
+named_requires : tie.Need-named-named-requires
 named_requires c κs = search rules
 
 number_requires : tie.Need-number-requires
@@ -25,11 +25,11 @@ number_requires c κs = search rules
 returns : tie.Need-returns
 returns c =
     rw c.number.ensures
-    (rw c.before.named.ensures
-    (rw c.before.before.digit.ensures
+    (rw c.named-named.ensures
+    (rw c.digit-there.ensures
     (ap flat_presence
-    (rw (c.before.before.before.before.before.fresh.ensures, c.before.before.before.before.before.before.limits.ensures) at
-    c.before.before.before.before.has-comment.ensures))))
+    (rw (c.fresh.ensures, c.limits.ensures) at
+    c.has_comment-seen.ensures))))
 
 pub tillsparrow_has_comment_spec : {M : Type 1} → statement M
 tillsparrow_has_comment_spec =

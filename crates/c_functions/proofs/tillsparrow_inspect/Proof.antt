@@ -9,13 +9,13 @@ limits_requires c κs = search rules
 fresh_requires : tie.Need-fresh-requires
 fresh_requires c κs = search rules
 
-inspect_requires : tie.Need-inspect-requires
+inspect_requires : tie.Need-inspect-seen-requires
 inspect_requires c κs = search rules
 
-flat_requires : tie.Need-flat-requires
+flat_requires : tie.Need-flat-found-requires
 flat_requires c κs = search rules
 
-named_requires : tie.Need-named-requires
+named_requires : tie.Need-named-named-requires
 named_requires c κs = search rules
 
 number_requires : tie.Need-number-requires
@@ -24,10 +24,10 @@ number_requires c κs = search rules
 returns : tie.Need-returns
 returns c =
     rw c.number.ensures
-    (rw c.before.named.ensures
-    (rw c.before.before.before.flat.ensures
-    (rw c.before.before.before.before.inspect.ensures
-    (rw c.before.before.before.before.before.fresh.ensures (rw c.before.before.before.before.before.before.limits.ensures refl)))))
+    (rw c.named-named.ensures
+    (rw c.flat-found.ensures
+    (rw c.inspect-seen.ensures
+    (rw c.fresh.ensures (rw c.limits.ensures refl)))))
 
 pub tillsparrow_inspect_spec : {M : Type 1} → statement M
 tillsparrow_inspect_spec =

@@ -10,25 +10,25 @@ limits_requires c κs = search rules
 fresh_requires : tie.Need-fresh-requires
 fresh_requires c κs = search rules
 
-settle_requires : tie.Need-settle-requires
+settle_requires : tie.Need-settle-seen-requires
 settle_requires c κs = search rules
 
-named_requires : tie.Need-named-requires
+named_requires : tie.Need-named-named-requires
 named_requires c κs = search rules
 
 number_requires : tie.Need-number-requires
 number_requires c κs = search rules
 
-same_length : tie.Need-same-length
+same_length : tie.Need-shape_of-room
 same_length c = search rules
 
 returns : tie.Need-returns
 returns c =
     rw c.number.ensures
-    (rw c.before.named.ensures
+    (rw c.named-named.ensures
     (ap settled
-    (rw (c.before.before.before.before.before.before.before.before.limits.ensures, c.before.before.before.before.before.before.before.fresh.ensures) at
-    c.before.before.before.before.before.settle.ensures)))
+    (rw (c.limits.ensures, c.fresh.ensures) at
+    c.settle-seen.ensures)))
 
 pub tillsparrow_settle_spec : {M : Type 1} → statement M
 tillsparrow_settle_spec =

@@ -9,20 +9,20 @@ use Rattle.jpeg_comment.proofs.comment_part.Tie as tie
 accepted_requires : tie.Need-accepted-requires
 accepted_requires c κs = search rules
 
-part_of_requires : tie.Need-part-of-requires
+part_of_requires : tie.Need-part_of-requires
 part_of_requires c κs = search rules
 
-returns : tie.Need-returns
-returns c = c.part_of.ensures ∙ part_none c.before.before.before.before.args.s.now c.before.before.before.before.args.i (sym c.before.before.accepted.ensures ∙ not-true _ c.before.if1.true)
+returns : tie.Need-returns-then-not-accepted
+returns c = c.part_of.ensures ∙ part_none c.args.s.now c.args.i (sym c.accepted.ensures ∙ not-true _ c.if-not-accepted.true-raw)
 
 comment_requires : tie.Need-comment-requires
 comment_requires c κs = search rules
 
-part_of_requires_2 : tie.Need-part-of-requires-2
+part_of_requires_2 : tie.Need-part_of-requires-2
 part_of_requires_2 c κs = search rules
 
-returns_2 : tie.Need-returns-2
-returns_2 c = c.part-of2.ensures ∙ ap part_of c.before.comment.ensures ∙ part_sought c.before.before.before.before.before.args.s.now c.before.before.before.before.before.args.i (sym c.before.before.before.accepted.ensures ∙ not-false _ c.before.before.if1.false)
+returns_2 : tie.Need-returns
+returns_2 c = c.part_of-2.ensures ∙ ap part_of c.comment.ensures ∙ part_sought c.args.s.now c.args.i (sym c.accepted.ensures ∙ not-false _ c.if-not-accepted.false-raw)
 
 pub comment_part_spec : {M : Type 1} → statement M
 comment_part_spec =

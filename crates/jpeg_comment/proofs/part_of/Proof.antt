@@ -4,16 +4,16 @@ use borrow.Author.Rules.{rules}
 use Rattle.jpeg_comment.proofs.part_of.Statement.{statement}
 use Rattle.jpeg_comment.proofs.part_of.Tie as tie
 
-enum_told : tie.Need-enum-told
+enum_told : tie.Need-enum_told-1
 enum_told c = search rules
 
-enum_known_sought : tie.Need-enum-known-sought
+enum_known_sought : tie.Need-enum_known-sought
 enum_known_sought c = search rules
 
-returns : tie.Need-returns
-returns c = ap part_of (sym c.enum_told.given.1)
+returns : tie.Need-returns-in-Absent
+returns c = ap part_of (sym c.in-Absent.is)
 
-returns_2 : tie.Need-returns-2
+returns_2 : tie.Need-returns-in-There
 returns_2 c = search rules
 
 pub part_of_spec : {M : Type 1} → statement M
