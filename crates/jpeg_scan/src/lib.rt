@@ -2,7 +2,7 @@
 // reads it, without samples for `validate`, with them for `draw`.
 #![tactic(auto)]
 
-ghost use Rattle.std.specs.Prelude.{◌≡◌, true, cond, ◌*◌, ◌/◌, ◌≤◌, ltb, length, take, drop};
+ghost use Rattle.std.specs.Prelude.{◌≡◌, true, cond, ◌+◌, ◌*◌, ◌/◌, ◌≤◌, ltb, length, take, drop};
 ghost use Rattle.reading.specs.Tests.{◌and◌};
 ghost use Rattle.reading.specs.Code.Painted.{samples_to};
 ghost use Rattle.reading.specs.Code.Scans.{scan_of};
@@ -13,7 +13,8 @@ ghost use Rattle.jpeg_scan.specs.Steps.{placed, Went, Left, drawn_for};
 use jpeg_scan_plan::{CursorRead, Halt, Plan};
 use reading::{BlockRead, Break, Fault, Record, ScanCursor, ScanRead};
 
-// Block k's samples, where they are written and the scratch has room for them, in their own 64 bytes of it.
+// Block k's samples, where they are written and the scratch has room for them, in their own 64 bytes of it. A caller that knows of the room
+// has the second clause.
 pub fn paint(
     t: &[u8],
     at: usize,
@@ -23,7 +24,8 @@ pub fn paint(
     write: bool,
     scratch: &mut [u8],
 )
-    ensures { scratch.new ≡ cond (write and ltb k (length scratch.old / 64)) (placed (64 * k) (samples_to (take 64 (drop at t.now)) levels.now reach) scratch.old) scratch.old }
+    ensures written { scratch.new ≡ cond (write and ltb k (length scratch.old / 64)) (placed (64 * k) (samples_to (take 64 (drop at t.now)) levels.now reach) scratch.old) scratch.old }
+    ensures with_room { (write ≡ true → 64 * k + 64 ≤ length scratch.old) → scratch.new ≡ cond write (placed (64 * k) (samples_to (take 64 (drop at t.now)) levels.now reach) scratch.old) scratch.old }
 {
     if !write {
         return;

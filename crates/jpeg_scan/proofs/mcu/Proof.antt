@@ -145,7 +145,7 @@ walk_again c =
     let start = turn in (
       rw (to_z-of_z f) (further turn.walk.invariant.0 inside.if-plan-j.false unread.if-plan-done.false
           (told.channel-c.ensures ∙ ap (λ (k : ℕ). k % 4) turn.walk.invariant.1) (read b.before.before.before.before) c.in-Got.is
-          (kept b.before.before.before.before b.block.ensures.1) c.paint.ensures start.requires.1),
+          (kept b.before.before.before.before b.block.ensures.1) c.paint.ensures.0 start.requires.1),
       ap (λ (k : ℕ). k / 4) turn.walk.invariant.1 ∙ later_digit _ turn.walk.j,
     )
 
