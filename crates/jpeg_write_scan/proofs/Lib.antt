@@ -12,3 +12,6 @@ pub mod McuPassed
 pub mod ScanPassed
 pub mod SettledAnswers
 pub mod SureScans
+pub mod McuFollowed
+pub mod ScanFollowed
+pub mod WideAnswers

@@ -17,6 +17,8 @@ ghost use Rattle.jpeg_write_codes.specs.Sheets.{sheet, words_in, sure};
 ghost use Rattle.jpeg_write_scan.specs.Sheets.{bases_of};
 ghost use Rattle.jpeg_write_scan.specs.Pass.{final_by, Fit, Moves, last_part, Closes, Went, Ran, Measures, foretold};
 
+mod wide;
+
 use jpeg_scan_plan::{Halt, Plan};
 use jpeg_write_bits::{Outcome, Pen};
 use reading::{BlockRead, Break, Fault, Record, ScanCursor, ScanRead, ScanSettled};
@@ -303,6 +305,40 @@ pub fn settled(s: &[u8], found: Record, out: &mut [u8]) -> ScanSettled
                 return ScanSettled::Done(n);
             }
             run(s, plan, &words, out)
+        }
+    }
+}
+
+// The same by the fast engine. The plain one serves where the pass over a scan meets a fault, for scans that are too short for the tables to
+// pay, and for records that no scan is read by.
+pub fn settled_wide(s: &[u8], found: Record, out: &mut [u8]) -> ScanSettled
+    ensures { (result ≡ scan_settled (settled_of s.now found)) × (out.new ≡ laid_over (settled_of s.now found) out.old) }
+{
+    let blocks = found.blocks;
+    if blocks < 100 {
+        return settled(s, found, out);
+    }
+    if 4294967295 < blocks {
+        return settled(s, found, out);
+    }
+    let plan = Plan::of(s, found);
+    if plan.per == 0 {
+        return settled(s, found, out);
+    }
+    let start = plan.start;
+    let dcs = plan.dcs;
+    let acs = plan.acs;
+    let room = out.len();
+    let words = jpeg_write_codes::sheet(&s[..start], bases(plan));
+    let look = jpeg_huffman_table::looks(&s[..start], dcs, acs);
+    match wide::foretell(s, found, plan, &look, &words, room) {
+        ScanSettled::Stop(f) => settled(s, found, out),
+        ScanSettled::Lacking => ScanSettled::Lacking,
+        ScanSettled::Done(n) => {
+            if room < n {
+                return ScanSettled::Done(n);
+            }
+            wide::run(s, plan, &look, &words, out)
         }
     }
 }

@@ -18,68 +18,68 @@ use Rattle.jpeg_block_wide.proofs.Opening.{block_stopped, block_never_ends, bloc
 use Rattle.jpeg_block_wide.proofs.block.Statement.{statement}
 use Rattle.jpeg_block_wide.proofs.block.Tie as tie
 
-part_requires : tie.Need-part-requires
+part_requires : tie.Need-part-entries-requires
 part_requires c κs = search rules
 
 first_requires : tie.Need-first-requires
 first_requires c κs = search rules
 
 -- at the prediction as it was given
-abbrev FirstAt : tie.After-part → ℤ → WideStep → Type 0
+abbrev FirstAt : tie.After-part-entries → ℤ → WideStep → Type 0
 FirstAt c p r =
     let start = c.before.before.before.before in
-    FirstMeets start.args.t.now start.args.dc start.args.look.now c.part.result start.args.s.now start.args.from p r
+    FirstMeets start.args.t.now start.args.dc start.args.look.now c.part-entries.result start.args.s.now start.args.from p r
 
-first_is : (c : tie.After-first) → FirstAt c.before c.before.before.before.before.before.args.pred c.first.result
-first_is c = subst (λ z. FirstAt c.before z c.first.result) (to_z-of_z c.before.before.before.before.before.ranges.pred) c.first.ensures
+first_is : (c : tie.After-first) → FirstAt c.before c.args.pred c.first.result
+first_is c = subst (λ z. FirstAt c.before z c.first.result) (to_z-of_z c.ranges.pred) c.first.ensures
 
-enum_known_f : tie.Need-enum-known-f
+enum_known_f : tie.Need-enum_known-f
 enum_known_f c = search rules
 
-enum_known_z : tie.Need-enum-known-z
+enum_known_z : tie.Need-enum_known-z
 enum_known_z c = search rules
 
-element_set_from_z : tie.Need-element-set-from-z
+element_set_from_z : tie.Need-bounds-levels-0
 element_set_from_z c = search rules
 
-add_rest : tie.Need-overflow-add-rest
-add_rest c = omega (arith, c.before.before.before.before.part.ensures, part_small c.before.before.before.before.before.before.before.before.args.c)
+add_rest : tie.Need-overflow_add-entries
+add_rest c = omega (arith, c.part-entries.ensures, part_small c.args.c)
 
 rest_requires : tie.Need-rest-requires
 rest_requires c κs = search rules
 
-enum_told : tie.Need-enum-told
+enum_told : tie.Need-enum_told-1
 enum_told c = search rules
 
-enum_told_2 : tie.Need-enum-told-2
+enum_told_2 : tie.Need-enum_told-in-Skip
 enum_told_2 c = search rules
 
-returns : tie.Need-returns
+returns : tie.Need-returns-in-Stop
 returns c =
-    let start = c.before.before.before.before.before.before.before.before in
+    let start = c.before.before.before.before.before.before in
     block_stopped start.args.t.now start.args.dc start.args.ac start.args.look.now start.args.c start.args.s.now start.args.from start.args.pred
-    c.before.before.before.before.part.ensures (first_is c.before.before.before) c.before.f.given.1 []
+    c.part-entries.ensures (first_is c.before) c.in-Stop.is []
 
-returns_2 : tie.Need-returns-2
+returns_2 : tie.Need-returns-in-Put
 returns_2 c =
-    let start = c.before.before.before.before.before.before.before.before.before.before in
-    let level = c.before.before.before in
-    let fits : SFits w16 level.z.given.0.1.0 = search rules in
+    let start = c.before.before.before.before.before.before.before.before in
+    let level = c.before.before in
+    let fits : SFits w16 level.in-Put.z = search rules in
     block_goes start.args.t.now start.args.dc start.args.ac start.args.look.now start.args.c start.args.s.now start.args.from start.args.pred
-    c.before.before.before.before.before.before.part.ensures (first_is c.before.before.before.before.before) level.z.given.1
+    c.part-entries.ensures (first_is c.before.before.before) level.in-Put.is
     c.rest.result _ (ap (set (zeros 64) 0) (to_z-of_z fits)) c.rest.ensures
 
-returns_3 : tie.Need-returns-3
+returns_3 : tie.Need-returns-in-End
 returns_3 c =
-    let start = c.before.before.before.before.before.before.before in
+    let start = c.before.before.before.before.before.before in
     block_never_ends start.args.t.now start.args.dc start.args.ac start.args.look.now start.args.c start.args.s.now start.args.from start.args.pred
-    c.before.before.before.part.ensures (first_is c.before.before) c.enum_told.given.1 (Stop Broken) []
+    c.part-entries.ensures (first_is c.before) c.in-End.is (Stop Broken) []
 
-returns_4 : tie.Need-returns-4
+returns_4 : tie.Need-returns-in-Skip
 returns_4 c =
-    let start = c.before.before.before.before.before.before.before in
+    let start = c.before.before.before.before.before.before in
     block_never_skips start.args.t.now start.args.dc start.args.ac start.args.look.now start.args.c start.args.s.now start.args.from start.args.pred
-    c.before.before.before.part.ensures (first_is c.before.before) c.enum-told2.given.1 (Stop Broken) []
+    c.part-entries.ensures (first_is c.before) c.in-Skip.is (Stop Broken) []
 
 pub block_spec : {M : Type 1} → statement M
 block_spec =

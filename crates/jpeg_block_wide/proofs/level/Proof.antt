@@ -20,22 +20,22 @@ use Rattle.jpeg_block_wide.proofs.level.Tie as tie
 small : (c : tie.Start) → SFits w16 c.args.v
 small c = fits_abs c.requires tt
 
-cast_t7 : tie.Need-overflow-cast-t7
-cast_t7 c = rw (to_z-of_z c.before.ranges.v) (small c.before)
+cast_t7 : tie.Need-overflow_cast-result
+cast_t7 c = rw (to_z-of_z c.ranges.v) (small c.before)
 
-returns : tie.Need-returns
+returns : tie.Need-returns-then-at-ne0
 returns c =
-    ap (λ (z : ℤ). got (puts c.before.args.at z) c.before.args.w) (ap (λ (z : ℤ). to_z w16 (of_z w16 z)) (to_z-of_z c.before.ranges.v) ∙ to_z-of_z (small c.before))
-    ∙ sym (level_later _ c.before.args.pred c.before.args.v c.before.args.w c.if1.true)
+    ap (λ (z : ℤ). got (puts c.args.at z) c.args.w) (ap (λ (z : ℤ). to_z w16 (of_z w16 z)) (to_z-of_z c.ranges.v) ∙ to_z-of_z (small c.before))
+    ∙ sym (level_later _ c.args.pred c.args.v c.args.w c.if-at-ne0.true)
 
-cast_sum : tie.Need-overflow-cast-sum
-cast_sum c = widened_fits tt c.before.ranges.pred
+cast_sum : tie.Need-overflow_cast-sum
+cast_sum c = widened_fits tt c.ranges.pred
 
-cast_sum_2 : tie.Need-overflow-cast-sum-2
-cast_sum_2 c = widened_fits tt c.before.ranges.v
+cast_sum_2 : tie.Need-overflow_cast-sum-2
+cast_sum_2 c = widened_fits tt c.ranges.v
 
-add_sum : tie.Need-overflow-add-sum
-add_sum c = plus_fits (widened tt c.before.ranges.pred) (widened tt c.before.ranges.v) tt
+add_sum : tie.Need-overflow_add-sum
+add_sum c = plus_fits (widened tt c.ranges.pred) (widened tt c.ranges.v) tt
 
 predictable_requires : tie.Need-predictable-requires
 predictable_requires c κs = search rules
@@ -46,29 +46,29 @@ module _ (c : tie.Start) where
   sum = c.args.pred +ℤ c.args.v
 
   is : to_z w64 (of_z w64 (to_z w64 (of_z w64 (to_z w32 (of_z w32 c.args.pred))) +ℤ to_z w64 (of_z w64 (to_z w32 (of_z w32 c.args.v))))) ≡ sum
-  is = (plus (widened tt c.ranges.pred) (widened tt c.ranges.v) tt).is
+  is = (plus {w = w64} (widened tt c.ranges.pred) (widened tt c.ranges.v) tt).is
 
 tested : (c : tie.After-predictable) → c.predictable.result ≡ predictable (sum c.before.before)
 tested c = c.predictable.ensures ∙ ap predictable (is c.before.before)
 
-sum_level : (c : tie.Then2) → SFits w16 (sum c.before.before.before)
+sum_level : (c : tie.Then-predictable) → SFits w16 (sum c.before.before.before)
 sum_level c =
     let start = c.before.before.before in
-    record { sfits = omega (arith, predictable_small (sum start) (subst⁻¹ T (sym (tested c.before) ∙ c.if2.true) tt)) }
+    record { sfits = omega (arith, predictable_small (sum start) (subst⁻¹ T (sym (tested c.before) ∙ c.if-predictable.true) tt)) }
 
-cast_t11 : tie.Need-overflow-cast-t11
+cast_t11 : tie.Need-overflow_cast-result-then-predictable
 cast_t11 c = rw (is c.before.before.before) (sum_level c)
 
-returns_2 : tie.Need-returns-2
+returns_2 : tie.Need-returns-then-predictable
 returns_2 c =
     let start = c.before.before.before in
     ap (λ (z : ℤ). got (puts start.args.at z) start.args.w) (ap (λ (z : ℤ). to_z w16 (of_z w16 z)) (is start) ∙ to_z-of_z (sum_level c))
-    ∙ sym (level_first _ start.args.pred start.args.v start.args.w c.before.before.if1.false (sym (tested c.before) ∙ c.if2.true))
+    ∙ sym (level_first _ start.args.pred start.args.v start.args.w c.if-at-ne0.false (sym (tested c.before) ∙ c.if-predictable.true))
 
-returns_3 : tie.Need-returns-3
+returns_3 : tie.Need-returns
 returns_3 c =
     let start = c.before.before.before in
-    sym (level_far _ start.args.pred start.args.v start.args.w c.before.before.if1.false (sym (tested c.before) ∙ c.if2.false))
+    sym (level_far _ start.args.pred start.args.v start.args.w c.if-at-ne0.false (sym (tested c.before) ∙ c.if-predictable.false))
 
 pub level_spec : {M : Type 1} → statement M
 level_spec =

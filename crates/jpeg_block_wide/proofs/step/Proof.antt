@@ -19,130 +19,130 @@ use Rattle.jpeg_block_wide.proofs.Stepping.{same_level, plain_stopped, plain_end
 use Rattle.jpeg_block_wide.proofs.step.Statement.{statement}
 use Rattle.jpeg_block_wide.proofs.step.Tie as tie
 
-plain_requires : tie.Need-plain-requires
+plain_requires : tie.Need-plain-y-requires
 plain_requires c κs = search rules
 
 ask_requires : tie.Need-ask-requires
 ask_requires c κs = search rules
 
-enum_told : tie.Need-enum-told
+enum_told : tie.Need-enum_told-1
 enum_told c = search rules
 
-enum_told_2 : tie.Need-enum-told-2
+enum_told_2 : tie.Need-enum_told-in-Skip
 enum_told_2 c = search rules
 
-enum_told_3 : tie.Need-enum-told-3
+enum_told_3 : tie.Need-enum_told-in-Wrong
 enum_told_3 c = search rules
 
-enum_known_run : tie.Need-enum-known-run
+enum_known_run : tie.Need-enum_known-run
 enum_known_run c = search rules
 
-fault_at_requires : tie.Need-fault-at-requires
+fault_at_requires : tie.Need-fault_at-requires
 fault_at_requires c κs = search rules
 
 top_requires : tie.Need-top-requires
 top_requires c κs = search rules
 
-meant_requires : tie.Need-meant-requires
+meant_requires : tie.Need-meant-v-requires
 meant_requires c κs = search rules
 
 cursor_requires : tie.Need-cursor-requires
 cursor_requires c κs = search rules
 
 -- both lists are bytes
-module _ (c : tie.After-shared-slice-known2) where
-  numbers : (i : ℕ) → get_or c.before.before.args.t.now i 0 < 256
-  numbers i = omega (arith, c.before.shared-slice-known.given i)
+module _ (c : tie.After-shared_slice_known-2-1) where
+  numbers : (i : ℕ) → get_or c.args.t.now i 0 < 256
+  numbers i = omega (arith, c.shared_slice_known-1.given i)
 
-  bytes : AllBytes c.before.before.args.s.now
-  bytes = all_bytes c.before.before.args.s.now (λ i. omega (arith, c.shared-slice-known2.given i))
+  bytes : AllBytes c.args.s.now
+  bytes = all_bytes c.args.s.now (λ i. omega (arith, c.shared_slice_known-2-1.given i))
 
-room : (c : tie.After-run) → Room c.before.before.before.before.before.before.before.before.args.place c.run.given.0.0 c.run.given.0.1.0
-room c = value_room _ _ c.before.before.ask.ensures c.run.given.1
+room : (c : tie.In-Value) → Room c.args.place c.in-Value.run' c.in-Value.size
+room c = value_room _ _ c.ask.ensures c.in-Value.is
 
-acc_fits : (c : tie.After-plain) → c.plain.result.wide.acc < 2 ^ 64
+acc_fits : (c : tie.After-plain-y) → c.plain-y.result.wide.acc < 2 ^ 64
 acc_fits c = search rules
 
 -- the bits of the value, and what they mean
 module _ (c : tie.After-top) where
-  value_small : c.top.result < 2 ^ c.before.before.before.run.given.0.1.0
+  value_small : c.top.result < 2 ^ c.in-Value.size
   value_small =
-      let value = c.before.before.before in
-      subst⁻¹ (λ n. n < 2 ^ value.run.given.0.1.0) c.top.ensures
-      (top_small _ _ (acc_fits c.before.before.before.before.before.before.before.before) (omega (arith, (room value).few)))
+      let value = c.before.before in
+      subst⁻¹ (λ n. n < 2 ^ value.in-Value.size) c.top.ensures
+      (top_small _ _ (acc_fits c.before.before.before.before.before.before) (omega (arith, (room value).few)))
 
-cast_meant : tie.Need-overflow-cast-meant
+cast_meant : tie.Need-overflow_cast-top
 cast_meant c =
-    let power : 2 ^ c.before.before.before.run.given.0.1.0 ≤ 2 ^ 11 = pow_mono {j = 11} (room c.before.before.before).few in
+    let power : 2 ^ c.in-Value.size ≤ 2 ^ 11 = pow_mono {j = 11} (room c.before.before).few in
     omega (arith, value_small c)
 
-module _ (c : tie.After-meant) where
-  fits : SFits w32 c.meant.result
-  fits = sfits_of c.meant.type-inv
+module _ (c : tie.After-meant-v) where
+  fits : SFits w32 c.meant-v.result
+  fits = sfits_of c.meant-v.type_inv
 
-  is : c.meant.result ≡ meaning c.before.before.before.before.run.given.0.1.0 c.before.top.result
-  is = c.meant.ensures ∙ means _ _ (value_small c.before) (omega (arith, (room c.before.before.before.before).few))
+  is : c.meant-v.result ≡ meaning c.in-Value.size c.top.result
+  is = c.meant-v.ensures ∙ means _ _ (value_small c.before) (omega (arith, (room c.before.before.before).few))
 
-add_level : tie.Need-overflow-add-level
-add_level c = omega (arith, (room c.before.before.before.before).inside)
+add_level : tie.Need-overflow_add-place
+add_level c = omega (arith, (room c.before.before.before).inside)
 
-shl_cursor : tie.Need-overflow-shl-cursor
-shl_cursor c = omega (arith, (room c.before.before.before.before).few)
+shl_cursor : tie.Need-overflow_shl-acc
+shl_cursor c = omega (arith, (room c.before.before.before).few)
 
 level_requires : tie.Need-level-requires
 level_requires c κs =
     subst⁻¹ (λ z. nat_abs z ≤ 32767) (to_z-of_z (fits c.before) ∙ is c.before)
-    (meaning_small _ _ (value_small c.before.before) (omega (arith, (room c.before.before.before.before.before).few)))
+    (meaning_small _ _ (value_small c.before.before) (omega (arith, (room c.before.before.before.before).few)))
 
-returns : tie.Need-returns
+returns : tie.Need-returns-then-x-eq256
 returns c =
     let start = c.before.before.before.before.before in
     let lists = c.before.before.before in
     plain_stopped start.args.t.now start.args.base start.args.s.now start.args.w start.args.place start.args.pred
-    (numbers lists) (bytes lists) c.before.before.plain.ensures c.if1.true
+    (numbers lists) (bytes lists) c.plain-y.ensures c.if-x-eq256.true
 
-returns_2 : tie.Need-returns-2
+returns_2 : tie.Need-returns-then-left-size
 returns_2 c =
-    let start = c.before.before.before.before.before.before.before.before.before.before.before in
-    let lists = c.before.before.before.before.before.before.before.before.before in
-    subst⁻¹ (λ f. StepMeets start.args.t.now start.args.base start.args.s.now start.args.w start.args.place start.args.pred (Stop f)) c.fault-at.ensures
+    let start = c.before.before.before.before.before.before.before.before.before in
+    let lists = c.before.before.before.before.before.before.before in
+    subst⁻¹ (λ f. StepMeets start.args.t.now start.args.base start.args.s.now start.args.w start.args.place start.args.pred (Stop f)) c.fault_at.ensures
     (plain_cut start.args.t.now start.args.base start.args.s.now start.args.w start.args.place start.args.pred
-    (numbers lists) (bytes lists) c.before.before.before.before.before.before.before.before.plain.ensures
-    c.before.before.before.before.before.before.if1.false c.before.before.before.before.before.ask.ensures c.before.before.before.run.given.1 c.before.if2.true)
+    (numbers lists) (bytes lists) c.plain-y.ensures
+    c.if-x-eq256.false c.ask.ensures c.in-Value.is c.if-left-size.true)
 
-returns_3 : tie.Need-returns-3
+returns_3 : tie.Need-returns-in-End
 returns_3 c =
-    let start = c.before.before.before.before.before.before.before.before in
-    let lists = c.before.before.before.before.before.before in
+    let start = c.before.before.before.before.before.before.before in
+    let lists = c.before.before.before.before.before in
     plain_ended start.args.t.now start.args.base start.args.s.now start.args.w start.args.place start.args.pred
-    (numbers lists) (bytes lists) c.before.before.before.before.before.plain.ensures c.before.before.before.if1.false c.before.before.ask.ensures c.enum_told.given.1
+    (numbers lists) (bytes lists) c.plain-y.ensures c.if-x-eq256.false c.ask.ensures c.in-End.is
 
-returns_4 : tie.Need-returns-4
+returns_4 : tie.Need-returns-in-Skip
 returns_4 c =
-    let start = c.before.before.before.before.before.before.before.before in
-    let lists = c.before.before.before.before.before.before in
+    let start = c.before.before.before.before.before.before.before in
+    let lists = c.before.before.before.before.before in
     plain_skipped start.args.t.now start.args.base start.args.s.now start.args.w start.args.place start.args.pred
-    (numbers lists) (bytes lists) c.before.before.before.before.before.plain.ensures c.before.before.before.if1.false c.before.before.ask.ensures c.enum-told2.given.1
+    (numbers lists) (bytes lists) c.plain-y.ensures c.if-x-eq256.false c.ask.ensures c.in-Skip.is
 
-returns_5 : tie.Need-returns-5
+returns_5 : tie.Need-returns-in-Wrong
 returns_5 c =
-    let start = c.before.before.before.before.before.before.before.before in
-    let lists = c.before.before.before.before.before.before in
+    let start = c.before.before.before.before.before.before.before in
+    let lists = c.before.before.before.before.before in
     plain_wrong start.args.t.now start.args.base start.args.s.now start.args.w start.args.place start.args.pred
-    (numbers lists) (bytes lists) c.before.before.before.before.before.plain.ensures c.before.before.before.if1.false c.before.before.ask.ensures c.enum-told3.given.1
+    (numbers lists) (bytes lists) c.plain-y.ensures c.if-x-eq256.false c.ask.ensures c.in-Wrong.is
 
-returns_6 : tie.Need-returns-6
+returns_6 : tie.Need-returns-else-left-size
 returns_6 c =
-    let start = c.before.before.before.before.before.before.before.before.before.before.before.before.before.before in
-    let lists = c.before.before.before.before.before.before.before.before.before.before.before.before in
-    let value = c.before.before.before.before.before.before in
+    let start = c.before.before.before.before.before.before.before.before.before.before.before.before in
+    let lists = c.before.before.before.before.before.before.before.before.before.before in
+    let value = c.before.before.before.before.before in
     let meant = c.before.before in
     plain_valued start.args.t.now start.args.base start.args.s.now start.args.w start.args.place start.args.pred
-    (numbers lists) (bytes lists) c.before.before.before.before.before.before.before.before.before.before.before.plain.ensures
-    c.before.before.before.before.before.before.before.before.before.if1.false c.before.before.before.before.before.before.before.before.ask.ensures
-    value.run.given.1 c.before.before.before.before.if2.false
-    (same_level (start.args.place + value.run.given.0.0) c.level.result c.level.ensures (to_z-of_z start.ranges.pred)
-    (to_z-of_z (fits meant) ∙ is meant ∙ ap (meaning value.run.given.0.1.0) c.before.before.before.top.ensures) c.before.cursor.ensures)
+    (numbers lists) (bytes lists) c.plain-y.ensures
+    c.if-x-eq256.false c.ask.ensures
+    value.in-Value.is c.if-left-size.false
+    (same_level (start.args.place + value.in-Value.run') c.level.result c.level.ensures (to_z-of_z start.ranges.pred)
+    (to_z-of_z (fits meant) ∙ is meant ∙ ap (meaning value.in-Value.size) c.top.ensures) c.cursor.ensures)
 
 pub step_spec : {M : Type 1} → statement M
 step_spec =

@@ -17,98 +17,98 @@ use Rattle.jpeg_scan_wide.proofs.AllMcus.{was_read}
 use Rattle.jpeg_scan_wide.proofs.draw.Statement.{statement}
 use Rattle.jpeg_scan_wide.proofs.draw.Tie as tie
 
-of_requires : tie.Need-of-requires
+of_requires : tie.Need-of-plan-requires
 of_requires c κs = search rules
 
 draw_requires : tie.Need-draw-requires
 draw_requires c κs = search rules
 
-same_length : tie.Need-same-length
+same_length : tie.Need-shape_of-scratch-then-plan-eq0
 same_length c = search rules
 
-returns : tie.Need-returns
+returns : tie.Need-returns-then-plan-eq0
 returns c = search rules
 
-draw_requires_2 : tie.Need-draw-requires-2
+draw_requires_2 : tie.Need-draw-requires-then-blocks-lt100
 draw_requires_2 c κs = search rules
 
-same_length_2 : tie.Need-same-length-2
+same_length_2 : tie.Need-shape_of-scratch-then-blocks-lt100
 same_length_2 c = search rules
 
-returns_2 : tie.Need-returns-2
+returns_2 : tie.Need-returns-then-blocks-lt100
 returns_2 c = search rules
 
-slice_aggregate_looks : tie.Need-slice-aggregate-looks
+slice_aggregate_looks : tie.Need-slice_bounds-looks-end
 slice_aggregate_looks c =
-    let tested = c.before.before.before.before in
-    let planned = tested.before.before in
-    let a = planned.before.before.before.args in
-    sym (length-take-le _ _ (ready a.s.now a.found planned.of.ensures tested.if1.false).inside)
+    let tested = c in
+    let planned = tested in
+    let a = planned.args in
+    sym (length-take-le _ _ (ready a.s.now a.found planned.of-plan.ensures tested.if-plan-eq0.false).inside)
 
-looks_requires : tie.Need-looks-requires
+looks_requires : tie.Need-looks-look-requires
 looks_requires c κs = search rules
 
 run_requires : tie.Need-run-requires
 run_requires c κs =
-    let looked = c.before.before in
-    (looked.before.before.before.before.before.before.before.of.ensures, looked.looks.ensures, λ t. absurd (true≢false (sym t)))
+    let looked = c in
+    (looked.of-plan.ensures, looked.looks-look.ensures, λ t. absurd (true≢false (sym t)))
 
-draw_requires_3 : tie.Need-draw-requires-3
+draw_requires_3 : tie.Need-draw-requires-then-not-run
 draw_requires_3 c κs = search rules
 
-same_length_3 : tie.Need-same-length-3
+same_length_3 : tie.Need-shape_of-scratch-then-not-run
 same_length_3 c = search rules
 
-returns_3 : tie.Need-returns-3
+returns_3 : tie.Need-returns-then-not-run
 returns_3 c =
-    let ran = c.before.before.before.before.before.before.before in
-    let a = ran.before.before.before.before.before.before.before.before.before.before.before.before.before.args in
-    (c.before.before.draw3.ensures.0, c.before.before.draw3.ensures.1 ∙ ap (drawn_for a.s.now a.found) ran.run.ensures.1)
+    let ran = c in
+    let a = ran.args in
+    (c.draw-then-not-run.ensures.0, c.draw-then-not-run.ensures.1 ∙ ap (drawn_for a.s.now a.found) ran.run.ensures.1)
 
-same_length_4 : tie.Need-same-length-4
+same_length_4 : tie.Need-shape_of-scratch-then-scratch-blocks
 same_length_4 c = search rules
 
 -- the first reading
-module _ (c : tie.Else3) where
+module _ (c : tie.Else-not-run) where
   abbrev ran : tie.After-run
   ran = c.before.before.before
 
   abbrev start : tie.Start
-  start = ran.before.before.before.before.before.before.before.before.before.before.before.before.before
+  start = ran.before.before.before.before.before.before.before.before.before.before.before.before
 
   first : Accepted (scan_of start.args.s.now start.args.found)
-  first = was_read (scan_of start.args.s.now start.args.found) ran.run.ensures.0 (not-false _ c.if3.false)
+  first = was_read (scan_of start.args.s.now start.args.found) ran.run.ensures.0 (not-false _ c.if-not-run.false-raw)
 
-returns_4 : tie.Need-returns-4
+returns_4 : tie.Need-returns-then-scratch-blocks
 returns_4 c =
-    let told = c.before in
-    let a = (start told).args in
+    let told = c in
+    let a = (start told.before).args in
     let s = a.s.now in
     let r = a.found in (
-      answer_done (first told).is,
-      (ran told).run.ensures.1
-          ∙ drawn_short (shape_of r.frame) (quantizers_of s r) r.blocks a.scratch.now (first told)
-          (omega (arith, c.if4.true, ap length (ran told).run.ensures.1)),
+      answer_done (first told.before).is,
+      (ran told.before).run.ensures.1
+          ∙ drawn_short (shape_of r.frame) (quantizers_of s r) r.blocks a.scratch.now (first told.before)
+          (omega (arith, c.if-scratch-blocks.true, ap length (ran told.before).run.ensures.1)),
     )
 
 run_requires_2 : tie.Need-run-requires-2
 run_requires_2 c κs = search rules
 
-same_length_5 : tie.Need-same-length-5
+same_length_5 : tie.Need-shape_of-scratch
 same_length_5 c = search rules
 
-returns_5 : tie.Need-returns-5
+returns_5 : tie.Need-returns
 returns_5 c =
-    let told = c.before.before.before.before.before.before in
-    let a = (start told).args in
+    let told = c in
+    let a = (start told.before.before.before.before.before.before).args in
     let s = a.s.now in
     let r = a.found in
-    let read = first told in (
+    let read = first told.before.before.before.before.before.before in (
       answer_done read.is,
-      c.before.before.run2.ensures.1 read.blocks_read read.behind read.is
-          ∙ ap (over (samples_of s r read.blocks_read)) (ran told).run.ensures.1
+      c.run-2.ensures.1 read.blocks_read read.behind read.is
+          ∙ ap (over (samples_of s r read.blocks_read)) (ran told.before.before.before.before.before.before).run.ensures.1
           ∙ drawn_all (shape_of r.frame) (quantizers_of s r) r.blocks a.scratch.now read
-          (omega (arith, c.before.before.before.before.before.if4.false, ap length (ran told).run.ensures.1)),
+          (omega (arith, c.if-scratch-blocks.false, ap length (ran told.before.before.before.before.before.before).run.ensures.1)),
     )
 
 pub draw_spec : {M : Type 1} → statement M

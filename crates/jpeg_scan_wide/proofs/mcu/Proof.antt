@@ -34,87 +34,87 @@ decreases_walk s plan look write scratch₀ start dcs acs quants order₀ levels
 walk_holds : tie.Need-walk-init invariant_walk decreases_walk
 walk_holds c = (λ q f. begin _ _ _ f, first_digit _, refl)
 
-channel_requires : tie.Need-channel-requires invariant_walk decreases_walk
+channel_requires : tie.Need-channel-c-requires invariant_walk decreases_walk
 channel_requires c κs = search rules
 
-few_channels : (c : tie.After-channel invariant_walk decreases_walk) → c.channel.result < 4
-few_channels c = omega (arith, c.channel.ensures)
+few_channels : (c : tie.After-channel-c invariant_walk decreases_walk) → c.channel-c.result < 4
+few_channels c = omega (arith, c.channel-c.ensures)
 
-mul_dc : tie.Need-overflow-mul-dc invariant_walk decreases_walk
+mul_dc : tie.Need-offset_bounds-dcs-c invariant_walk decreases_walk
 mul_dc c = omega (arith, few_channels c)
 
-array_read_dc : tie.Need-array-read-dc invariant_walk decreases_walk
+array_read_dc : tie.Need-bounds-dcs-c invariant_walk decreases_walk
 array_read_dc c = few_channels c
 
-mul_ac : tie.Need-overflow-mul-ac invariant_walk decreases_walk
+mul_ac : tie.Need-offset_bounds-acs-c invariant_walk decreases_walk
 mul_ac c = omega (arith, few_channels c)
 
-array_read_ac : tie.Need-array-read-ac invariant_walk decreases_walk
+array_read_ac : tie.Need-bounds-acs-c invariant_walk decreases_walk
 array_read_ac c = few_channels c
 
-mul_prediction : tie.Need-overflow-mul-prediction invariant_walk decreases_walk
+mul_prediction : tie.Need-offset_bounds-predictors-c invariant_walk decreases_walk
 mul_prediction c = omega (arith, few_channels c)
 
-array_copy_out_prediction : tie.Need-array-copy-out-prediction invariant_walk decreases_walk
+array_copy_out_prediction : tie.Need-bounds-predictors-c invariant_walk decreases_walk
 array_copy_out_prediction c = few_channels c
 
-slice_aggregate_block : tie.Need-slice-aggregate-block invariant_walk decreases_walk
-slice_aggregate_block c = sym (length-take-le _ _ c.before.before.before.before.before.before.before.before.before.before.before.before.before.before.before.requires.0)
+slice_aggregate_block : tie.Need-slice_bounds-block-end invariant_walk decreases_walk
+slice_aggregate_block c = sym (length-take-le _ _ c.requires.0)
 
 block_requires : tie.Need-block-requires invariant_walk decreases_walk
 block_requires c κs = search rules
 
-enum_known_f : tie.Need-enum-known-f invariant_walk decreases_walk
+enum_known_f : tie.Need-enum_known-f invariant_walk decreases_walk
 enum_known_f c = search rules
 
-enum_known_w : tie.Need-enum-known-w invariant_walk decreases_walk
+enum_known_w : tie.Need-enum_known-w invariant_walk decreases_walk
 enum_known_w c = search rules
 
-slice_aggregate_paint : tie.Need-slice-aggregate-paint invariant_walk decreases_walk
+slice_aggregate_paint : tie.Need-slice_bounds-paint-end invariant_walk decreases_walk
 slice_aggregate_paint c =
-    let start = c.before.before.before.before.before.before.before.before.before.before.before.before.before.before.before.before.before.before.before.before.before in
+    let start = c in
     sym (length-take-le _ _ start.requires.0)
 
-mul_paint : tie.Need-overflow-mul-paint invariant_walk decreases_walk
-mul_paint c = omega (arith, few_channels c.before.before.before.before.before.before.before.before)
+mul_paint : tie.Need-offset_bounds-quants-c invariant_walk decreases_walk
+mul_paint c = omega (arith, few_channels c.before.before.before.before)
 
-array_read_paint : tie.Need-array-read-paint invariant_walk decreases_walk
-array_read_paint c = few_channels c.before.before.before.before.before.before.before.before
+array_read_paint : tie.Need-bounds-quants-c invariant_walk decreases_walk
+array_read_paint c = few_channels c.before.before.before.before
 
 paint_requires : tie.Need-paint-requires invariant_walk decreases_walk
 paint_requires c κs = search rules
 
-mul_predictors : tie.Need-overflow-mul-predictors invariant_walk decreases_walk
-mul_predictors c = omega (arith, few_channels c.before.before.before.before.before.before.before.before.before.before.before.before.before)
+mul_predictors : tie.Need-offset_bounds-predictors-c-in-Got invariant_walk decreases_walk
+mul_predictors c = omega (arith, few_channels c.before.before.before.before.before.before.before.before.before)
 
-array_set_from_predictors : tie.Need-array-set-from-predictors invariant_walk decreases_walk
-array_set_from_predictors c = few_channels c.before.before.before.before.before.before.before.before.before.before.before.before.before
+array_set_from_predictors : tie.Need-bounds-predictors-c-in-Got invariant_walk decreases_walk
+array_set_from_predictors c = few_channels c.before.before.before.before.before.before.before.before.before
 
 blocks_limit : (c : tie.Start invariant_walk decreases_walk) → c.args.plan.blocks < 2 ^ 64
-blocks_limit c = omega (arith, c.well-formed.1.0.1.1.1.1.1.1.1.0)
+blocks_limit c = omega (arith, c.well_formed.1.0.1.1.1.1.1.1.1.0)
 
 per_limit : (c : tie.Start invariant_walk decreases_walk) → c.args.plan.per < 2 ^ 64
-per_limit c = omega (arith, c.well-formed.1.0.1.1.1.1.1.0)
+per_limit c = omega (arith, c.well_formed.1.0.1.1.1.1.1.0)
 
-add_done : tie.Need-overflow-add-done invariant_walk decreases_walk
+add_done : tie.Need-overflow_add-done invariant_walk decreases_walk
 add_done c =
-    let unread = c.before.before.before.before.before.before.before.before.before.before.before.before.before.before in
-    let start = unread.before.before.before.before.before.before.before.before.before.before.before.before in
-    omega (arith, unread.if2.false, blocks_limit start)
+    let unread = c in
+    let start = unread in
+    omega (arith, unread.if-plan-done.false, blocks_limit start.before.before.before.before.before.before.before.before.before.before.before.before.before.before.before.before.before.before.before.before.before.before)
 
-add_j : tie.Need-overflow-add-j invariant_walk decreases_walk
+add_j : tie.Need-overflow_add-j invariant_walk decreases_walk
 add_j c =
-    let inside = c.before.before.before.before.before.before.before.before.before.before.before.before.before.before.before.before in
-    let start = inside.before.before.before.before.before.before.before.before.before.before in
-    omega (arith, inside.if1.false, per_limit start)
+    let inside = c in
+    let start = inside in
+    omega (arith, inside.if-plan-j.false, per_limit start.before.before.before.before.before.before.before.before.before.before.before.before.before.before.before.before.before.before.before.before.before.before)
 
 walk_less : tie.Need-walk-smaller invariant_walk decreases_walk
-walk_less c = omega (arith, c.before.before.before.before.before.before.before.before.before.before.before.before.before.before.before.before.if1.false)
+walk_less c = omega (arith, c.if-plan-j.false)
 
 -- what the block said and left, for the prediction as it stands
 module _ (c : tie.After-block invariant_walk decreases_walk) where
-  abbrev told : tie.After-channel invariant_walk decreases_walk
-  told = c.before.before.before.before
+  abbrev told : tie.After-channel-c invariant_walk decreases_walk
+  told = c.before.before.before
 
   abbrev turn : tie.At-walk invariant_walk decreases_walk
   turn = told.before.before.before.before.before
@@ -123,7 +123,7 @@ module _ (c : tie.After-block invariant_walk decreases_walk) where
   start = turn.before.before.before.before.before.before.before.before
 
   abbrev prediction : ℤ
-  prediction = get_or turn.walk.predictors told.channel.result (pos 0)
+  prediction = get_or turn.walk.predictors told.channel-c.result (pos 0)
 
   fit : SFits w32 prediction
   fit = search rules
@@ -132,7 +132,7 @@ module _ (c : tie.After-block invariant_walk decreases_walk) where
   abbrev Read : ℤ → List ℤ → Type 0
   Read z l =
       let a = start.args in
-      let k = told.channel.result in
+      let k = told.channel-c.result in
       Promised (head a.plan a.s.now) (get_or a.plan.dcs k 0) (get_or a.plan.acs k 0) a.look.now k a.s.now turn.walk.wide z c.block.result l
 
   read : (l : List ℤ) → Read (to_z w32 (of_z w32 prediction)) l → Read prediction l
@@ -140,45 +140,44 @@ module _ (c : tie.After-block invariant_walk decreases_walk) where
 
 walk_again : tie.Need-walk-preserved invariant_walk decreases_walk
 walk_again c =
-    let b = c.before.before.before.before.before.before.before.before.before in
-    let f : SFits w32 c.before.before.before.before.before.before.before.w.given.0.1.0 = search rules in
-    let told = c.before.before.before.before.before.before.before.before.before.before.before.before.before in
-    let unread = told.before in
-    let inside = unread.before.before in
-    let turn = inside.before.before in
-    let start = turn.before.before.before.before.before.before.before.before in (
-      λ q g. rw (to_z-of_z f) (further (turn.walk.invariant.0 q g) inside.if1.false unread.if2.false
-          (told.channel.ensures ∙ ap (λ (k : ℕ). k % 4) turn.walk.invariant.1) start.requires.1 _ _ (read b _ b.block.ensures)
-          c.before.before.before.before.before.before.before.w.given.1 c.before.before.paint.ensures start.requires.2),
+    let b = c.before.before in
+    let f : SFits w32 c.in-Got.first = search rules in
+    let told = c in
+    let unread = told in
+    let inside = unread in
+    let turn = inside in
+    let start = turn in (
+      λ q g. rw (to_z-of_z f) (further (turn.walk.invariant.0 q g) inside.if-plan-j.false unread.if-plan-done.false
+          (told.channel-c.ensures ∙ ap (λ (k : ℕ). k % 4) turn.walk.invariant.1) start.requires.1 _ _ (read b.before.before.before.before _ b.block.ensures)
+          c.in-Got.is c.paint.ensures.0 start.requires.2),
       ap (λ (k : ℕ). k / 4) turn.walk.invariant.1 ∙ later_digit _ turn.walk.j,
       search rules ∙ turn.walk.invariant.2,
     )
 
-same_length : tie.Need-same-length invariant_walk decreases_walk
-same_length c = c.before.before.walk.invariant.2
+same_length : tie.Need-shape_of-scratch-then-plan-j invariant_walk decreases_walk
+same_length c = c.walk.invariant.2
 
-returns : tie.Need-returns invariant_walk decreases_walk
-returns c = λ q f. whole (c.before.before.walk.invariant.0 q f) c.if1.true
+returns : tie.Need-returns-then-plan-j invariant_walk decreases_walk
+returns c = λ q f. whole (c.walk.invariant.0 q f) c.if-plan-j.true
 
-same_length_2 : tie.Need-same-length-2 invariant_walk decreases_walk
-same_length_2 c = c.before.before.before.before.walk.invariant.2
+same_length_2 : tie.Need-shape_of-scratch-then-plan-done invariant_walk decreases_walk
+same_length_2 c = c.walk.invariant.2
 
-returns_2 : tie.Need-returns-2 invariant_walk decreases_walk
-returns_2 c = λ q f. out (c.before.before.before.before.walk.invariant.0 q f) c.if2.true
+returns_2 : tie.Need-returns-then-plan-done invariant_walk decreases_walk
+returns_2 c = λ q f. out (c.walk.invariant.0 q f) c.if-plan-done.true
 
-same_length_3 : tie.Need-same-length-3 invariant_walk decreases_walk
-same_length_3 c = c.before.before.before.before.before.before.before.before.before.before.before.before.walk.invariant.2
+same_length_3 : tie.Need-shape_of-scratch-in-Stop invariant_walk decreases_walk
+same_length_3 c = c.walk.invariant.2
 
-returns_3 : tie.Need-returns-3 invariant_walk decreases_walk
+returns_3 : tie.Need-returns-in-Stop invariant_walk decreases_walk
 returns_3 c =
-    let b = c.before.before.before in
-    let told = c.before.before.before.before.before.before.before in
-    let unread = told.before in
-    let inside = unread.before.before in
-    let turn = inside.before.before in
-    let start = turn.before.before.before.before.before.before.before.before in
-    λ q f. broken (turn.walk.invariant.0 q f) inside.if1.false unread.if2.false (told.channel.ensures ∙ ap (λ (k : ℕ). k % 4) turn.walk.invariant.1) start.requires.1 _ _
-    (read b _ b.block.ensures) c.before.f.given.1
+    let told = c in
+    let unread = told in
+    let inside = unread in
+    let turn = inside in
+    let start = turn in
+    λ q f. broken (turn.walk.invariant.0 q f) inside.if-plan-j.false unread.if-plan-done.false (told.channel-c.ensures ∙ ap (λ (k : ℕ). k % 4) turn.walk.invariant.1) start.requires.1 _ _
+    (read c.before _ c.block.ensures) c.in-Stop.is
 
 pub mcu_spec : {M : Type 1} → statement M
 mcu_spec =

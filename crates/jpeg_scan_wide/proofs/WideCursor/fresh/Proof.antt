@@ -7,14 +7,14 @@ use Rattle.jpeg_scan_wide.specs.declared.WideCursor.{WideCursor}
 use Rattle.jpeg_scan_wide.proofs.WideCursor.fresh.Statement.{statement}
 use Rattle.jpeg_scan_wide.proofs.WideCursor.fresh.Tie as tie
 
-fresh_requires : tie.Need-fresh-requires
+fresh_requires : tie.Need-fresh-wide-requires
 fresh_requires c κs = search rules
 
 abbrev begun : Wide → WideCursor
 begun w = record { wide = w; predictors = no_predictors; done = 0 }
 
 returns : tie.Need-returns
-returns c = ap begun c.fresh.ensures
+returns c = ap begun c.fresh-wide.ensures
 
 pub fresh_spec : {M : Type 1} → statement M
 fresh_spec = tie.close (tie.spec fresh_requires returns)
