@@ -1,5 +1,5 @@
 -- What the programs run with, and what they answer to a refusal.
-use Rattle.std.specs.Prelude.{ℕ, ◌-◌, ◌^◌}
+use Rattle.std.specs.Prelude.{ℕ, ◌-◌, ◌^◌, List, ◌++◌, take}
 use Rattle.reading.specs.declared.Limits.{Limits}
 use Rattle.reading.specs.declared.Budget.{Budget}
 use Rattle.reading.specs.declared.Refusal.{Refusal}
@@ -18,3 +18,7 @@ ample = record { left = 2 ^ 64 - 1 }
 -- the line of a refusal, and nothing behind it
 abbrev pub refusing : Refusal → Answer
 refusing x = record { line = line_of (refused (number_of x)); follow = 0 }
+
+-- what is written of an answer: its line, and the bytes of the output that follow it
+abbrev pub text_of : Answer → List ℕ → List ℕ
+text_of a output = take a.line.length a.line.bytes ++ take a.follow output

@@ -1,30 +1,32 @@
-// What the programs share: standard input read whole, an answer written, the lines of a refusal and of a picture's head, a text put into
+// What the programs share: a stream read whole, an answer written, the lines of a refusal and of a picture's head, a text put into
 // a line, a record as its numbers, a byte as a number, and the limits that they run with.
 #![tactic(auto)]
 
-ghost use Rattle.std.specs.Prelude.{◌+◌, ◌<◌, ◌≤◌, ◌≡◌, true, [], length};
+ghost use Rattle.std.specs.Prelude.{◌+◌, ◌<◌, ◌≤◌, ◌≡◌, true, [], length, take};
+ghost use Rattle.std.specs.Io.KnownBytes.{Appends};
 ghost use Rattle.tillsparrow_streams.specs.Read.{Fills};
 ghost use Rattle.tillsparrow_streams.specs.Lines.{decimal, refused, kind_of, picture_head, line_of, fitting, placed, line_with};
-ghost use Rattle.tillsparrow_streams.specs.Answers.{own_limits, refusing};
+ghost use Rattle.tillsparrow_streams.specs.Answers.{own_limits, refusing, text_of};
 ghost use Rattle.tillsparrow_streams.specs.Numbers.{four_at, numbers_of};
 
-use libc::{STDIN_FILENO, STDOUT_FILENO};
+use itoa::Buffer;
 use reading::{Limits, Record, Refusal};
+use std::io::{Read, Write};
 
 // What a program says on standard error where it cannot go on.
 pub const UNREAD: [u8; 38] = *b"tillsparrow: the input cannot be read\n";
 
 pub const UNWRITTEN: [u8; 42] = *b"tillsparrow: the output cannot be written\n";
 
-// What was read of standard input: so many bytes, or a read failed.
-#[derive(Clone, Copy)]
+// What was read of a stream: so many bytes, or a read failed.
+#[derive(Drop)]
 pub enum Filled {
     Bytes(usize),
     Failed,
 }
 
-// Reads standard input until it ends or the buffer is full.
-pub fn fill(buffer: &mut [u8]) -> Filled
+// Reads a stream until it ends or the buffer is full.
+pub fn fill<R: Read>(stream: &mut R, buffer: &mut [u8]) -> Filled
     ensures { Fills (length buffer.new) result }
 {
     let mut n = 0usize;
@@ -32,32 +34,54 @@ pub fn fill(buffer: &mut [u8]) -> Filled
         if buffer.len() <= n {
             break 'reads Filled::Bytes(n);
         }
-        let got = libc::read(STDIN_FILENO, &mut buffer[n..]);
-        if got < 0 {
-            break 'reads Filled::Failed;
+        match stream.read(&mut buffer[n..]) {
+            Err(_) => break 'reads Filled::Failed,
+            Ok(more) => {
+                if more == 0 {
+                    break 'reads Filled::Bytes(n);
+                }
+                n = n + more;
+            }
         }
-        let more = io::count(got, &buffer[n..]);
-        if more == 0 {
-            break 'reads Filled::Bytes(n);
-        }
-        n = n + more;
     }
 }
 
-// Writes the first n bytes to standard output: whether they are there and could be written.
-pub fn write_first(bytes: &[u8], n: usize) -> bool
-    ensures { result ≡ true → n ≤ length bytes.now }
+// Reads a stream until the buffer is full, the stream ends or a read fails: how many bytes stand at the buffer's start.
+pub fn read_full<R: Read>(stream: &mut R, buffer: &mut [u8]) -> usize
+    ensures { result ≤ length buffer.new }
+{
+    let mut n = 0usize;
+    'reads: loop {
+        if buffer.len() <= n {
+            break 'reads n;
+        }
+        match stream.read(&mut buffer[n..]) {
+            Err(_) => break 'reads n,
+            Ok(more) => {
+                if more == 0 {
+                    break 'reads n;
+                }
+                n = n + more;
+            }
+        }
+    }
+}
+
+// Writes the first n bytes to a stream: whether they are there and could be written.
+pub fn write_first<W: Write>(stream: &mut W, bytes: &[u8], n: usize) -> bool
+    ensures room { result ≡ true → n ≤ length bytes.now }
+    ensures written { result ≡ true → Appends (W.contents stream.old) (W.contents stream.new) (take n bytes.now) }
 {
     if bytes.len() < n {
         return false;
     }
-    io::write_all(STDOUT_FILENO, &bytes[..n])
+    stream.write_all(&bytes[..n]).is_ok()
 }
 
 // Puts a text into a line from a place on, as much of it as there is room for; answers the place behind it.
 pub fn put(line: &mut [u8], at: usize, text: &[u8]) -> usize
-    ensures value { result ≡ at + fitting line.old at text.now }
-    ensures line_after { line.new ≡ placed line.old at text.now }
+    ensures behind { result ≡ at + fitting line.old at text.now }
+    ensures written { line.new ≡ placed line.old at text.now }
 {
     let mut next = at;
     let mut i = 0usize;
@@ -109,9 +133,8 @@ impl Line {
     fn with_number(self, n: u64) -> Self
         ensures { result ≡ line_with self (decimal n) }
     {
-        let mut digits = [0u8; 20];
-        let k = io::decimal(n, &mut digits);
-        self.with_text(&digits[..k])
+        let mut digits = Buffer::new();
+        self.with_text(digits.format(n).as_bytes())
     }
 }
 
@@ -163,16 +186,17 @@ impl Answer {
     }
 }
 
-// Writes an answer to standard output: whether its bytes are there and could be written.
-pub fn write(answer: Answer, output: &[u8]) -> bool
-    ensures { result ≡ true → answer.follow ≤ length output.now }
+// Writes an answer to a stream: whether its bytes are there and could be written.
+pub fn write<W: Write>(stream: &mut W, answer: Answer, output: &[u8]) -> bool
+    ensures room { result ≡ true → answer.follow ≤ length output.now }
+    ensures written { result ≡ true → Appends (W.contents stream.old) (W.contents stream.new) (text_of answer output.now) }
 {
     let line = answer.line;
     let bytes = line.bytes;
-    if !write_first(&bytes, line.length) {
+    if !write_first(stream, &bytes, line.length) {
         return false;
     }
-    write_first(output, answer.follow)
+    write_first(stream, output, answer.follow)
 }
 
 // A byte as a number.

@@ -8,11 +8,11 @@ use Rattle.tillsparrow_streams.specs.Lines.{fitting, placed}
 use Rattle.tillsparrow_streams.proofs.put.Statement.{statement}
 use Rattle.tillsparrow_streams.proofs.put.Tie as tie
 
-abbrev invariant_loop : tie.invariant-loop
+abbrev invariant_loop : tie.invariant-loop-i
 invariant_loop line₀ at text next₀ i₀ line next i =
     (next ≡ at + i) × (i ≤ fitting line₀ at text) × (length line ≡ length line₀) × (line ≡ paste line₀ at text i)
 
-abbrev decreases_loop : tie.decreases-loop
+abbrev decreases_loop : tie.decreases-loop-i
 decreases_loop line₀ at text next₀ i₀ line next i = length text - i
 
 -- a byte more is put
@@ -29,43 +29,43 @@ done : (d : List ℕ) (at : ℕ) (text line : List ℕ) (next i : ℕ) → line 
     → (next ≡ at + fitting d at text) × (line ≡ placed d at text)
 done d at text line next i is place all = (place ∙ ap (λ k. at + k) all, is ∙ ap (paste d at text) all)
 
-loop_holds : tie.Need-loop-init invariant_loop decreases_loop
+loop_holds : tie.Need-loop-i-init invariant_loop decreases_loop
 loop_holds c = (omega arith, omega arith, omega arith, paste-zero c.args.line.now c.args.at c.args.text.now)
 
-same_length : tie.Need-same-length invariant_loop decreases_loop
-same_length c = c.before.before.loop.invariant.2
+same_length : tie.Need-shape_of-line-then-line-next invariant_loop decreases_loop
+same_length c = c.loop-i.invariant.2
 
-returns : tie.Need-returns invariant_loop decreases_loop
-returns c = done c.before.before.before.args.line.now c.before.before.before.args.at c.before.before.before.args.text.now c.before.before.loop.line c.before.before.loop.next c.before.before.loop.i c.before.before.loop.invariant.3 c.before.before.loop.invariant.0 (omega (arith, c.before.before.loop.invariant.0, c.before.before.loop.invariant.1, c.before.before.loop.invariant.2, c.if1.true))
+returns : tie.Need-returns-then-line-next invariant_loop decreases_loop
+returns c = done c.args.line.now c.args.at c.args.text.now c.loop-i.line c.loop-i.next c.loop-i.i c.loop-i.invariant.3 c.loop-i.invariant.0 (omega (arith, c.loop-i.invariant.0, c.loop-i.invariant.1, c.loop-i.invariant.2, c.if-line-next.true))
 
-shared_slice_read_line : tie.Need-shared-slice-read-line invariant_loop decreases_loop
-shared_slice_read_line c = omega (arith, c.before.before.before.loop.invariant.0, c.before.if1.false, c.before.before.loop-test.true)
+shared_slice_read_line : tie.Need-bounds-text-i invariant_loop decreases_loop
+shared_slice_read_line c = omega (arith, c.loop-i.invariant.0, c.if-line-next.false, c.loop-i-test.true)
 
-slice_write_line : tie.Need-slice-write-line invariant_loop decreases_loop
-slice_write_line c = omega (arith, c.before.before.before.loop.invariant.0, c.before.if1.false, c.before.before.loop-test.true)
+slice_write_line : tie.Need-bounds-line-next invariant_loop decreases_loop
+slice_write_line c = omega (arith, c.loop-i.invariant.0, c.if-line-next.false, c.loop-i-test.true)
 
-add_next : tie.Need-overflow-add-next invariant_loop decreases_loop
-add_next c = omega (arith, c.before.before.before.loop.invariant.0, c.before.if1.false, c.before.before.loop-test.true)
+add_next : tie.Need-overflow_add-next invariant_loop decreases_loop
+add_next c = omega (arith, c.loop-i.invariant.0, c.if-line-next.false, c.loop-i-test.true)
 
-add_i : tie.Need-overflow-add-i invariant_loop decreases_loop
-add_i c = omega (arith, c.before.before.before.loop.invariant.0, c.before.if1.false, c.before.before.loop-test.true)
+add_i : tie.Need-overflow_add-i invariant_loop decreases_loop
+add_i c = omega (arith, c.loop-i.invariant.0, c.if-line-next.false, c.loop-i-test.true)
 
-loop_less : tie.Need-loop-smaller invariant_loop decreases_loop
-loop_less c = omega (arith, c.before.before.before.loop.invariant.0, c.before.if1.false, c.before.before.loop-test.true)
+loop_less : tie.Need-loop-i-smaller invariant_loop decreases_loop
+loop_less c = omega (arith, c.loop-i.invariant.0, c.if-line-next.false, c.loop-i-test.true)
 
-loop_again : tie.Need-loop-preserved invariant_loop decreases_loop
+loop_again : tie.Need-loop-i-preserved invariant_loop decreases_loop
 loop_again c = (
-  omega (arith, c.before.before.before.loop.invariant.0),
-  omega (arith, c.before.before.before.loop.invariant.0, c.before.before.before.loop.invariant.2, c.before.if1.false, c.before.before.loop-test.true),
-  length-set c.before.before.before.loop.line c.before.before.before.loop.next _ ∙ c.before.before.before.loop.invariant.2,
-  turn c.before.before.before.before.args.line.now c.before.before.before.before.args.at c.before.before.before.before.args.text.now c.before.before.before.loop.line c.before.before.before.loop.next c.before.before.before.loop.i c.before.before.before.loop.invariant.3 c.before.before.before.loop.invariant.0 (omega (arith, c.before.before.before.loop.invariant.0, c.before.before.before.loop.invariant.2, c.before.if1.false)) c.before.before.loop-test.true,
+  omega (arith, c.loop-i.invariant.0),
+  omega (arith, c.loop-i.invariant.0, c.loop-i.invariant.2, c.if-line-next.false, c.loop-i-test.true),
+  length-set c.loop-i.line c.loop-i.next _ ∙ c.loop-i.invariant.2,
+  turn c.args.line.now c.args.at c.args.text.now c.loop-i.line c.loop-i.next c.loop-i.i c.loop-i.invariant.3 c.loop-i.invariant.0 (omega (arith, c.loop-i.invariant.0, c.loop-i.invariant.2, c.if-line-next.false)) c.loop-i-test.true,
 )
 
-same_length_2 : tie.Need-same-length-2 invariant_loop decreases_loop
-same_length_2 c = c.before.loop.invariant.2
+same_length_2 : tie.Need-shape_of-line invariant_loop decreases_loop
+same_length_2 c = c.loop-i.invariant.2
 
-returns_2 : tie.Need-returns-2 invariant_loop decreases_loop
-returns_2 c = done c.before.before.args.line.now c.before.before.args.at c.before.before.args.text.now c.before.loop.line c.before.loop.next c.before.loop.i c.before.loop.invariant.3 c.before.loop.invariant.0 (omega (arith, c.before.loop.invariant.0, c.before.loop.invariant.1, c.before.loop.invariant.2, c.loop-test.false))
+returns_2 : tie.Need-returns invariant_loop decreases_loop
+returns_2 c = done c.args.line.now c.args.at c.args.text.now c.loop-i.line c.loop-i.next c.loop-i.i c.loop-i.invariant.3 c.loop-i.invariant.0 (omega (arith, c.loop-i.invariant.0, c.loop-i.invariant.1, c.loop-i.invariant.2, c.loop-i-test.false))
 
 pub put_spec : {M : Type 1} → statement M
 put_spec =
