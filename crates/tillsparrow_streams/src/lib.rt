@@ -3,8 +3,8 @@
 #![tactic(auto)]
 
 ghost use Rattle.std.specs.Prelude.{◌+◌, ◌<◌, ◌≤◌, ◌≡◌, true, [], length, take};
-ghost use Rattle.std.specs.Io.KnownBytes.{Appends};
-ghost use Rattle.tillsparrow_streams.specs.Read.{Fills};
+ghost use Rattle.std.specs.Io.KnownBytes.{Appends, Consumes};
+ghost use Rattle.tillsparrow_streams.specs.Read.{Fills, Took};
 ghost use Rattle.tillsparrow_streams.specs.Lines.{decimal, refused, kind_of, picture_head, line_of, fitting, placed, line_with};
 ghost use Rattle.tillsparrow_streams.specs.Answers.{own_limits, refusing, text_of};
 ghost use Rattle.tillsparrow_streams.specs.Numbers.{four_at, numbers_of};
@@ -27,7 +27,8 @@ pub enum Filled {
 
 // Reads a stream until it ends or the buffer is full.
 pub fn fill<R: Read>(stream: &mut R, buffer: &mut [u8]) -> Filled
-    ensures { Fills (length buffer.new) result }
+    ensures room { Fills (length buffer.new) result }
+    ensures bytes { Took (R.remaining stream.old) (R.remaining stream.new) buffer.new result }
 {
     let mut n = 0usize;
     'reads: loop {
@@ -48,7 +49,8 @@ pub fn fill<R: Read>(stream: &mut R, buffer: &mut [u8]) -> Filled
 
 // Reads a stream until the buffer is full, the stream ends or a read fails: how many bytes stand at the buffer's start.
 pub fn read_full<R: Read>(stream: &mut R, buffer: &mut [u8]) -> usize
-    ensures { result ≤ length buffer.new }
+    ensures room { result ≤ length buffer.new }
+    ensures bytes { Consumes (R.remaining stream.old) (R.remaining stream.new) (take result buffer.new) }
 {
     let mut n = 0usize;
     'reads: loop {
