@@ -1,9 +1,9 @@
 -- A text put behind the text of a line makes the line of both, where there is room. Assumes nothing.
 use Prim.Native.Nat.{ℕ, zero, suc, ◌+◌, ◌-◌, ◌≤◌}
-use mathlib.Core.Path.{◌≡◌, refl, ap, ap₂, ◌∙◌}
-use mathlib.Core.List.{List, [], ◌∷◌, ◌++◌}
+use mathlib.Core.Path.{◌≡◌, ap, ap₂, ◌∙◌}
+use mathlib.Core.List.{List, [], ◌++◌}
 use native.Mathlib.Omega.{arith}
-use lib.ListN.{length, length-append, replicate, length-replicate, take, drop}
+use lib.ListN.{length, length-append, replicate, length-replicate, drop}
 use lib.Seq.{take-append_seam, take-length, drop-append-add, paste}
 use Rattle.tillsparrow_streams.specs.declared.Line.{Line}
 use Rattle.tillsparrow_streams.specs.Lines.{line_of, fitting, line_with}

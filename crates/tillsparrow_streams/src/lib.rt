@@ -19,7 +19,7 @@ pub const UNREAD: [u8; 38] = *b"tillsparrow: the input cannot be read\n";
 pub const UNWRITTEN: [u8; 42] = *b"tillsparrow: the output cannot be written\n";
 
 // What was read of a stream: so many bytes, or a read failed.
-#[derive(Drop)]
+#[derive(Clone, Copy)]
 pub enum Filled {
     Bytes(usize),
     Failed,

@@ -1,6 +1,5 @@
-use Rattle.std.proofs.Common.{rules, ◌+◌, ◌<◌, ◌≤◌, ◌≡◌, length, take, ◌-◌}
-use Rattle.std.specs.Io.KnownBytes.{Consumes}
-use Rattle.tillsparrow_streams.proofs.Behind.{more_read, none_read}
+use Rattle.std.proofs.Common.{rules}
+use Rattle.tillsparrow_streams.proofs.Behind.{more_read}
 use Rattle.tillsparrow_streams.proofs.read_full.Goals as goal
 
 pub reads-preserved : goal.reads-preserved
