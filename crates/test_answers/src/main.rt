@@ -5,7 +5,7 @@
 
 ghost use Rattle.std.specs.Prelude.{◌≤◌, ◌<◌};
 
-use libc::{STDIN_FILENO, STDOUT_FILENO};
+use itoa::Buffer;
 use reading::{Budget, Decoding, Frame, Limits, Record, Settling, Tables, Verdict};
 
 // ---- numbers of a case
@@ -141,10 +141,9 @@ fn adler(bytes: &[u8]) -> u64 {
 
 // A space, and a number's digits.
 fn put_number(line: &mut [u8], at: usize, x: u64) -> usize {
-    let mut text = [0u8; 20];
-    let k = io::decimal(x, &mut text);
+    let mut digits = Buffer::new();
     let next = tillsparrow_streams::put(line, at, b" ");
-    tillsparrow_streams::put(line, next, &text[..k])
+    tillsparrow_streams::put(line, next, digits.format(x).as_bytes())
 }
 
 fn put_numbers(line: &mut [u8], at: usize, entries: &[usize]) -> usize {
@@ -173,9 +172,9 @@ fn open_named(line: &mut [u8], job: &[u8], verdict: Verdict, left: u64) -> usize
 }
 
 // The line is written, with its end: whether it could be.
-fn close(line: &mut [u8], at: usize) -> bool {
+fn close(rt: &HostRuntime, line: &mut [u8], at: usize) -> bool {
     let n = tillsparrow_streams::put(line, at, b"\n");
-    tillsparrow_streams::write_first(line, n)
+    tillsparrow_streams::write_first(&mut rt.stdout(), line, n)
 }
 
 fn put_record(line: &mut [u8], at: usize, found: Record) -> usize {
@@ -193,7 +192,7 @@ fn limits(head: &[u8]) -> Limits {
     }
 }
 
-fn inspected(head: &[u8], s: &[u8]) -> bool {
+fn inspected(rt: &HostRuntime, head: &[u8], s: &[u8]) -> bool {
     let mut line = [0u8; 1024];
     let budget = Budget::fresh(number(head, 5));
     let answer = jpeg::inspect(s, number(head, 1) == 1, limits(head), budget);
@@ -201,7 +200,7 @@ fn inspected(head: &[u8], s: &[u8]) -> bool {
     let rest = answer.budget;
     let at = open_named(&mut line, b"1", verdict, rest.left);
     let end = put_record(&mut line, at, answer.found);
-    close(&mut line, end)
+    close(rt, &mut line, end)
 }
 
 // What inspect finds with no limit and a budget that always suffices; all zero where it refuses.
@@ -224,17 +223,18 @@ fn decode(
     jpeg::decode(s, found, output, scratch, budget)
 }
 
-fn drawn(job: &[u8], answer: Decoding, output: &[u8], scratch: &[u8]) -> bool {
+fn drawn(rt: &HostRuntime, job: &[u8], answer: Decoding, output: &[u8], scratch: &[u8]) -> bool {
     let mut line = [0u8; 1024];
     let verdict = answer.verdict;
     let rest = answer.budget;
     let a = open(&mut line, job, verdict.number(), rest.left);
     let b = put_number(&mut line, a, adler(output));
     let c = put_number(&mut line, b, adler(scratch));
-    close(&mut line, c)
+    close(rt, &mut line, c)
 }
 
 fn decoded(
+    rt: &HostRuntime,
     head: &[u8],
     job: &[u8],
     s: &[u8],
@@ -244,7 +244,7 @@ fn decoded(
 ) -> bool {
     let budget = Budget::fresh(number(head, 5));
     let answer = decode(s, found, output, scratch, budget);
-    drawn(job, answer, output, scratch)
+    drawn(rt, job, answer, output, scratch)
 }
 
 // Settle on a buffer that holds what every case begins with.
@@ -253,7 +253,7 @@ fn rewritten(head: &[u8], s: &[u8], output: &mut [u8]) -> Settling {
     jpeg::settle(s, limits(head), Budget::fresh(number(head, 5)), output)
 }
 
-fn settled(head: &[u8], s: &[u8], output: &mut [u8]) -> bool {
+fn settled(rt: &HostRuntime, head: &[u8], s: &[u8], output: &mut [u8]) -> bool {
     let mut line = [0u8; 1024];
     let answer = rewritten(head, s, output);
     let verdict = answer.verdict;
@@ -261,76 +261,83 @@ fn settled(head: &[u8], s: &[u8], output: &mut [u8]) -> bool {
     let a = open_named(&mut line, b"3", verdict, rest.left);
     let b = put_number(&mut line, a, answer.length as u64);
     let c = put_number(&mut line, b, adler(output));
-    close(&mut line, c)
+    close(rt, &mut line, c)
 }
 
 // ---- the cases
 
 // The case cannot be answered: nothing more is.
-fn bad() -> bool {
-    io::write_all(STDOUT_FILENO, b"bad case\n");
+fn bad(rt: &HostRuntime) -> bool {
+    tillsparrow_streams::write_first(&mut rt.stdout(), b"bad case\n", 9);
     false
 }
 
 // A case with a given record.
-fn given(head: &[u8], s: &[u8], output: &mut [u8], scratch: &mut [u8]) -> bool {
+fn given(rt: &HostRuntime, head: &[u8], s: &[u8], output: &mut [u8], scratch: &mut [u8]) -> bool {
     let mut list = [0u8; 368];
-    if io::read_full(STDIN_FILENO, &mut list) < 368 {
-        return bad();
+    if tillsparrow_streams::read_full(&mut rt.stdin(), &mut list) < 368 {
+        return bad(rt);
     }
     if 1 < number(&list, 45) {
-        return bad();
+        return bad(rt);
     }
     let found = record(&list);
-    decoded(head, b"4", s, found, output, scratch)
+    decoded(rt, head, b"4", s, found, output, scratch)
 }
 
 // A case whose job, colour and sizes are good.
-fn job(head: &[u8], s: &[u8], output: &mut [u8], scratch: &mut [u8]) -> bool {
+fn job(rt: &HostRuntime, head: &[u8], s: &[u8], output: &mut [u8], scratch: &mut [u8]) -> bool {
     let job = number(head, 0);
     match job {
-        1 => inspected(head, s),
-        2 => decoded(head, b"2", s, own_record(head, s), output, scratch),
-        3 => settled(head, s, output),
-        4 => given(head, s, output, scratch),
-        _ => bad(),
+        1 => inspected(rt, head, s),
+        2 => decoded(rt, head, b"2", s, own_record(head, s), output, scratch),
+        3 => settled(rt, head, s, output),
+        4 => given(rt, head, s, output, scratch),
+        _ => bad(rt),
     }
 }
 
 // A case behind its head: its bytes are read, and it is answered.
-fn body(head: &[u8], input: &mut [u8], output: &mut [u8], scratch: &mut [u8]) -> bool {
-    if io::read_full(STDIN_FILENO, input) < input.len() {
-        return bad();
+fn body(
+    rt: &HostRuntime,
+    head: &[u8],
+    input: &mut [u8],
+    output: &mut [u8],
+    scratch: &mut [u8],
+) -> bool {
+    if tillsparrow_streams::read_full(&mut rt.stdin(), input) < input.len() {
+        return bad(rt);
     }
-    job(head, input, output, scratch)
+    job(rt, head, input, output, scratch)
 }
 
 // The next case is answered: whether one may follow.
-fn case(input: &mut [u8], output: &mut [u8], scratch: &mut [u8]) -> bool {
+fn case(rt: &HostRuntime, input: &mut [u8], output: &mut [u8], scratch: &mut [u8]) -> bool {
     let mut head = [0u8; 72];
-    let got = io::read_full(STDIN_FILENO, &mut head);
+    let got = tillsparrow_streams::read_full(&mut rt.stdin(), &mut head);
     if got == 0 {
         return false;
     }
     if got < 72 {
-        return bad();
+        return bad(rt);
     }
     let room = size(&head, 6);
     let second = size(&head, 7);
     let n = size(&head, 8);
     if input.len() < n {
-        return bad();
+        return bad(rt);
     }
     if output.len() < room {
-        return bad();
+        return bad(rt);
     }
     if scratch.len() < second {
-        return bad();
+        return bad(rt);
     }
     if 1 < number(&head, 1) {
-        return bad();
+        return bad(rt);
     }
     body(
+        rt,
         &head,
         &mut input[..n],
         &mut output[..room],
@@ -339,16 +346,16 @@ fn case(input: &mut [u8], output: &mut [u8], scratch: &mut [u8]) -> bool {
 }
 
 // A proved loop has to end, and nothing says that the input does: the turns are counted down from a number that no run uses up.
-fn run(input: &mut [u8], output: &mut [u8], scratch: &mut [u8]) {
+fn run(rt: &HostRuntime, input: &mut [u8], output: &mut [u8], scratch: &mut [u8]) {
     let mut turns = u64::MAX;
-    while turns > 0 && case(input, output, scratch) {
+    while turns > 0 && case(rt, input, output, scratch) {
         turns -= 1;
     }
 }
 
-fn main() {
+fn main(rt: HostRuntime) {
     let mut input = [0u8; 262144];
     let mut output = [0u8; 262144];
     let mut scratch = [0u8; 262144];
-    run(&mut input, &mut output, &mut scratch);
+    run(&rt, &mut input, &mut output, &mut scratch);
 }

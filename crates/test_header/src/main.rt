@@ -3,9 +3,10 @@
 // both from the rules alone, and says how the list is laid out. Behind the list's end every byte counts as 0.
 #![tactic(auto)]
 
-ghost use Rattle.std.specs.Prelude.{◌<◌};
+ghost use Rattle.std.specs.Prelude.{◌<◌, IfOk};
 
 use reading::{Head, Refusal};
+use std::io;
 
 // two bytes, high byte first
 fn number(list: &[u8], place: usize) -> usize
@@ -65,17 +66,17 @@ fn patched(list: &[u8], at: usize, patches: usize, file: &mut [u8; 1024])
 
 // ---- a line
 
-fn field(x: u64) {
-    io::write_all(1, b" ");
-    io::print_decimal(1, x);
+fn field(rt: &impl Print, x: u64) -> io::Result<()> {
+    print!(rt; " {x}")
 }
 
-fn fields(entries: &[usize]) {
+fn fields(rt: &impl Print, entries: &[usize]) -> io::Result<()> {
     let mut i: usize = 0;
     while i < entries.len() {
-        field(entries[i] as u64);
+        field(rt, entries[i] as u64)?;
         i += 1;
     }
+    Ok(())
 }
 
 // a file that has no room is refused as too long, which no line of the list expects
@@ -86,25 +87,31 @@ fn head_of(file: &[u8], length: usize, colour: bool) -> Head {
     jpeg_header::header(&file[0..length], colour)
 }
 
-fn line(index: u64, file: &[u8; 1024], length: usize, colour: bool) {
+fn line(
+    rt: &impl Print,
+    index: u64,
+    file: &[u8; 1024],
+    length: usize,
+    colour: bool,
+) -> io::Result<()> {
     let head = head_of(file, length, colour);
     let verdict = head.verdict;
     let number = verdict.number();
-    io::print_decimal(1, index);
-    field(number as u64);
+    print!(rt; "{index}")?;
+    field(rt, number as u64)?;
     if number == 0 {
         let numbers = tillsparrow_streams::numbers(head.found);
-        fields(&numbers);
+        fields(rt, &numbers)?;
     }
-    io::write_all(1, b"\n");
+    println!(rt; "")
 }
 
 // ---- the list
 
 // the vector at a place of the list; answers the place of the next one
-fn vector(list: &[u8], at: usize, index: u64) -> usize
+fn vector(rt: &impl Print, list: &[u8], at: usize, index: u64) -> io::Result<usize>
     requires { at < 1048576 }
-    ensures { at < result }
+    ensures { IfOk result (λ next. at < next) }
 {
     let mut file = [0u8; 1024];
     let parts = tillsparrow_streams::wide(reading::byte_at(list, at)) as usize;
@@ -113,24 +120,25 @@ fn vector(list: &[u8], at: usize, index: u64) -> usize
     let colour = reading::byte_at(list, behind) != 0;
     let patches = tillsparrow_streams::wide(reading::byte_at(list, behind + 1)) as usize;
     patched(list, behind + 2, patches, &mut file);
-    line(index, &file, length, colour);
-    behind + 2 + 3 * patches
+    line(rt, index, &file, length, colour)?;
+    Ok(behind + 2 + 3 * patches)
 }
 
-fn run(list: &[u8]) {
+fn run(rt: &impl Print, list: &[u8]) -> io::Result<()> {
     if 65536 < list.len() {
-        return;
+        return Ok(());
     }
     let mut at = number(list, 0);
     let mut index: u64 = 0;
     while at < list.len() {
-        at = vector(list, at, index);
+        at = vector(rt, list, at, index)?;
         index += 1;
     }
+    Ok(())
 }
 
-fn main() {
-    let mut list = io::large_buffer();
-    let length = io::read_full(0, &mut list);
-    run(&list[..length]);
+fn main(rt: HostRuntime) -> io::Result<()> {
+    let mut list = [0u8; 65536];
+    let length = tillsparrow_streams::read_full(&mut rt.stdin(), &mut list);
+    run(&rt, &list[..length])
 }

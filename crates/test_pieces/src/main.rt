@@ -2,8 +2,8 @@
 // number, what is left of the budget, the block and the place that it names, and where it says so more.
 #![tactic(auto)]
 
-use libc::STDOUT_FILENO;
 use reading::{Budget, Limits, Verdict};
+use std::io;
 
 // frames: 8 x 8 and 16 x 8 in one channel, 8 x 8 in two and in four, 16 x 16 in three, and 65,535 x 65,535 in three and in four
 const ONE_BLOCK: [u8; 13] = *b"\xff\xc0\0\x0b\x08\0\x08\0\x08\x01\x01\x11\0";
@@ -63,13 +63,12 @@ fn block(s: &mut [u8], dc: &[u8], ac: &[u8], coded: &[u8]) {
     file(s, &ONE_BLOCK, dc, ac, &ONE_SCAN, coded);
 }
 
-fn end_line() {
-    io::write_all(STDOUT_FILENO, b"\n");
+fn end_line(rt: &impl Print) -> io::Result<()> {
+    println!(rt; "")
 }
 
-fn write_number(n: u64) {
-    io::write_all(STDOUT_FILENO, b" ");
-    io::print_decimal(STDOUT_FILENO, n);
+fn write_number(rt: &impl Print, n: u64) -> io::Result<()> {
+    print!(rt; " {n}")
 }
 
 // a piece's name, its number, what is left of the budget, the block and the place

@@ -5,8 +5,8 @@
 ghost use Rattle.std.specs.Prelude.{◌≡◌};
 ghost use Rattle.tillsparrow.specs.Answer.{unheld, reply, leaving, shown, answered};
 
-use libc::STDERR_FILENO;
 use reading::{Budget, Limits, Record, Refusal, Verdict};
+use std::io::{Stdout, Write};
 use tillsparrow_streams::{Answer, Filled};
 
 // Two or four channels, which neither PGM nor PPM holds.
@@ -66,26 +66,26 @@ fn convert(s: &[u8], output: &mut [u8], scratch: &mut [u8]) -> Answer
 }
 
 // Writes the answer to the first n bytes that were read.
-fn answer(buffer: &[u8], n: usize) -> bool {
+fn answer(stream: &mut Stdout, buffer: &[u8], n: usize) -> bool {
     let mut output = [0u8; Limits::BUFFER];
     let mut scratch = [0u8; Limits::BUFFER];
     if buffer.len() < n {
         return false;
     }
     let made = convert(&buffer[..n], &mut output, &mut scratch);
-    tillsparrow_streams::write(made, &output)
+    tillsparrow_streams::write(stream, made, &output)
 }
 
 // One byte more than the input limit is looked at, so that a longer file is seen to be longer.
-fn main() {
+fn main(rt: HostRuntime) {
     let mut input = [0u8; Limits::BUFFER + 1];
-    match tillsparrow_streams::fill(&mut input) {
+    match tillsparrow_streams::fill(&mut rt.stdin(), &mut input) {
         Filled::Failed => {
-            io::write_all(STDERR_FILENO, &tillsparrow_streams::UNREAD);
+            let _ = rt.stderr().write_all(&tillsparrow_streams::UNREAD);
         }
         Filled::Bytes(n) => {
-            if !answer(&input, n) {
-                io::write_all(STDERR_FILENO, &tillsparrow_streams::UNWRITTEN);
+            if !answer(&mut rt.stdout(), &input, n) {
+                let _ = rt.stderr().write_all(&tillsparrow_streams::UNWRITTEN);
             }
         }
     }

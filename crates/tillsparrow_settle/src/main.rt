@@ -7,8 +7,8 @@ ghost use Rattle.reading.specs.Calls.{settle};
 ghost use Rattle.tillsparrow_streams.specs.Answers.{own_limits, ample};
 ghost use Rattle.tillsparrow_settle.specs.Answer.{reply, leaving, answered};
 
-use libc::STDERR_FILENO;
 use reading::{Budget, Limits, Verdict};
+use std::io::{Stdout, Write};
 use tillsparrow_streams::{Answer, Filled, Line};
 
 // So many bytes of a settled file with no line before them, or the refusal.
@@ -43,25 +43,25 @@ fn convert(s: &[u8], output: &mut [u8]) -> Answer
 
 // Writes the answer to the first n bytes that were read. A settled file can be longer than the file, so its buffer has four times the
 // room.
-fn answer(buffer: &[u8], n: usize) -> bool {
+fn answer(stream: &mut Stdout, buffer: &[u8], n: usize) -> bool {
     let mut output = [0u8; 4 * Limits::BUFFER];
     if buffer.len() < n {
         return false;
     }
     let made = convert(&buffer[..n], &mut output);
-    tillsparrow_streams::write(made, &output)
+    tillsparrow_streams::write(stream, made, &output)
 }
 
 // One byte more than the input limit is looked at, so that a longer file is seen to be longer.
-fn main() {
+fn main(rt: HostRuntime) {
     let mut input = [0u8; Limits::BUFFER + 1];
-    match tillsparrow_streams::fill(&mut input) {
+    match tillsparrow_streams::fill(&mut rt.stdin(), &mut input) {
         Filled::Failed => {
-            io::write_all(STDERR_FILENO, &tillsparrow_streams::UNREAD);
+            let _ = rt.stderr().write_all(&tillsparrow_streams::UNREAD);
         }
         Filled::Bytes(n) => {
-            if !answer(&input, n) {
-                io::write_all(STDERR_FILENO, &tillsparrow_streams::UNWRITTEN);
+            if !answer(&mut rt.stdout(), &input, n) {
+                let _ = rt.stderr().write_all(&tillsparrow_streams::UNWRITTEN);
             }
         }
     }
