@@ -72,86 +72,92 @@ fn write_number(rt: &impl Print, n: u64) -> io::Result<()> {
 }
 
 // a piece's name, its number, what is left of the budget, the block and the place
-fn answered(name: &[u8], verdict: Verdict, left: Budget) {
+fn answered(rt: &impl Print, name: &[u8], verdict: Verdict, left: Budget) -> io::Result<()> {
     let named = verdict.named();
-    io::write_all(STDOUT_FILENO, name);
-    write_number(verdict.number() as u64);
-    write_number(left.left);
-    write_number(named.block as u64);
-    write_number(named.place as u64);
+    rt.write_all(name)?;
+    write_number(rt, verdict.number() as u64)?;
+    write_number(rt, left.left)?;
+    write_number(rt, named.block as u64)?;
+    write_number(rt, named.place as u64)
 }
 
-fn inspect(name: &[u8], s: &[u8], limits: Limits, budget: u64) {
+fn inspect(rt: &impl Print, name: &[u8], s: &[u8], limits: Limits, budget: u64) -> io::Result<()> {
     let answer = jpeg::inspect(s, true, limits, Budget::fresh(budget));
     let verdict = answer.verdict;
     let left = answer.budget;
-    answered(name, verdict, left);
-    end_line();
+    answered(rt, name, verdict, left)?;
+    end_line(rt)
 }
 
 // the numbers of a record: blocks, scratch, output, work
-fn header(name: &[u8], s: &[u8]) {
+fn header(rt: &impl Print, name: &[u8], s: &[u8]) -> io::Result<()> {
     let answer = jpeg_header::header(s, true);
     let verdict = answer.verdict;
     let found = answer.found;
-    io::write_all(STDOUT_FILENO, name);
-    write_number(verdict.number() as u64);
-    write_number(found.blocks as u64);
-    write_number(found.scratch as u64);
-    write_number(found.output as u64);
-    write_number(found.work);
-    end_line();
+    rt.write_all(name)?;
+    write_number(rt, verdict.number() as u64)?;
+    write_number(rt, found.blocks as u64)?;
+    write_number(rt, found.scratch as u64)?;
+    write_number(rt, found.output as u64)?;
+    write_number(rt, found.work)?;
+    end_line(rt)
 }
 
-fn largest(s: &[u8]) {
-    header(b"largest picture, header", s);
+fn largest(rt: &impl Print, s: &[u8]) -> io::Result<()> {
+    header(rt, b"largest picture, header", s)?;
     inspect(
+        rt,
         b"largest picture, limits",
         s,
         tillsparrow_streams::limits(),
         u64::MAX,
-    );
+    )?;
     inspect(
+        rt,
         b"largest picture, budget 302",
         s,
         tillsparrow_streams::no_limits(),
         302,
-    );
+    )?;
     inspect(
+        rt,
         b"largest picture, budget 303",
         s,
         tillsparrow_streams::no_limits(),
         303,
-    );
+    )?;
     inspect(
+        rt,
         b"largest picture, one short of work",
         s,
         tillsparrow_streams::no_limits(),
         644244701489,
-    );
+    )?;
     inspect(
+        rt,
         b"largest picture, work",
         s,
         tillsparrow_streams::no_limits(),
         644244701490,
-    );
+    )
 }
 
 // the same size in four channels
-fn largest_of_four() {
+fn largest_of_four(rt: &impl Print) -> io::Result<()> {
     let mut s = [1u8; 156];
     file(&mut s, &LARGEST_OF_FOUR, &DC, &AC, &FOUR_SCAN, b"\x3f");
-    header(b"largest picture of four channels, header", &s);
+    header(rt, b"largest picture of four channels, header", &s)?;
     inspect(
+        rt,
         b"largest picture of four channels, one short of work",
         &s,
         tillsparrow_streams::no_limits(),
         858992935228,
-    );
+    )
 }
 
 // the same, the settled length, and the byte at a place of the buffer
-fn settle(name: &[u8], s: &[u8], at: usize) {
+fn settle(rt: &impl Print, name: &[u8], s: &[u8], at: usize) -> io::Result<()> {
     let mut out = [0u8; 150];
     let answer = jpeg::settle(
         s,
@@ -161,64 +167,64 @@ fn settle(name: &[u8], s: &[u8], at: usize) {
     );
     let verdict = answer.verdict;
     let left = answer.budget;
-    answered(name, verdict, left);
-    write_number(answer.length as u64);
+    answered(rt, name, verdict, left)?;
+    write_number(rt, answer.length as u64)?;
     if at < out.len() {
-        write_number(tillsparrow_streams::wide(out[at]));
+        write_number(rt, tillsparrow_streams::wide(out[at]))?;
     }
-    end_line();
+    end_line(rt)
 }
 
 // the settled pieces: the coded byte is 63 in each that is accepted, and nothing is written of those that are refused
-fn settled() {
+fn settled(rt: &impl Print) -> io::Result<()> {
     let mut one = [1u8; 141];
     block(&mut one, &DC, &AC, b"\x3f");
-    settle(b"P1, byte 63", &one, 138);
+    settle(rt, b"P1, byte 63", &one, 138)?;
     let mut runs = [1u8; 142];
     block(&mut runs, &DC, &RUNS, b"\x4f");
-    settle(b"P2, byte 79", &runs, 139);
+    settle(rt, b"P2, byte 79", &runs, 139)?;
     block(&mut runs, &DC, &RUNS, b"\x54");
-    settle(b"P3, byte 84", &runs, 139);
-    settle(b"P3, the first byte", &runs, 0);
-    settle(b"P3, the last byte", &runs, 141);
-    settle(b"P3, the byte behind", &runs, 142);
+    settle(rt, b"P3, byte 84", &runs, 139)?;
+    settle(rt, b"P3, the first byte", &runs, 0)?;
+    settle(rt, b"P3, the last byte", &runs, 141)?;
+    settle(rt, b"P3, the byte behind", &runs, 142)?;
     let mut fourth = [1u8; 143];
     block(&mut fourth, &DC, &RUNS, b"\x55\x7f");
-    settle(b"P4, a fourth run", &fourth, 139);
+    settle(rt, b"P4, a fourth run", &fourth, 139)?;
     let mut twice = [1u8; 142];
     block(&mut twice, &TWO_ZEROS, &AC, b"\x9f");
-    settle(b"P5, a symbol twice", &twice, 139);
+    settle(rt, b"P5, a symbol twice", &twice, 139)
 }
 
 // F with a DC table that has the code 10 for one symbol more
-fn with_dc(name: &[u8], symbol: u8) {
+fn with_dc(rt: &impl Print, name: &[u8], symbol: u8) -> io::Result<()> {
     let mut table = TWO_ZEROS;
     table[22] = symbol;
     let mut s = [1u8; 142];
     block(&mut s, &table, &AC, b"\x3f");
-    inspect(name, &s, tillsparrow_streams::limits(), 10000);
+    inspect(rt, name, &s, tillsparrow_streams::limits(), 10000)
 }
 
 // the same of its AC table
-fn with_ac(name: &[u8], symbol: u8) {
+fn with_ac(rt: &impl Print, name: &[u8], symbol: u8) -> io::Result<()> {
     let mut table = RUNS;
     table[22] = symbol;
     let mut s = [1u8; 142];
     block(&mut s, &DC, &table, b"\x3f");
-    inspect(name, &s, tillsparrow_streams::limits(), 10000);
+    inspect(rt, name, &s, tillsparrow_streams::limits(), 10000)
 }
 
 // tables that list a symbol twice, or one that a block never takes, and their neighbours
-fn tables() {
-    with_dc(b"DC 0 and 0", 0);
-    with_dc(b"DC 0 and 11", 11);
-    with_dc(b"DC 0 and 12", 12);
-    with_ac(b"AC 0 and 0", 0);
-    with_ac(b"AC 0 and 11", 11);
-    with_ac(b"AC 0 and 16", 16);
-    with_ac(b"AC 0 and 224", 224);
-    with_ac(b"AC 0 and 240", 240);
-    with_ac(b"AC 0 and 250", 250);
+fn tables(rt: &impl Print) -> io::Result<()> {
+    with_dc(rt, b"DC 0 and 0", 0)?;
+    with_dc(rt, b"DC 0 and 11", 11)?;
+    with_dc(rt, b"DC 0 and 12", 12)?;
+    with_ac(rt, b"AC 0 and 0", 0)?;
+    with_ac(rt, b"AC 0 and 11", 11)?;
+    with_ac(rt, b"AC 0 and 16", 16)?;
+    with_ac(rt, b"AC 0 and 224", 224)?;
+    with_ac(rt, b"AC 0 and 240", 240)?;
+    with_ac(rt, b"AC 0 and 250", 250)
 }
 
 // two blocks with the coded byte 63 each, and bytes between them and behind them
@@ -227,176 +233,190 @@ fn between(s: &mut [u8], coded: &[u8]) {
 }
 
 // fill before a restart and before 217: the settled file has 150 bytes, the restart's code at 146 and 217 at 149; what else may not stand behind fill
-fn fill() {
+fn fill(rt: &impl Print) -> io::Result<()> {
     let mut none = [1u8; 150];
     between(&mut none, b"\x3f\xff\xd0\x3f");
-    settle(b"no fill", &none, 146);
+    settle(rt, b"no fill", &none, 146)?;
     let mut one = [1u8; 151];
     between(&mut one, b"\x3f\xff\xff\xd0\x3f");
-    settle(b"1 before a restart", &one, 146);
+    settle(rt, b"1 before a restart", &one, 146)?;
     between(&mut one, b"\x3f\xff\xd0\x3f\xff");
-    settle(b"1 before 217", &one, 149);
+    settle(rt, b"1 before 217", &one, 149)?;
     let mut three = [1u8; 153];
     between(&mut three, b"\x3f\xff\xff\xff\xff\xd0\x3f");
-    settle(b"3 before a restart", &three, 146);
+    settle(rt, b"3 before a restart", &three, 146)?;
     between(&mut three, b"\x3f\xff\xd0\x3f\xff\xff\xff");
-    settle(b"3 before 217", &three, 149);
+    settle(rt, b"3 before 217", &three, 149)?;
     between(&mut three, b"\x3f\xff\xff\x3f\xff\xd0\x3f");
-    settle(b"fill, then a byte of data", &three, 146);
+    settle(rt, b"fill, then a byte of data", &three, 146)?;
     between(&mut three, b"\x3f\xff\xff\xd1\xff\xd0\x3f");
-    settle(b"fill, then a wrong marker", &three, 146);
+    settle(rt, b"fill, then a wrong marker", &three, 146)
 }
 
 // codes for 240 and for a run of 14 with 9 bits: the last byte is 255 when it is padded, and its 0 follows
-fn full_byte() {
+fn full_byte(rt: &impl Print) -> io::Result<()> {
     let mut table = RUNS;
     table[21] = 240;
     table[22] = 233;
     let mut s = [1u8; 146];
     block(&mut s, &DC, &table, b"\x0b\xff\0\xff\xff");
-    settle(b"a padded 255, its 0, fill", &s, 141);
+    settle(rt, b"a padded 255, its 0, fill", &s, 141)?;
     block(&mut s, &DC, &table, b"\x0b\xff\xff\xff\xff");
-    settle(b"a padded 255, fill", &s, 141);
+    settle(rt, b"a padded 255, fill", &s, 141)
 }
 
 // F with a 255 too many, or a byte behind its end
-fn stray() {
+fn stray(rt: &impl Print) -> io::Result<()> {
     let mut s = [1u8; 142];
     block(&mut s, &DC, &AC, b"\x3f");
     inspect(
+        rt,
         b"a byte behind 217",
         &s,
         tillsparrow_streams::limits(),
         10000,
-    );
+    )?;
     block(&mut s, &DC, &AC, b"\x3f\xff");
-    inspect(b"fill", &s, tillsparrow_streams::limits(), 10000);
+    inspect(rt, b"fill", &s, tillsparrow_streams::limits(), 10000)?;
     s[141] = 255;
-    inspect(b"fill, no marker", &s, tillsparrow_streams::limits(), 10000);
+    inspect(
+        rt,
+        b"fill, no marker",
+        &s,
+        tillsparrow_streams::limits(),
+        10000,
+    )?;
     block(&mut s, &DC, &AC, b"\x3e\xff");
     inspect(
+        rt,
         b"fill, padding not complete",
         &s,
         tillsparrow_streams::limits(),
         10000,
-    );
+    )?;
     block(&mut s, &DC, &AC, b"\xff\xff");
     inspect(
+        rt,
         b"fill where a bit is wanted",
         &s,
         tillsparrow_streams::limits(),
         10000,
-    );
+    )
 }
 
 // the same of the first n bytes of a file
-fn judge(name: &[u8], s: &[u8], n: usize) {
+fn judge(rt: &impl Print, name: &[u8], s: &[u8], n: usize) -> io::Result<()> {
     if n <= s.len() {
-        inspect(name, &s[..n], tillsparrow_streams::limits(), 10000);
+        inspect(rt, name, &s[..n], tillsparrow_streams::limits(), 10000)?;
     }
+    Ok(())
 }
 
 // scans that break in their first block, which begins at 138, or at their end, where the block count is 1 and the place 139
-fn broken_at_once() {
+fn broken_at_once(rt: &impl Print) -> io::Result<()> {
     let mut f = [1u8; 141];
     block(&mut f, &DC, &AC, b"\x3f");
-    judge(b"cut before its block", &f, 138);
-    judge(b"cut before 255", &f, 139);
-    judge(b"cut before 217", &f, 140);
+    judge(rt, b"cut before its block", &f, 138)?;
+    judge(rt, b"cut before 255", &f, 139)?;
+    judge(rt, b"cut before 217", &f, 140)?;
     f[138] = 255;
-    judge(b"a 255 as the last byte", &f, 139);
+    judge(rt, b"a 255 as the last byte", &f, 139)?;
     f[138] = 254;
-    judge(b"eight bits, then no byte", &f, 139);
-    judge(b"eight bits, then a bare 255", &f, 141);
+    judge(rt, b"eight bits, then no byte", &f, 139)?;
+    judge(rt, b"eight bits, then a bare 255", &f, 141)?;
     let mut more = [1u8; 142];
     block(&mut more, &DC, &AC, b"\xff\x01");
-    judge(b"a bare 255", &more, 142);
+    judge(rt, b"a bare 255", &more, 142)?;
     block(&mut more, &DC, &AC, b"\xfe\xfe");
-    judge(b"sixteen bits and no code", &more, 142);
+    judge(rt, b"sixteen bits and no code", &more, 142)
 }
 
 // scans that break behind a restart: its block is number 1, and its turn begins at 145, before the restart
-fn broken_behind_a_restart() {
+fn broken_behind_a_restart(rt: &impl Print) -> io::Result<()> {
     let mut two = [1u8; 150];
     between(&mut two, b"\x3f\xff\xd0\x3f");
-    judge(b"cut before the restart", &two, 145);
-    judge(b"cut in the restart", &two, 146);
-    judge(b"cut behind the restart", &two, 147);
-    judge(b"cut before the end of two", &two, 149);
+    judge(rt, b"cut before the restart", &two, 145)?;
+    judge(rt, b"cut in the restart", &two, 146)?;
+    judge(rt, b"cut behind the restart", &two, 147)?;
+    judge(rt, b"cut before the end of two", &two, 149)?;
     let mut more = [1u8; 151];
     between(&mut more, b"\x3f\xff\xd0\xff\x01");
-    judge(b"a bare 255 behind a restart", &more, 151);
+    judge(rt, b"a bare 255 behind a restart", &more, 151)?;
     between(&mut more, b"\x3f\xff\xd0\xfe\xfe");
-    judge(b"no code behind a restart", &more, 151);
+    judge(rt, b"no code behind a restart", &more, 151)?;
     between(&mut more, b"\x3f\xff\xff\xd1\x3f");
-    judge(b"a wrong restart behind fill", &more, 151);
+    judge(rt, b"a wrong restart behind fill", &more, 151)
 }
 
 // two and four channels with a block of zeros in each, at their price and one below it
-fn channels() {
+fn channels(rt: &impl Print) -> io::Result<()> {
     let mut two = [1u8; 146];
     file(&mut two, &TWO_CHANNELS, &DC, &AC, &TWO_SCAN, b"\x0f");
-    header(b"two channels, header", &two);
+    header(rt, b"two channels, header", &two)?;
     inspect(
+        rt,
         b"two channels at 6693",
         &two,
         tillsparrow_streams::limits(),
         6693,
-    );
+    )?;
     let mut four = [1u8; 156];
     file(&mut four, &FOUR_CHANNELS, &DC, &AC, &FOUR_SCAN, b"\0");
-    header(b"four channels, header", &four);
+    header(rt, b"four channels, header", &four)?;
     inspect(
+        rt,
         b"four channels at 13113",
         &four,
         tillsparrow_streams::limits(),
         13113,
-    );
+    )?;
     inspect(
+        rt,
         b"four channels at 13112",
         &four,
         tillsparrow_streams::limits(),
         13112,
-    );
+    )?;
     four[90] = 1;
-    header(b"four channels, two of one id", &four);
+    header(rt, b"four channels, two of one id", &four)
 }
 
 // the header of 16 x 16 in three channels whose sampling bytes are given
-fn sampled(name: &[u8], a: u8, b: u8, c: u8) {
+fn sampled(rt: &impl Print, name: &[u8], a: u8, b: u8, c: u8) -> io::Result<()> {
     let mut frame = SQUARE;
     frame[11] = a;
     frame[14] = b;
     frame[17] = c;
     let mut s = [1u8; 151];
     file(&mut s, &frame, &DC, &AC, &THREE_SCAN, b"\x3f");
-    header(name, &s);
+    header(rt, name, &s)
 }
 
 // sums of products up to 10 and above, and factors outside 1 to 4
-fn sampling() {
-    sampled(b"2 x 2, 1 x 1, 1 x 1", 0x22, 0x11, 0x11);
-    sampled(b"2 x 2, 1 x 2, 1 x 2", 0x22, 0x12, 0x12);
-    sampled(b"1 x 1, 2 x 2, 1 x 1", 0x11, 0x22, 0x11);
-    sampled(b"3 x 1, 2 x 2, 1 x 3", 0x31, 0x22, 0x13);
-    sampled(b"4 x 2, 1 x 1, 1 x 1", 0x42, 0x11, 0x11);
-    sampled(b"4 x 2, 1 x 1, 1 x 2", 0x42, 0x11, 0x12);
-    sampled(b"1 x 1, 1 x 1, 1 x 4", 0x11, 0x11, 0x14);
-    sampled(b"1 x 1, 1 x 1, 1 x 5", 0x11, 0x11, 0x15);
-    sampled(b"1 x 1, 0 x 1, 1 x 1", 0x11, 0x01, 0x11);
+fn sampling(rt: &impl Print) -> io::Result<()> {
+    sampled(rt, b"2 x 2, 1 x 1, 1 x 1", 0x22, 0x11, 0x11)?;
+    sampled(rt, b"2 x 2, 1 x 2, 1 x 2", 0x22, 0x12, 0x12)?;
+    sampled(rt, b"1 x 1, 2 x 2, 1 x 1", 0x11, 0x22, 0x11)?;
+    sampled(rt, b"3 x 1, 2 x 2, 1 x 3", 0x31, 0x22, 0x13)?;
+    sampled(rt, b"4 x 2, 1 x 1, 1 x 1", 0x42, 0x11, 0x11)?;
+    sampled(rt, b"4 x 2, 1 x 1, 1 x 2", 0x42, 0x11, 0x12)?;
+    sampled(rt, b"1 x 1, 1 x 1, 1 x 4", 0x11, 0x11, 0x14)?;
+    sampled(rt, b"1 x 1, 1 x 1, 1 x 5", 0x11, 0x11, 0x15)?;
+    sampled(rt, b"1 x 1, 0 x 1, 1 x 1", 0x11, 0x01, 0x11)
 }
 
-fn main() {
+// every piece, in the order of the lines
+fn pieces(rt: &impl Print) -> io::Result<()> {
     let mut f = [1u8; 141];
     block(&mut f, &DC, &AC, b"\x3f");
-    inspect(b"F at 3483", &f, tillsparrow_streams::limits(), 3483);
-    inspect(b"F at 3482", &f, tillsparrow_streams::limits(), 3482);
-    inspect(b"F at 283", &f, tillsparrow_streams::limits(), 283);
-    inspect(b"F at 282", &f, tillsparrow_streams::limits(), 282);
-    header(b"F, header", &f);
+    inspect(rt, b"F at 3483", &f, tillsparrow_streams::limits(), 3483)?;
+    inspect(rt, b"F at 3482", &f, tillsparrow_streams::limits(), 3482)?;
+    inspect(rt, b"F at 283", &f, tillsparrow_streams::limits(), 283)?;
+    inspect(rt, b"F at 282", &f, tillsparrow_streams::limits(), 282)?;
+    header(rt, b"F, header", &f)?;
     let none = [0u8; 0];
-    inspect(b"empty at 0", &none, tillsparrow_streams::limits(), 0);
-    inspect(b"empty at 1", &none, tillsparrow_streams::limits(), 1);
+    inspect(rt, b"empty at 0", &none, tillsparrow_streams::limits(), 0)?;
+    inspect(rt, b"empty at 1", &none, tillsparrow_streams::limits(), 1)?;
     let mut falling = [1u8; 145];
     file(
         &mut falling,
@@ -407,11 +427,12 @@ fn main() {
         b"\0\x04\x7f",
     );
     inspect(
+        rt,
         b"prediction -2048",
         &falling,
         tillsparrow_streams::limits(),
         10000,
-    );
+    )?;
     file(
         &mut falling,
         &TWO_BLOCKS,
@@ -421,22 +442,27 @@ fn main() {
         b"\0\x06\x5f",
     );
     inspect(
+        rt,
         b"prediction -2049",
         &falling,
         tillsparrow_streams::limits(),
         10000,
-    );
+    )?;
     let mut s = [1u8; 151];
     file(&mut s, &LARGEST, &DC, &AC, &THREE_SCAN, b"\x3f");
-    largest(&s);
-    largest_of_four();
-    settled();
-    tables();
-    fill();
-    full_byte();
-    stray();
-    broken_at_once();
-    broken_behind_a_restart();
-    channels();
-    sampling();
+    largest(rt, &s)?;
+    largest_of_four(rt)?;
+    settled(rt)?;
+    tables(rt)?;
+    fill(rt)?;
+    full_byte(rt)?;
+    stray(rt)?;
+    broken_at_once(rt)?;
+    broken_behind_a_restart(rt)?;
+    channels(rt)?;
+    sampling(rt)
+}
+
+fn main(rt: HostRuntime) -> io::Result<()> {
+    pieces(&rt)
 }
