@@ -9,7 +9,7 @@ use Rattle.reading.specs.Tests.{◌or◌}
 use Rattle.reading.specs.Calls.{inspect, Decoded, decode}
 use Rattle.tillsparrow_streams.specs.declared.Answer.{Answer}
 use Rattle.tillsparrow_streams.specs.Lines.{line_of, picture_head}
-use Rattle.tillsparrow_streams.specs.Answers.{own_limits, ample, refusing}
+use Rattle.tillsparrow_streams.specs.Answers.{own_limits, ample, refusing, text_of}
 
 -- the answer with the two buffers
 pub record Answered : Type 0 where
@@ -47,3 +47,7 @@ unfoldable pub answered : List ℕ → List ℕ → List ℕ → Answered
 answered s out scratch =
     let seen : Inspection = inspect s true own_limits ample in
     viewed s out scratch seen.found seen.verdict
+
+-- what is written: the line, and the bytes that follow it
+abbrev pub written : Answered → List ℕ
+written a = text_of a.answer a.output

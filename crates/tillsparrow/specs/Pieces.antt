@@ -1,16 +1,12 @@
 -- The program on four files, computed: F, the bench piece of the rules, the empty file, and F in two and in four channels.
-use Rattle.std.specs.Prelude.{ℕ, Bool, true, List, [], ◌∷◌, ◌++◌, T, eqb, take, replicate}
+use Rattle.std.specs.Prelude.{ℕ, Bool, true, List, [], ◌∷◌, ◌++◌, T, eqb, replicate}
 use Rattle.reading.specs.Calls.{number, inspect, decode, eq_list}
 use Rattle.reading.specs.Layout.{block_count, output_length, work_of}
 use Rattle.reading.specs.Transform.{coefficients, samples, clamped}
 use Rattle.reading.specs.Tests.{◌and◌}
 use Rattle.tillsparrow_streams.specs.Answers.{own_limits, ample}
 use Rattle.tillsparrow_streams.specs.Lines.{digits_in, refused, picture_head}
-use Rattle.tillsparrow.specs.Answer.{Answered, answered}
-
--- what is written: the line, and the bytes that follow it
-abbrev pub written : Answered → List ℕ
-written a = take a.answer.line.length a.answer.line.bytes ++ take a.answer.follow a.output
+use Rattle.tillsparrow.specs.Answer.{answered, written}
 
 -- a file by the segments of its frame and its scan, each behind its marker, and its one coded byte: every level is 0
 abbrev file : List ℕ → List ℕ → ℕ → List ℕ

@@ -2,11 +2,12 @@
 // else. What matters is in the libraries; here are three buffers and the two calls.
 #![tactic(auto)]
 
-ghost use Rattle.std.specs.Prelude.{◌≡◌};
-ghost use Rattle.tillsparrow.specs.Answer.{unheld, reply, leaving, shown, answered};
+ghost use Rattle.std.specs.Prelude.{◌≡◌, ◌≤◌, true, length, take, replicate};
+ghost use Rattle.std.specs.Io.KnownBytes.{Appends};
+ghost use Rattle.tillsparrow.specs.Answer.{unheld, reply, leaving, shown, answered, written};
 
 use reading::{Budget, Limits, Record, Refusal, Verdict};
-use std::io::{Stdout, Write};
+use std::io::Write;
 use tillsparrow_streams::{Answer, Filled};
 
 // Two or four channels, which neither PGM nor PPM holds.
@@ -65,8 +66,12 @@ fn convert(s: &[u8], output: &mut [u8], scratch: &mut [u8]) -> Answer
     }
 }
 
-// Writes the answer to the first n bytes that were read.
-fn answer(stream: &mut Stdout, buffer: &[u8], n: usize) -> bool {
+// Writes the answer to the first n bytes that were read: whether they are there and it could be written.
+fn answer<W: Write>(stream: &mut W, buffer: &[u8], n: usize) -> bool
+    ensures room { result ≡ true → n ≤ length buffer.now }
+    ensures written { result ≡ true → Appends (W.contents stream.old) (W.contents stream.new)
+        (written (answered (take n buffer.now) (replicate 65536 0) (replicate 65536 0))) }
+{
     let mut output = [0u8; Limits::BUFFER];
     let mut scratch = [0u8; Limits::BUFFER];
     if buffer.len() < n {

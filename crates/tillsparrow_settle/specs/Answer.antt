@@ -5,7 +5,7 @@ use Rattle.reading.specs.declared.Verdict.TheVariants.{Accepted, Refused}
 use Rattle.reading.specs.Calls.{Rewritten}
 use Rattle.tillsparrow_streams.specs.declared.Answer.{Answer}
 use Rattle.tillsparrow_streams.specs.Lines.{line_of}
-use Rattle.tillsparrow_streams.specs.Answers.{refusing}
+use Rattle.tillsparrow_streams.specs.Answers.{refusing, text_of}
 
 -- the answer with the buffer
 pub record Answered : Type 0 where
@@ -22,3 +22,7 @@ reply n (Refused x) = refusing x
 
 abbrev pub answered : Rewritten → Answered
 answered w = leaving (reply w.answer.length w.answer.verdict) w.output
+
+-- what is written: the line of a refusal, or the bytes of the settled file
+abbrev pub written : Answered → List ℕ
+written a = text_of a.answer a.output

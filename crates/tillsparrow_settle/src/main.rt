@@ -2,13 +2,14 @@
 // nothing else. What matters is in the libraries; here are two buffers and the call.
 #![tactic(auto)]
 
-ghost use Rattle.std.specs.Prelude.{◌≡◌};
+ghost use Rattle.std.specs.Prelude.{◌≡◌, ◌≤◌, true, length, take, replicate};
+ghost use Rattle.std.specs.Io.KnownBytes.{Appends};
 ghost use Rattle.reading.specs.Calls.{settle};
 ghost use Rattle.tillsparrow_streams.specs.Answers.{own_limits, ample};
-ghost use Rattle.tillsparrow_settle.specs.Answer.{reply, leaving, answered};
+ghost use Rattle.tillsparrow_settle.specs.Answer.{reply, leaving, answered, written};
 
 use reading::{Budget, Limits, Verdict};
-use std::io::{Stdout, Write};
+use std::io::Write;
 use tillsparrow_streams::{Answer, Filled, Line};
 
 // So many bytes of a settled file with no line before them, or the refusal.
@@ -41,9 +42,13 @@ fn convert(s: &[u8], output: &mut [u8]) -> Answer
     reply(settling.length, verdict)
 }
 
-// Writes the answer to the first n bytes that were read. A settled file can be longer than the file, so its buffer has four times the
-// room.
-fn answer(stream: &mut Stdout, buffer: &[u8], n: usize) -> bool {
+// Writes the answer to the first n bytes that were read: whether they are there and it could be written. A settled file can be longer
+// than the file, so its buffer has four times the room.
+fn answer<W: Write>(stream: &mut W, buffer: &[u8], n: usize) -> bool
+    ensures room { result ≡ true → n ≤ length buffer.now }
+    ensures written { result ≡ true → Appends (W.contents stream.old) (W.contents stream.new)
+        (written (answered (settle (take n buffer.now) own_limits ample (replicate 262144 0)))) }
+{
     let mut output = [0u8; 4 * Limits::BUFFER];
     if buffer.len() < n {
         return false;
