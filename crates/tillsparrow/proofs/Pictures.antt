@@ -1,7 +1,7 @@
 -- What the program writes, whatever the file. Inspect accepts it: the picture behind its head (`program_draws`), unless it has two or four
 -- channels, which are refused with 5 (`program_turns_away`). Inspect refuses it: the line of that refusal (`program_refuses`). A refusal is
 -- its line and nothing else. Decode's own refusals are never met.
-use Prim.Native.Nat.{ℕ, ◌+◌, ◌≤◌}
+use Prim.Native.Nat.{ℕ, ◌≤◌}
 use mathlib.Core.Path.{◌≡◌, refl, ap, ◌∙◌}
 use mathlib.Core.Bool.{true, false}
 use mathlib.Core.List.{List}
@@ -10,10 +10,8 @@ use lib.ListN.{length}
 use Rattle.reading.specs.declared.Record.{Record}
 use Rattle.reading.specs.declared.Refusal.{Refusal}
 use Rattle.reading.specs.declared.Refusal.TheVariants.{Unsupported}
-use Rattle.reading.specs.declared.Verdict.{Verdict}
 use Rattle.reading.specs.declared.Verdict.TheVariants.{Accepted, Refused}
-use Rattle.reading.specs.Calls.{inspect, Decoded, decode}
-use Rattle.reading.specs.Words.{Enough}
+use Rattle.reading.specs.Calls.{inspect, decode}
 use Rattle.reading.proofs.Theorems.{inspect_accepts, inspected_decodes}
 use Rattle.tillsparrow_streams.specs.Lines.{line_of, picture_head}
 use Rattle.tillsparrow_streams.specs.Answers.{own_limits, ample, refusing}
