@@ -133,6 +133,7 @@ fn record_of(numbers: FlatRecord) -> Record
 
 // The record to decode by. Where the numbers are no record's it has no channels, so it is no file's, and its sizes and its work are
 // those of the numbers.
+#[tactic(auto, using(crate::proofs::Flattening::asked_none, crate::proofs::Flattening::asked_so))]
 pub fn asked(numbers: FlatRecord) -> Record
     ensures { result ≡ asked numbers }
 {

@@ -10,6 +10,7 @@ ghost use Rattle.reading.specs.Code.Answers.{bit_read, number_read};
 use reading::{BitRead, Bits, Fault, NumberRead};
 
 // The first bit of the next data byte. A 255 must be followed by 0, which is skipped.
+#[tactic(auto, using(crate::proofs::Next::fresh_out, crate::proofs::Next::fresh_data, crate::proofs::Next::fresh_last, crate::proofs::Next::fresh_bare, crate::proofs::Next::fresh_full))]
 fn fresh(s: &[u8], at: usize) -> BitRead
     ensures { bit_read result ≡ fresh s.now at }
 {

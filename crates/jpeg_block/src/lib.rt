@@ -24,6 +24,7 @@ pub enum Asked {
 }
 
 // The first symbol is a category, the size of the difference. Behind the last place only the end code is no fault.
+#[tactic(auto, using(crate::proofs::Steps::ask_inside, crate::proofs::Steps::ask_outside), unfolding(crate::specs::Step::ask_at))]
 pub fn ask(place: usize, x: usize) -> Asked
     ensures { asked_for result ≡ ask_at place x }
 {

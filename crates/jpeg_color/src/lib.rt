@@ -49,6 +49,7 @@ fn short_at_least(short: i16) -> i16
     short
 }
 
+#[tactic(auto, using(crate::proofs::Clamps::high, crate::proofs::Clamps::not_high))]
 fn short_at_most(short: i16) -> i16
     ensures { result ≡ cond (lt_z (pos 255) short) (pos 255) short }
 {

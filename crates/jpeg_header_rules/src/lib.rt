@@ -79,6 +79,7 @@ pub fn low_halves(bytes: [usize; 4]) -> [usize; 4]
 
 // ---- quantizers
 
+#[tactic(auto, using(crate::proofs::Walks::all_on, crate::proofs::Walks::all_off, crate::proofs::Walks::all_end))]
 fn nonzero(bytes: &[u8]) -> bool
     ensures { result ≡ all (ltb 0) bytes.now }
 {
@@ -315,6 +316,7 @@ fn ids_apart(frame: Frame) -> bool
 
 // no zero side, sampling 1..4, quantizer ids 0..3, at most ten blocks in an MCU, component ids apart. A count of channels that no frame
 // has does not fit: its MCU has no block
+#[tactic(auto, using(crate::proofs::Rules::fits_wide, crate::proofs::Rules::fits_high, crate::proofs::Rules::fits_sampling, crate::proofs::Rules::fits_quants, crate::proofs::Sampled::read_no, crate::proofs::Sampled::read_blocks, crate::proofs::Sampled::read_ids))]
 pub fn frame_fits(body: &[u8]) -> bool
     ensures { result ≡ (within 1 4 (byte body.now 5) and frame_fits body.now (frame_of body.now)) }
 {

@@ -27,6 +27,7 @@ fn framed(frame: Frame, m: Mcu) -> bool
 }
 
 // Whether a frame can be drawn from so many samples into so many bytes.
+#[tactic(auto, using(crate::proofs::Fitting::framed_sized, crate::proofs::RowPlaces::pixels_most, crate::proofs::RowPlaces::bytes_most), unfolding(crate::specs::Rendered::fits))]
 fn fits(frame: Frame, m: Mcu, samples: usize, room: usize) -> bool
     requires { m ≡ measured frame }
     ensures { result ≡ fits frame samples room }

@@ -172,6 +172,7 @@ fn coloured_2(
 }
 
 // An MCU of the usual three channels in one row.
+#[tactic(auto, using(crate::proofs::Mcus::colour_fits, crate::proofs::Mcus::colour_three))]
 fn mcu_usual(
     samples: &[u8],
     luma: usize,

@@ -190,6 +190,7 @@ fn past_full(s: &[u8], at: usize) -> usize
 }
 
 // A marker: padding, any number of fill bytes, then 255 and a code.
+#[tactic(auto, using(crate::proofs::Marks::mark_bare, crate::proofs::Marks::mark_none, crate::proofs::Marks::mark_out, crate::proofs::Marks::mark_wrong, crate::proofs::Marks::mark_found))]
 fn marker(s: &[u8], b: Bits, code: usize) -> Mark
     ensures { looked result ≡ mark s.now code b }
 {

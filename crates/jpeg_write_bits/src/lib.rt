@@ -50,6 +50,7 @@ fn put_byte(out: &mut [u8], at: usize, x: u8) -> usize
 }
 
 // A data byte: 0 follows 255.
+#[tactic(auto, using(crate::proofs::Bytes::stuffed_full, crate::proofs::Bytes::stuffed_data))]
 fn put_data(out: &mut [u8], at: usize, x: u8) -> usize
     ensures { spot out.new result ≡ stuffed_at (spot out.old at) x }
 {

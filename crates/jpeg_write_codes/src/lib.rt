@@ -21,6 +21,7 @@ fn clear(words: &mut [u32])
 }
 
 // The word that a symbol has stays. A table that a header read lists no symbol twice; of any other the first code counts.
+#[tactic(auto, using(crate::proofs::Filled::kept_new, crate::proofs::Filled::kept_old, crate::proofs::Filled::kept_past))]
 fn keep(words: &mut [u32], x: usize, word: u32)
     ensures { words.new ≡ kept words.old x word }
 {

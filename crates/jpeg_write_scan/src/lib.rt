@@ -34,6 +34,7 @@ fn word_at(dc: &[u32], ac: &[u32], place: usize, x: usize) -> usize
 }
 
 // How many levels from a place on are zero, where those from `reach` on are known to be zero and need not be looked at.
+#[tactic(auto, using(crate::proofs::Quiets::zeros_quiet))]
 fn zeros_to(levels: &[i16], place: usize, reach: usize) -> usize
     requires { Quiet reach levels.now × (place ≤ length levels.now) }
     ensures { result ≡ zeros_at levels.now place }
