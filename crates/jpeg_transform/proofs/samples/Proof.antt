@@ -1,8 +1,9 @@
--- `jpeg_transform::samples` meets its contract: both ways leave the definition's samples in front of what stood behind them. Assumes
--- nothing.
+-- `jpeg_transform::samples` meets its contract: both ways leave the definition's samples in front of what stood behind them. What a test
+-- found is left to omega, so that nothing here goes by a test's text. Assumes nothing.
 use mathlib.Core.Path.{◌≡◌, refl, sym, ◌∙◌, ap, ap₂, subst⁻¹}
 use mathlib.Core.List.{List}
-use Prim.Native.Nat.{ℕ, ◌^◌}
+use Prim.Native.Nat.{ℕ, ◌^◌, ◌≤◌}
+use native.Mathlib.Omega.{arith}
 use borrow.Author.Rules.{rules, sfits_of}
 use lib.ListN.{length, take}
 use lib.IntN.{ℤ, pos, ◌*ℤ◌}
@@ -12,6 +13,7 @@ use mir.Facts.{to_z-of_z}
 use Rattle.whole.specs.Expressions.{at, Within, fits_abs}
 use Rattle.whole.specs.Lists.{list_of}
 use Rattle.reading.specs.Tests.{over}
+use Rattle.reading.specs.Code.Painted.{painted}
 use Rattle.reading.specs.Colour.{to_byte}
 use Rattle.reading.specs.Transform.{dequantized_at, coefficients, sample_of, samples}
 use Rattle.jpeg_transform.specs.Passes.{rows_of, columns_of}
@@ -32,17 +34,22 @@ one_level q l n z e h =
 back : (r : tie.After-coefficient) → to_z w64 (of_z w64 r.coefficient.result) ≡ r.coefficient.result
 back r = to_z-of_z {w = w64} (fits_abs r.coefficient.ensures.1 tt)
 
-returns_2 : tie.Need-returns-then-places-eq1
-returns_2 c =
-    let r = c.before.before.before.before in
-    let s = r.before.before.before.before.before.before.before in
-    let q = s.args.quantizer.now in
-    let l = s.args.levels.now in
-    c.flat.ensures
-    ∙ ap (λ xs. over xs s.args.out.now)
-    (one_level q l s.args.places (to_z w64 (of_z w64 r.coefficient.result)) r.if-places-eq1.true
+-- a block of which the first coefficient alone counts, as it is drawn
+one_drawn : (r : tie.After-coefficient) {new : List ℕ}
+    → (let s = r.args in
+    new ≡ over (list_of 64 (λ k. sample_of (to_z w64 (of_z w64 r.coefficient.result) *ℤ pos 134212225))) s.out.now
+    → s.places ≡ 1
+    → 64 ≤ length s.out.now
+    → new ≡ painted s.quantizer.now s.levels.now s.places s.out.now)
+one_drawn r e one long =
+    let s = r.args in
+    let q = s.quantizer.now in
+    let l = s.levels.now in
+    e
+    ∙ ap (λ xs. over xs s.out.now)
+    (one_level q l s.places (to_z w64 (of_z w64 r.coefficient.result)) one
     (back r ∙ r.coefficient.ensures.0 ∙ ap₂ (λ z n. z *ℤ pos n) (to_z-of_z {w = w16} {z = at l 0} (sfits_of r.coefficient-arg-1.given)) r.byte_at.ensures))
-    ∙ painted_long q l s.args.places s.args.out.now r.if-out-lt64.false
+    ∙ painted_long q l s.places s.out.now long
 
 -- ---- the two passes
 
@@ -68,22 +75,22 @@ returns_3 c =
     let s = d.before.before.before.before.before.before in
     c.clamp.ensures
     ∙ ap (λ xs. over xs s.args.out.now) (two_passes (coefficients s.args.quantizer.now (take s.args.places s.args.levels.now)) k.columns.ensures r.rows.ensures d.dequantize.ensures.0)
-    ∙ painted_long s.args.quantizer.now s.args.levels.now s.args.places s.args.out.now d.if-out-lt64.false
+    ∙ painted_long s.args.quantizer.now s.args.levels.now s.args.places s.args.out.now (omega arith)
 
 pub samples_spec : {M : Type 1} → statement M
 samples_spec =
     tie.close
     (tie.spec
-    (λ c. painted_short _ _ _ _ c.if-out-lt64.true)
+    (λ c. painted_short _ _ _ _ (omega arith))
     (λ c. search rules)
     (λ c κs. search rules)
     (λ c κs. search rules)
-    (λ c κs. (rw (back c.before) c.coefficient.ensures.1, c.if-out-lt64.false))
+    (λ c κs. (rw (back c.before) c.coefficient.ensures.1, omega arith))
     (λ c. search rules)
-    returns_2
+    (λ c. one_drawn c.before.before.before.before c.flat.ensures (omega arith) (omega arith))
     (λ c κs. search rules)
     rows_requires
     columns_requires
-    (λ c κs. c.if-out-lt64.false)
+    (λ c κs. omega arith)
     (λ c. search rules)
     returns_3)
