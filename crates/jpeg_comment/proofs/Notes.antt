@@ -5,9 +5,7 @@ use mathlib.Core.Bool.{Bool, true, false, cond}
 use mathlib.Core.List.{List}
 use native.Mathlib.Omega.{arith}
 use lib.Dec.{ltb}
-use lib.IntN.{ℤ}
 use lib.ListN.{length, take, drop}
-use Rattle.reading.specs.declared.Bits.{Bits}
 use Rattle.reading.specs.declared.Budget.{Budget}
 use Rattle.reading.specs.declared.Inspection.{Inspection}
 use Rattle.reading.specs.declared.Limits.{Limits}
@@ -15,7 +13,6 @@ use Rattle.reading.specs.declared.Presence.{Presence}
 use Rattle.reading.specs.declared.Break.{Break}
 use Rattle.reading.specs.declared.Head.{Head}
 use Rattle.reading.specs.declared.Part.{Part}
-use Rattle.reading.specs.declared.Record.{Record}
 use Rattle.reading.specs.declared.Refusal.{Refusal}
 use Rattle.reading.specs.declared.ScanRead.{ScanRead}
 use Rattle.reading.specs.declared.ScanRead.TheVariants.{Done, Stop}
@@ -27,7 +24,7 @@ use Rattle.reading.specs.Code.Answers.{scan_read}
 use Rattle.reading.specs.Header.{Stage, more, done, stop, header}
 use Rattle.reading.specs.Code.Heads.{headed}
 use Rattle.reading.specs.Scan.{levels}
-use Rattle.reading.specs.Code.Scans.{readable, scan_of}
+use Rattle.reading.specs.Code.Scans.{scan_of}
 use Rattle.reading.specs.Reading.{Reading, accepted, refused, scanned, read_from, reading}
 use Rattle.reading.specs.Comments.{comments, sought, part_of, part_in, comment_part, text_of, is_accepted, has_comment}
 use Rattle.reading.specs.Calls.{inspect}

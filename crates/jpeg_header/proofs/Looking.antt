@@ -1,5 +1,5 @@
 -- The loop that looks for a comment: what holds between two steps, and what each way out of a step says of the comment.
-use Prim.Native.Nat.{ℕ, zero, suc, ◌+◌, ◌*◌, ◌-◌, ◌<◌, ◌≤◌}
+use Prim.Native.Nat.{ℕ, zero, suc, ◌+◌, ◌*◌, ◌-◌, ◌<◌}
 use mathlib.Core.Path.{◌≡◌, refl, sym, ap, ◌∙◌, subst}
 use mathlib.Core.Bool.{Bool, true, false, not, cond}
 use mathlib.Core.List.{List, [], ◌∷◌, ◌++◌}
@@ -9,9 +9,7 @@ use lib.ListN.{length}
 use Rattle.reading.specs.declared.Refusal.{Refusal}
 use Rattle.reading.specs.declared.Refusal.TheVariants.{Malformed}
 use Rattle.reading.specs.declared.Header.{Header}
-use Rattle.reading.specs.declared.Record.{Record}
 use Rattle.reading.specs.declared.Part.{Part}
-use Rattle.reading.specs.declared.Sought.{Sought}
 use Rattle.reading.specs.declared.Sought.TheVariants.{Absent, There}
 use Rattle.reading.specs.Header.{Stage, more, done, stop, step, opens, opening}
 use Rattle.reading.specs.Comments.{text_at, at_comment, passed, comments_from, comments, sought}

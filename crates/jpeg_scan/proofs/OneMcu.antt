@@ -1,7 +1,7 @@
 -- The blocks of one MCU. Before its block j the levels of j blocks are read: put before what is still to be read they are what was to
 -- be read at the start, and each block's samples stand at its own part of the scratch. One block more keeps this (`further`), a fault is
 -- the scan's fault (`broken`), and behind the last block it is what the contract says (`whole`, `out`).
-use mathlib.Core.Path.{◌≡◌, refl, sym, ◌∙◌, ap, ap₂, subst⁻¹}
+use mathlib.Core.Path.{◌≡◌, refl, sym, ◌∙◌, ap, ap₂}
 use mathlib.Core.Bool.{Bool, true, false, cond}
 use mathlib.Core.List.{List, [], ◌∷◌, ◌++◌}
 use Prim.Native.Nat.{ℕ, ◌+◌, ◌*◌, ◌-◌, ◌/◌, ◌<◌, ◌≤◌, min}

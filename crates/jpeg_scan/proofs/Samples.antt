@@ -14,7 +14,6 @@ use Rattle.reading.specs.Code.Places.{places}
 use Rattle.reading.specs.Layout.{Shape, channel_of}
 use Rattle.reading.specs.Transform.{coefficients, samples}
 use Rattle.reading.specs.Code.Painted.{samples_to, painted}
-use Rattle.reading.specs.Scan as scan
 use Rattle.reading.proofs.Counted.{samples_from, samples_to_length, samples_from_length, samples_from_append}
 use Rattle.reading.proofs.Reach.{samples_enough}
 use Rattle.jpeg_scan.specs.Steps.{placed, inked}

@@ -1,5 +1,5 @@
 -- The numbers that are gathered from a record stand for the plan of the rules.
-use mathlib.Core.List.{List, [], ◌∷◌}
+use mathlib.Core.List.{List}
 use mathlib.Core.Path.{◌≡◌, refl, sym, ◌∙◌, ap, subst⁻¹}
 use mathlib.Core.Bool.{Bool, true, false, not, cond}
 use Prim.Native.Nat.{ℕ, zero, suc, ◌+◌, ◌-◌, ◌*◌, ◌/◌, ◌%◌, ◌^◌, ◌<◌, ◌≤◌}
@@ -11,8 +11,8 @@ use borrow.Author.Tests.{le-leb, lt-leb, lt-ltb, le-ltb, eqb-true, eqb-false}
 use Rattle.reading.specs.declared.Record.{Record}
 use Rattle.reading.specs.Tests.{◌and◌}
 use Rattle.reading.specs.Huffman.{table_at}
-use Rattle.reading.specs.Layout.{Factors, areas, per_mcu, channel_in}
-use Rattle.reading.specs.Tables.{factors_in, factors_from, shape_of, quant_at, dc_at, ac_at, quantizers_of}
+use Rattle.reading.specs.Layout.{areas, per_mcu, channel_in}
+use Rattle.reading.specs.Tables.{factors_from, shape_of, quant_at, dc_at, ac_at, quantizers_of}
 use Rattle.reading.specs.Scan.{plan_of, broke}
 use Rattle.reading.specs.Code.Mcus.{sampled, measured}
 use Rattle.reading.specs.Code.Scans.{nowhere, readable, scan_of}

@@ -3,7 +3,7 @@ use mathlib.Core.Path.{◌≡◌, refl, sym, ap, ap₂, ◌∙◌, subst, subst�
 use mathlib.Core.Bool.{Bool, true, false, cond}
 use mathlib.Core.List.{List, [], ◌∷◌, ◌++◌, append_assoc, append-nil}
 use mathlib.Core.Option.{Option, none, some}
-use Prim.Native.Nat.{ℕ, suc, ◌+◌, ◌*◌, ◌-◌, ◌^◌, ◌<◌, ◌≤◌}
+use Prim.Native.Nat.{ℕ, suc, ◌+◌, ◌-◌, ◌^◌, ◌<◌, ◌≤◌}
 use native.Mathlib.Omega.{arith}
 use borrow.Author.Tests.{lt-ltb, le-ltb, ltb-true, ltb-false, le-leb, lt-leb}
 use lib.Dec.{T, ltb, leb, leb→le}
@@ -19,7 +19,7 @@ use Rattle.reading.specs.declared.ScanSettled.{ScanSettled}
 use Rattle.reading.specs.declared.ScanSettled.TheVariants.{Done, Lacking, Stop}
 use Rattle.reading.specs.declared.Settling.{Settling}
 use Rattle.reading.specs.declared.Verdict.TheVariants.{Accepted, Refused}
-use Rattle.reading.specs.Tests.{◌and◌, over}
+use Rattle.reading.specs.Tests.{over}
 use Rattle.reading.specs.Scan.{Scanned, whole, broke}
 use Rattle.reading.specs.Scan.{levels, plan_of}
 use Rattle.reading.specs.Code.Scans.{nowhere, readable, scan_of, settled_read, settled_of, scan_settled, laid_over}

@@ -1,15 +1,14 @@
 -- What an accepted header says of its record: the rules of the frame hold of its numbers, its sizes follow from them and are small,
 -- and the tables of each channel stand before the first coded byte.
-use Prim.Native.Nat.{ℕ, zero, suc, ◌+◌, ◌*◌, ◌-◌, ◌^◌, ◌<◌, ◌≤◌, zero-le}
+use Prim.Native.Nat.{ℕ, zero, suc, ◌+◌, ◌*◌, ◌^◌, ◌<◌, ◌≤◌, zero-le}
 use mathlib.Core.Path.{◌≡◌, refl, ap, subst, subst⁻¹}
 use mathlib.Core.Bool.{Bool, true, false, not, cond}
-use mathlib.Core.Logic.{◌⊎◌, inl, inr, ⊎_elim}
 use mathlib.Core.List.{List}
 use native.Mathlib.Omega.{arith}
 use native.Mathlib.Nat.{not-suc-le-zero, mul-le-mul, div-lt_iff_lt-mul}
-use lib.Dec.{T, leb, ltb, eqb, lit<, lit≤, leb→le, ltb→lt, eqb→eq}
+use lib.Dec.{T, leb, ltb, eqb, lit<, leb→le, ltb→lt}
 use lib.ListN.{length, get_or, take}
-use borrow.Author.Tests.{ltb-true, ltb-false, le-ltb, eq-eqb, ne_eqb}
+use borrow.Author.Tests.{ltb-true, ltb-false, le-ltb}
 use Rattle.reading.specs.declared.Refusal.{Refusal}
 use Rattle.reading.specs.declared.Refusal.TheVariants.{CutShort, Malformed, Unsupported}
 use Rattle.reading.specs.declared.Case.{Case}
@@ -19,7 +18,7 @@ use Rattle.reading.specs.declared.Kind.TheVariants.{Quants, Tables, Frames, Scan
 use Rattle.reading.specs.declared.Frame.{Frame}
 use Rattle.reading.specs.declared.Header.{Header}
 use Rattle.reading.specs.declared.Record.{Record}
-use Rattle.reading.specs.Tests.{◌and◌, ◌or◌, within, apart}
+use Rattle.reading.specs.Tests.{◌and◌, ◌or◌, apart}
 use Rattle.reading.specs.Layout.{Shape, areas, widest, highest, ceiling, mcus_across, mcus_down, per_mcu, block_count, output_length, work_of}
 use Rattle.reading.specs.Tables.{shape_of}
 use Rattle.reading.specs.Header.{Stage, more, done, stop, byte, word, moved, window, each_from, each, with_quantizer, with_table, frame_known, across_of, down_of, counted, sampling_fits, quants_fit, frame_of, frame_fits}
@@ -28,7 +27,7 @@ use Rattle.reading.proofs.Plain.{and_left, and_right}
 use Rattle.reading.proofs.Stages.{stop_or, chosen_or, steps_hold}
 use Rattle.reading.proofs.HeaderEnds.{is_so}
 use Rattle.reading.proofs.Sampling.{channels_are, wide_least, high_least, frame_sampling}
-use Rattle.reading.proofs.Fits.{within_known, all_at}
+use Rattle.reading.proofs.Fits.{all_at}
 use Rattle.reading.proofs.FileBytes.{AllBytes, byte_below, word_below, window_bytes}
 use Rattle.reading.proofs.Frames.{FrameOk, Shaped}
 

@@ -14,11 +14,10 @@ use Rattle.reading.specs.declared.Case.TheVariants.{Marker, Quantizers, Huffman}
 use Rattle.reading.specs.declared.Kind.{Kind}
 use Rattle.reading.specs.declared.Kind.TheVariants.{Quants, Tables, Frames, Scans, Intervals, Skips, Others}
 use Rattle.reading.specs.declared.Header.{Header}
-use Rattle.reading.specs.declared.Record.{Record}
 use Rattle.reading.specs.Tests.{◌or◌}
 use Rattle.reading.specs.Header.{Stage, more, done, stop, stop_if, byte, word, window, moved, frame, scan_segment, kind_of, segment, segment_end, marker, step_in, step, steps, opens, opening, started, header}
 use Rattle.reading.specs.Scan.{Scanned, whole, broke, levels}
-use Rattle.reading.specs.Reading.{Reading, accepted, refused, reading, read_from, scanned}
+use Rattle.reading.specs.Reading.{reading, read_from, scanned}
 pub use Rattle.reading.specs.Words.{recolour, reread}
 
 abbrev pub restage : Bool → Stage → Stage

@@ -23,7 +23,7 @@ use Rattle.reading.specs.declared.Refusal.{Refusal}
 use Rattle.reading.specs.declared.Refusal.TheVariants.{OverBudget, ShortRoom, NotItsRecord}
 use Rattle.reading.specs.declared.Verdict.{Verdict}
 use Rattle.reading.specs.declared.Verdict.TheVariants.{Accepted, Refused}
-use Rattle.reading.specs.Tests.{◌or◌, over}
+use Rattle.reading.specs.Tests.{over}
 use Rattle.reading.specs.Layout.{Shape, channels_in, output_length}
 use Rattle.reading.specs.Tables.{shape_of}
 use Rattle.reading.specs.Reading.{Reading, accepted, refused, reading, samples_of, pixel, picture, picture_of}

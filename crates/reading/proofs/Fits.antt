@@ -2,9 +2,9 @@
 use Prim.Native.Nat.{ℕ, ◌+◌, ◌/◌, ◌%◌, ◌≤◌}
 use mathlib.Core.Path.{◌≡◌, subst⁻¹}
 use mathlib.Core.Bool.{Bool, true}
-use mathlib.Core.List.{List, [], ◌∷◌}
+use mathlib.Core.List.{List}
 use lib.Dec.{T, leb, eqb, leb→le, eqb→eq}
-use lib.ListN.{length, get_or}
+use lib.ListN.{length}
 use Rattle.reading.specs.Tests.{within, apart, all}
 use Rattle.reading.specs.Huffman.{sum, codes_fit}
 use Rattle.reading.specs.Header.{byte, quantizer_fits, counts_of, symbols_of, listable, table_fits, scan_known}

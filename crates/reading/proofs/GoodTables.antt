@@ -1,17 +1,17 @@
 -- The tables of an accepted record stand before the first coded byte, their codes fit, and they list what a block takes, each symbol once.
 use Prim.Native.Nat.{ℕ, zero, suc, ◌+◌, ◌*◌, ◌-◌, ◌/◌, ◌%◌, ◌<◌, ◌≤◌, zero-le, min}
 use mathlib.Core.Path.{◌≡◌, refl, sym, ap, ap₂, ◌∙◌, subst, subst⁻¹}
-use mathlib.Core.Bool.{Bool, true, false, not, cond}
+use mathlib.Core.Bool.{Bool, true, false, not}
 use mathlib.Core.List.{List, [], ◌∷◌}
 use native.Mathlib.Omega.{arith}
-use native.Mathlib.Nat.{not-suc-le-zero, le_trans, mul-pos}
+use native.Mathlib.Nat.{not-suc-le-zero, le_trans}
 use native.Mathlib.Numerals.{add-one}
 use Rattle.reading.specs.Layout.{block_count, channel_of}
 use Rattle.reading.proofs.Sampling.{Sampling, channel_in_lem, channels_are, per_some, frame_sampling}
 use Rattle.reading.specs.Scan.{plan_of}
 use Rattle.reading.specs.Tables.{shape_of, quant_at, dc_at, ac_at}
 use Rattle.reading.proofs.ScanWritten.{GoodPlan}
-use lib.Dec.{T, eqb, ltb, leb, eqb→eq, leb→le, ltb→lt, lit<}
+use lib.Dec.{T, eqb, ltb, leb, eqb→eq, leb→le, ltb→lt}
 use lib.ListN.{length, take, drop, get_or, set, replicate, length-take, length-drop}
 use lib.Seq.{drop-drop}
 use Rattle.reading.specs.declared.Refusal.{Refusal}
@@ -22,12 +22,12 @@ use Rattle.reading.specs.declared.Kind.{Kind}
 use Rattle.reading.specs.declared.Kind.TheVariants.{Quants, Tables, Frames, Scans, Intervals, Skips, Others}
 use Rattle.reading.specs.declared.Header.{Header}
 use Rattle.reading.specs.declared.Record.{Record}
-use Rattle.reading.specs.Tests.{◌and◌, ◌or◌, within, apart, all}
+use Rattle.reading.specs.Tests.{◌and◌, ◌or◌, apart, all}
 use Rattle.reading.specs.Huffman.{table_at, sum, codes_fit}
-use Rattle.reading.specs.Header.{Stage, more, done, stop, byte, word, moved, window, quantizer_fits, with_quantizer, counts_of, symbols_of, listable, put, table_fits, with_table, frame, frame_of, frame_known, frame_fits}
+use Rattle.reading.specs.Header.{Stage, more, done, stop, byte, word, moved, window, quantizer_fits, with_quantizer, counts_of, symbols_of, listable, put, table_fits, with_table, frame_of, frame_known, frame_fits}
 use Rattle.reading.specs.Header.{with_frame, with_interval, record_of, complete, has_frame, kind_of, segment, segment_end, marker, step_in, step, opens, started, opening, header}
 use Rattle.reading.proofs.Plain.{and_left, and_right, Good}
-use Rattle.reading.proofs.Fits.{within_known, TableKnown, table_known, all_at}
+use Rattle.reading.proofs.Fits.{TableKnown, table_known, all_at}
 use Rattle.reading.proofs.HeaderEnds.{is_so, segment_room, window_short, header_within}
 use Rattle.reading.proofs.HeaderPrefix.{take_drop_take}
 use Rattle.reading.proofs.Stages.{stop_or, chosen_or, steps_hold}

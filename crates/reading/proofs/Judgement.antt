@@ -25,12 +25,11 @@ use Rattle.reading.specs.declared.Refusal.{Refusal}
 use Rattle.reading.specs.declared.Refusal.TheVariants.{TooLong, OverBudget, CutShort, TooLarge, WorkOverBudget, Scan}
 use Rattle.reading.specs.declared.Verdict.{Verdict}
 use Rattle.reading.specs.declared.Verdict.TheVariants.{Accepted, Refused}
-use Rattle.reading.specs.Tests.{◌or◌}
 use Rattle.reading.specs.Header.{Stage, more, done, stop, header, ending}
 use Rattle.reading.specs.Code.Heads.{headed}
 use Rattle.reading.specs.Scan.{Scanned, whole, broke, levels}
 use Rattle.reading.specs.Reading.{accepted, reading}
-use Rattle.reading.specs.Judging.{Judged, accepts, refuses, Judging, onward, ◌>>◌, give, refuse, refuse_if, pay, remaining, unbroken}
+use Rattle.reading.specs.Judging.{Judged, accepts, refuses, Judging, onward, give, refuse, refuse_if, pay, remaining, unbroken}
 use Rattle.reading.specs.Calls.{header_price, too_long, too_large, weighing, admission, ReadFile, judgement, inspection, inspect}
 use Rattle.reading.specs.Words.{Begun, Within, Enough, ReadsAs}
 use Rattle.reading.proofs.HeaderEnds.{or_left, or_right}

@@ -1,11 +1,10 @@
 -- Laws of the MCUs of a side: for a frame's numbers they are the rules' own.
 use mathlib.Core.Path.{◌≡◌, refl, sym, ◌∙◌, subst⁻¹}
 use mathlib.Core.Bool.{Bool, true, false, not}
-use Prim.Native.Nat.{ℕ, ◌+◌, ◌*◌, ◌-◌, ◌<◌, ◌≤◌}
-use native.Mathlib.Nat.{mul-le-mul}
+use Prim.Native.Nat.{ℕ, ◌*◌, ◌<◌, ◌≤◌}
 use borrow.Author.Tests.{le-leb, lt-leb, not-true, not-false}
-use lib.Dec.{T, leb}
-use Rattle.reading.specs.Tests.{◌and◌, within}
+use lib.Dec.{T}
+use Rattle.reading.specs.Tests.{within}
 use Rattle.reading.specs.Layout.{ceiling}
 use Rattle.reading.specs.Code.Mcus.{mcus_of}
 use Rattle.reading.proofs.Fits.{within_known}

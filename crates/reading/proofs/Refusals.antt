@@ -1,15 +1,14 @@
 -- By which rule inspect refuses, exactly: `inspect_refuses` has for each refusal what was passed before it and what failed. So no answer depends on
 -- the colour choice (`verdict_alike`).
-use Prim.Native.Nat.{ℕ, ◌+◌, ◌^◌, ◌<◌, ◌≤◌}
+use Prim.Native.Nat.{ℕ, ◌^◌, ◌<◌, ◌≤◌}
 use mathlib.Core.Path.{◌≡◌, refl, sym, ap, ◌∙◌, subst, subst⁻¹}
 use mathlib.Core.Bool.{Bool, true, false}
 use mathlib.Core.List.{List}
-use mathlib.Core.Logic.{◌⊎◌, inl, inr, ◌↔◌}
-use mathlib.Core.Option.{Option, none, some}
+use mathlib.Core.Logic.{inl, inr, ◌↔◌}
 use native.Mathlib.Omega.{arith}
 use lib.Dec.{T, leb, ltb}
 use lib.ListN.{length, take, length-take}
-use borrow.Author.Tests.{lt-ltb, le-ltb, le-leb, ltb-true, ltb-false, leb-true}
+use borrow.Author.Tests.{lt-ltb, le-leb, ltb-true, leb-true}
 use Rattle.reading.specs.declared.Budget.{Budget}
 use Rattle.reading.specs.declared.Break.{Break}
 use Rattle.reading.specs.declared.Inspection.{Inspection}
@@ -24,12 +23,12 @@ use Rattle.reading.specs.Header.{Stage, more, done, stop, header}
 use Rattle.reading.specs.Code.Heads.{headed}
 use Rattle.reading.specs.Scan.{broke, levels}
 use Rattle.reading.specs.Judging.{Judged, accepts, refuses, onward, give, unbroken}
-use Rattle.reading.specs.Calls.{header_price, too_long, too_large, admission, ReadFile, judgement, inspect}
+use Rattle.reading.specs.Calls.{header_price, too_long, too_large, ReadFile, judgement, inspect}
 use Rattle.reading.specs.Words.{Not, Long, Begun, Within, Enough, InspectRefuses, cut_at}
 use Rattle.reading.proofs.Choice.{recolour, restage, reread, header_choice, reading_choice}
 use Rattle.reading.proofs.HeaderEnds.{finished, header_ends}
 use Rattle.reading.proofs.HeaderNumbers.{OfHeader, cut_short, malformed, unsupported, header_number}
-use Rattle.reading.proofs.Judgement.{not_large, small_enough, Way, long, poor, headless, large, poor_for_work, admitted, way, way_back, admits}
+use Rattle.reading.proofs.Judgement.{not_large, small_enough, Way, long, poor, headless, large, poor_for_work, admitted, way_back, admits}
 use Rattle.reading.proofs.Judgement.{Judges, stopped, broken, through, judged, behind_work, scan_behind, found_in, inspects, Inspected, inspect_accepted}
 use Rattle.reading.proofs.CutFiles.{cut_header, cut_levels}
 

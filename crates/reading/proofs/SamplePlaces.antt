@@ -5,10 +5,10 @@ use Prim.Native.Nat.{ℕ, zero, suc, ◌+◌, ◌*◌, ◌-◌, ◌/◌, ◌%◌
 use mathlib.Core.Path.{◌≡◌, refl, ap, ap₂, ◌∙◌}
 use native.Mathlib.Omega.{arith}
 use native.Mathlib.Nat.{dvd-mul_right, mod-lt, mod-mod_of_dvd, mul-div_cancel, mul-one, div-add-mod', div-lt_iff_lt-mul, mul-le-mul_right, not-suc-le-zero}
-use mathlib.Core.List.{List, [], ◌∷◌}
+use mathlib.Core.List.{List, ◌∷◌}
 use lib.ListN.{get_or, take, replicate}
 use Rattle.reading.specs.declared.Frame.{Frame}
-use Rattle.reading.specs.Tables.{factors_in, factors_from, shape_of}
+use Rattle.reading.specs.Tables.{factors_from, shape_of}
 use Rattle.reading.specs.Words.{Sampled, OldLayout}
 use Rattle.reading.specs.Layout.{Shape, Factors, one_by_one, factors_of, ceiling, areas, per_mcu, block_count, factors_at, before, scaled, sample_at}
 use Rattle.reading.proofs.Places.{shape, per_is, widest_is, highest_is, count_is}

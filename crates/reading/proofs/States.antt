@@ -12,7 +12,6 @@ use borrow.Author.Tests.{le-leb}
 use Rattle.reading.specs.declared.Refusal.TheVariants.{Malformed}
 use Rattle.reading.specs.declared.Header.{Header}
 use Rattle.reading.specs.declared.Record.{Record}
-use Rattle.reading.specs.Tests.{within}
 use Rattle.reading.specs.Code.Scans.{readable}
 use Rattle.reading.specs.Header.{Stage, more, done, stop, step, steps, opens, started, opening, header}
 use Rattle.reading.proofs.Sampling.{sampled_so}

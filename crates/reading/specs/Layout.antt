@@ -1,7 +1,7 @@
 -- MCUs, blocks, restarts, and where each sample stands, stated over the sampling factors of each channel. The layout that pictures had
 -- before each channel could have factors of its own, hs x vs and then 1 x 1 (`factors_of`), is an instance: proofs/Places and
 -- proofs/SamplePlaces say what it is.
-use Rattle.std.specs.Prelude.{ℕ, zero, suc, ◌+◌, ◌*◌, ◌-◌, ◌/◌, ◌%◌, max, Bool, cond, List, [], ◌∷◌, ltb, eqb, replicate, length, get_or, take}
+use Rattle.std.specs.Prelude.{ℕ, suc, ◌+◌, ◌*◌, ◌-◌, ◌/◌, ◌%◌, max, Bool, cond, List, [], ◌∷◌, ltb, eqb, replicate, length, get_or, take}
 use Rattle.reading.specs.Tests.{◌and◌}
 
 -- how many blocks of a channel stand side by side in an MCU, and how many one below the other

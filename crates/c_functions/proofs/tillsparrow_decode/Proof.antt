@@ -1,4 +1,4 @@
-use mathlib.Core.Path.{refl, ap, ◌∙◌}
+use mathlib.Core.Path.{ap, ◌∙◌}
 use native.Mathlib.Omega.{arith}
 use Rattle.reading.proofs.FileBytes.{all_bytes}
 use Rattle.c_functions.specs.Flat.{decoded}

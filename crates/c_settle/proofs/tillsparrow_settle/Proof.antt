@@ -1,4 +1,4 @@
-use mathlib.Core.Path.{refl, ap}
+use mathlib.Core.Path.{ap}
 use Rattle.c_settle.specs.Flat.{settled}
 use borrow.Author.Rules.{rules}
 use Rattle.c_settle.proofs.tillsparrow_settle.Statement.{statement}

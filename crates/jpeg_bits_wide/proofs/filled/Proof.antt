@@ -1,5 +1,5 @@
 -- `filled`: before each byte, those still to come fill the cursor as all of them do (`Filling`).
-use Rattle.std.proofs.Common.{◌≡◌, ℕ, ◌-◌, ◌<◌, List, get_or, sym, ap, ◌∙◌, ⊎_elim, arith, shl_exact, rules}
+use Rattle.std.proofs.Common.{◌≡◌, ℕ, ◌-◌, ◌<◌, List, get_or, sym, ap, ◌∙◌, arith, shl_exact, rules}
 use Rattle.jpeg_bits_wide.specs.declared.Wide.{Wide}
 use Rattle.jpeg_bits_wide.specs.Cursor.{joined, byte_more}
 use Rattle.jpeg_bits_wide.proofs.Filling.{more_full, more_out, more_data, more_last, more_bare, more_stuffed, cursor, Filling, filling_begun, filling_over, filling_on}

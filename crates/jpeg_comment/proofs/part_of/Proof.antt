@@ -1,4 +1,4 @@
-use mathlib.Core.Path.{refl, sym, ap}
+use mathlib.Core.Path.{sym, ap}
 use Rattle.reading.specs.Comments.{part_of}
 use borrow.Author.Rules.{rules}
 use Rattle.jpeg_comment.proofs.part_of.Statement.{statement}

@@ -1,7 +1,4 @@
-use native.Mathlib.Omega.{arith}
 use mathlib.Core.Path.{refl}
-use lib.Dec.{eqb}
-use Rattle.reading.specs.Comments.{at_comment}
 use borrow.Author.Rules.{rules}
 use Rattle.jpeg_header.proofs.at_comment.Statement.{statement}
 use Rattle.jpeg_header.proofs.at_comment.Tie as tie

@@ -1,6 +1,5 @@
-use mathlib.Core.Path.{◌≡◌, sym, ap, ◌∙◌, subst, subst⁻¹}
-use mathlib.Core.Bool.{true, false}
-use mathlib.Core.Logic.{⊎_elim}
+use mathlib.Core.Path.{◌≡◌, sym, ap, ◌∙◌, subst⁻¹}
+use mathlib.Core.Bool.{false}
 use native.Mathlib.Omega.{arith}
 use lib.ListN.{length}
 use borrow.Author.Tests.{not-true, not-false}
@@ -11,7 +10,6 @@ use Rattle.reading.proofs.Comments.{comment_room}
 use Rattle.reading.proofs.FileBytes.{AllBytes, all_bytes}
 use Rattle.jpeg_header.proofs.Run.{run_down, run_inside}
 use Rattle.jpeg_header.proofs.Looking.{Looking, look_on, look_past, look_found, look_none, look_start, look_closed, goes_more, goes_not}
-use borrow.Author.Rules.{rules}
 use Rattle.jpeg_header.proofs.comment.Statement.{statement}
 use Rattle.jpeg_header.proofs.comment.Lts.{then-at_comment+else-before-eq0, else-at_comment}
 use Rattle.jpeg_header.proofs.comment.Tie as tie

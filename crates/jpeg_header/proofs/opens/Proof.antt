@@ -1,5 +1,3 @@
-use native.Mathlib.Omega.{arith}
-use borrow.Author.Tests.{eq-eqb}
 use Rattle.jpeg_header.proofs.Run.{opens_short, opens_first, opens_told}
 use mathlib.Core.Path.{sym}
 use borrow.Author.Rules.{rules}

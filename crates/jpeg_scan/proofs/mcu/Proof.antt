@@ -2,7 +2,7 @@
 use borrow.Author.Rules.{rules}
 use mathlib.Core.Path.{◌≡◌, sym, ◌∙◌, ap}
 use mathlib.Core.List.{List}
-use Prim.Native.Nat.{◌-◌, ◌^◌, ◌<◌, ℕ, ◌+◌, ◌/◌, ◌%◌}
+use Prim.Native.Nat.{◌-◌, ◌^◌, ◌<◌, ℕ, ◌/◌, ◌%◌}
 use native.Mathlib.Omega.{arith}
 use lib.ListN.{get_or}
 use lib.Seq.{length-take-le}
@@ -15,7 +15,7 @@ use Rattle.reading.specs.Reader.{Read}
 use Rattle.reading.specs.Code.Answers.{said, levels_of}
 use Rattle.jpeg_scan_plan.proofs.Standing.{later_digit, first_digit}
 use Rattle.jpeg_scan.proofs.Onward.{block_by}
-use Rattle.jpeg_scan.proofs.OneMcu.{head, Walk, begin, below, whole, out, broken, further}
+use Rattle.jpeg_scan.proofs.OneMcu.{head, Walk, begin, whole, out, broken, further}
 use Rattle.jpeg_scan.proofs.mcu.Statement.{statement}
 use Rattle.jpeg_scan.proofs.mcu.Tie as tie
 

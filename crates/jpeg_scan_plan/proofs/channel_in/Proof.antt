@@ -1,16 +1,12 @@
 -- `channel_in`: what is left of the place behind the channels that were passed.
-use mathlib.Core.Path.{◌≡◌}
-use Prim.Native.Nat.{ℕ, ◌*◌, ◌-◌, ◌≤◌}
+use Prim.Native.Nat.{◌*◌, ◌-◌, ◌≤◌}
 use native.Mathlib.Omega.{arith}
 use native.Mathlib.Nat.{mul-le-mul}
 use lib.ListN.{get_or}
-use borrow.Author.Rules.{rules}
 use Rattle.reading.proofs.Sampling.{Sampling, sampled_says}
 use Rattle.jpeg_scan_plan.proofs.Standing.{Passing, passing_begin, passing_here, passing_on, passing_out}
 use Rattle.jpeg_scan_plan.proofs.channel_in.Statement.{statement}
 use Rattle.jpeg_scan_plan.proofs.channel_in.Tie as tie
-use Rattle.jpeg_scan_plan.proofs.channel_in.Reads as reads
-use Rattle.jpeg_scan_plan.proofs.channel_in.Lts as lts
 
 abbrev invariant_loop : tie.invariant-loop-c
 invariant_loop j channels across down left₀ c₀ left c = (c ≤ channels) × Passing channels across down j left c

@@ -3,9 +3,6 @@ use borrow.Author.Rules.{rules}
 use borrow.Author.Rules.{rules}
 use Rattle.jpeg_scan_plan.proofs.chosen.Statement.{statement}
 use Rattle.jpeg_scan_plan.proofs.chosen.Tie as tie
-use Rattle.jpeg_scan_plan.proofs.chosen.Reads as reads
-use Rattle.jpeg_scan_plan.proofs.chosen.Lts as lts
-use Rattle.reading.proofs.entry_at.Reads as entry-at-reads
 
 slice_aggregate_entry_at : tie.Need-slice_bounds-entry_at-end
 slice_aggregate_entry_at c = search rules

@@ -3,16 +3,12 @@ use mathlib.Core.Path.{◌≡◌, refl, sym, ◌∙◌, ap, ap₂}
 use Prim.Native.Nat.{ℕ, suc, ◌+◌, ◌*◌, ◌-◌, ◌%◌, ◌^◌, ◌<◌, ◌≤◌}
 use native.Mathlib.Omega.{arith}
 use native.Mathlib.Nat.{pow-le-pow_right}
-use borrow.Author.Rules.{rules}
 use Rattle.reading.specs.Layout.{channel_in}
 use Rattle.reading.specs.Tables.{shape_of}
 use Rattle.jpeg_scan_plan.specs.Plans.{digits}
 use Rattle.jpeg_scan_plan.proofs.Standing.{digits_below}
 use Rattle.jpeg_scan_plan.proofs.order.Statement.{statement}
 use Rattle.jpeg_scan_plan.proofs.order.Tie as tie
-use Rattle.jpeg_scan_plan.proofs.order.Reads as reads
-use Rattle.jpeg_scan_plan.proofs.order.Lts as lts
-use Rattle.jpeg_scan_plan.proofs.channel_in.Reads as channel-in-reads
 
 abbrev invariant_loop : tie.invariant-loop-j
 invariant_loop frame list₀ j₀ list j = (j ≤ 10) × (list ≡ digits (channel_in (shape_of frame).factors) j (10 - j))

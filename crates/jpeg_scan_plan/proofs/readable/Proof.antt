@@ -1,18 +1,11 @@
 -- `readable`: the first coded byte lies within the file, and the sampling is one that a frame can have.
-use mathlib.Core.Path.{◌≡◌, sym, ◌∙◌, ap}
-use mathlib.Core.Bool.{Bool, true, false, not}
-use Prim.Native.Nat.{ℕ}
-use lib.Dec.{eqb}
+use mathlib.Core.Path.{ap}
 use borrow.Author.Rules.{rules}
-use borrow.Author.Tests.{eqb-true, eqb-false}
 use Rattle.reading.specs.declared.Mcu.{Mcu}
 use Rattle.jpeg_scan_plan.proofs.Standing.{unreadable_long, readable_is}
 use borrow.Author.Rules.{rules}
 use Rattle.jpeg_scan_plan.proofs.readable.Statement.{statement}
 use Rattle.jpeg_scan_plan.proofs.readable.Tie as tie
-use Rattle.jpeg_scan_plan.proofs.readable.Reads as reads
-use Rattle.jpeg_scan_plan.proofs.readable.Lts as lts
-use Rattle.reading.proofs.Mcu.of.Reads as of-reads
 
 returns : tie.Need-returns-then-s-found
 returns c = unreadable_long _ _ c.if-s-found.true

@@ -1,5 +1,5 @@
 -- `mcu`: at each turn what is still to come is what was to come at the start (McuPassed).
-use Prim.Native.Nat.{ℕ, ◌-◌, ◌^◌, ◌<◌, ◌+◌, ◌/◌, ◌%◌}
+use Prim.Native.Nat.{ℕ, ◌-◌, ◌^◌, ◌<◌, ◌/◌, ◌%◌}
 use mathlib.Core.Path.{◌≡◌, sym, ◌∙◌, ap, subst}
 use mathlib.Core.List.{List}
 use native.Mathlib.Omega.{arith}
@@ -16,7 +16,7 @@ use Rattle.reading.specs.Code.Answers.{said, levels_of}
 use Rattle.reading.specs.Settled.{onto}
 use Rattle.jpeg_scan_plan.proofs.Standing.{later_digit, first_digit}
 use Rattle.jpeg_scan.proofs.Onward.{block_by}
-use Rattle.jpeg_scan.proofs.OneMcu.{head, below}
+use Rattle.jpeg_scan.proofs.OneMcu.{head}
 use Rattle.jpeg_write_bits.specs.declared.Outcome.{Outcome}
 use Rattle.jpeg_write_scan.specs.Pass.{Moves}
 use Rattle.jpeg_write_scan.proofs.Quiets.{quiet_block}

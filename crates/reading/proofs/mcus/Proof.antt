@@ -1,6 +1,5 @@
 -- `mcus`: behind its two tests the ceiling fits, and the divisor is not 0.
-use mathlib.Core.Path.{◌≡◌}
-use Prim.Native.Nat.{ℕ, ◌<◌, ◌≤◌}
+use Prim.Native.Nat.{◌≤◌}
 use native.Mathlib.Omega.{arith}
 use Rattle.reading.proofs.McuCounts.{within_both, within_not, mcus_are, mcus_long, mcus_none}
 use borrow.Author.Rules.{rules}

@@ -1,5 +1,5 @@
 -- `Plan::of`: a readable record has sampling by which the order of an MCU's blocks can be told.
-use mathlib.Core.Path.{◌≡◌, sym, ◌∙◌, ap}
+use mathlib.Core.Path.{sym, ◌∙◌, ap}
 use borrow.Author.Tests.{not-true, not-false}
 use Rattle.reading.specs.declared.Mcu.{Mcu}
 use Rattle.reading.proofs.Sampling.{measured_is}
@@ -8,13 +8,6 @@ use Rattle.jpeg_scan_plan.proofs.Standing.{Readable, readable_says}
 use borrow.Author.Rules.{rules}
 use Rattle.jpeg_scan_plan.proofs.Plan.of.Statement.{statement}
 use Rattle.jpeg_scan_plan.proofs.Plan.of.Tie as tie
-use Rattle.jpeg_scan_plan.proofs.Plan.of.Reads as reads
-use Rattle.jpeg_scan_plan.proofs.Plan.of.Lts as lts
-use Rattle.jpeg_scan_plan.proofs.Plan.none.Reads as none_reads
-use Rattle.jpeg_scan_plan.proofs.chosen.Reads as chosen-reads
-use Rattle.jpeg_scan_plan.proofs.order.Reads as order-reads
-use Rattle.jpeg_scan_plan.proofs.readable.Reads as readable-reads
-use Rattle.reading.proofs.Mcu.of.Reads as of-reads
 
 fit : (c : tie.Else-not-readable) → Readable c.args.s.now c.args.found
 fit c = readable_says _ _ (sym c.readable.ensures ∙ not-false _ c.if-not-readable.false-raw)

@@ -11,11 +11,6 @@ use Rattle.reading.proofs.McuCounts.{within_is, within_not, within_both}
 use Rattle.reading.proofs.Sampling.{Walk, walk_begin, walk_unfit, walk_on, walk_done, measured_count, measured_unfit, measured_many, measured_so}
 use Rattle.reading.proofs.Mcu.of.Statement.{statement}
 use Rattle.reading.proofs.Mcu.of.Tie as tie
-use Rattle.reading.proofs.Mcu.of.Reads as reads
-use Rattle.reading.proofs.Mcu.of.Lts as lts
-use Rattle.reading.proofs.Mcu.none.Reads as none_reads
-use Rattle.reading.proofs.larger.Reads as larger-reads
-use Rattle.reading.proofs.within.Reads as within-reads
 
 no_first : (a b : Bool) → a ≡ false → a and b ≡ false
 no_first a b e = rw e refl
