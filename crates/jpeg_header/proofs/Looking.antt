@@ -1,6 +1,6 @@
 -- The loop that looks for a comment: what holds between two steps, and what each way out of a step says of the comment.
 use Prim.Native.Nat.{ℕ, zero, suc, ◌+◌, ◌*◌, ◌-◌, ◌<◌}
-use mathlib.Core.Path.{◌≡◌, refl, sym, ap, ◌∙◌, subst}
+use mathlib.Core.Path.{◌≡◌, refl, sym, ap, ◌∙◌, subst, subst⁻¹}
 use mathlib.Core.Bool.{Bool, true, false, not, cond}
 use mathlib.Core.List.{List, [], ◌∷◌, ◌++◌}
 use native.Mathlib.Omega.{arith}
@@ -107,8 +107,13 @@ module _ (s : List ℕ) (i : ℕ) where
     pub look_past : at ≡ true → (n ≡ 0 → ⊥) → Looking g (n - 1)
     look_past a z = goes (n - 1) (sought_later _ at here a n z)
 
-    pub look_found : at ≡ true → n ≡ 0 → There here ≡ sought (comments s) i
-    look_found a z = sym (on ∙ sought_first _ at here a n z)
+    -- behind the step m of the comments are still to be gone over
+    pub look_onward : (m : ℕ) → m ≡ cond at (n - 1) n → (at ≡ true → n ≡ 0 → ⊥) → Looking g m
+    look_onward m w z = go at refl
+      where
+        go : (t : Bool) → at ≡ t → Looking g m
+        go true a = subst⁻¹ (Looking g) (w ∙ ap (λ b. cond b (n - 1) n) a) (look_past a (z a))
+        go false a = subst⁻¹ (Looking g) (w ∙ ap (λ b. cond b (n - 1) n) a) (look_on a)
 
   -- the step did not go on
   pub look_none : (h : Header) (n : ℕ) → Looking h n → ((g : Header) → more g ≡ step s false h → ⊥) → Absent ≡ sought (comments s) i
@@ -152,3 +157,11 @@ module _ {r : Stepped} {st : Stage} (e : r ≡ stepped st) where
       go More q t = subst (λ b. cond b Unit ⊥) t tt
       go Done q t = subst going (w ∙ sym (stage_done e q)) tt
       go (Stop x) q t = subst going (w ∙ sym (stage_stop e x q)) tt
+
+-- where the step goes on over a comment, and none is to be gone over before it, that comment is the one
+pub sought_here : (s : List ℕ) (fuel n : ℕ) (h : Header) → left (length s) h < fuel → goes_on (stepped (step s false h)).progress ≡ true
+    → at_comment s h.at h.case ≡ true → n ≡ 0 → sought (comments_from s fuel (more h)) n ≡ There (text_at s h.at)
+sought_here s zero n h l t a z = absurd (not-suc-le-zero l)
+sought_here s (suc k) n h l t a z =
+    ap (λ st. sought (passed s h st ++ comments_from s k st) n) (sym (goes_more refl t))
+    ∙ sought_first _ (at_comment s h.at h.case) (text_at s h.at) a n z

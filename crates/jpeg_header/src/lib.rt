@@ -207,6 +207,7 @@ fn text_at(s: &[u8], at: usize) -> Part
 }
 
 // Comment i of those before the scan, limits set aside. The steps are the header's; those that go over a comment are counted.
+#[tactic(auto, using(crate::proofs::Looking::sought_here))]
 pub fn comment(s: &[u8], i: usize) -> Sought
     ensures { result ≡ sought (comments s.now) i }
 {

@@ -2,7 +2,7 @@
 use Prim.Native.Nat.{ℕ, ◌+◌, ◌<◌, ◌≤◌, ◌^◌}
 use mathlib.Core.Path.{◌≡◌, refl, sym, ap, ◌∙◌, subst}
 use mathlib.Core.Bool.{Bool, true, false}
-use mathlib.Core.List.{List, ◌++◌}
+use mathlib.Core.List.{List, [], ◌++◌}
 use mathlib.Core.Option.{Option, none, some}
 use native.Mathlib.Nat.{zero-add, suc-ne-zero}
 use native.Mathlib.Omega.{arith}
@@ -167,6 +167,13 @@ writes_all (broke w) old e g h a = absurd (suc-ne-zero 0 cc)
 pub settled_many : (s : List ℕ) (r : Record) → 2 ^ 32 ≤ r.blocks → settled_of s r ≡ broke nowhere
 unfolding settled_of
 settled_many s r h = rw (le-ltb r.blocks (2 ^ 32) h) refl
+
+-- the answer where a scan has too many blocks, and that nothing is written
+pub many_says : (s : List ℕ) (r : Record) → 2 ^ 32 ≤ r.blocks → scan_settled (settled_of s r) ≡ answer.Stop nowhere
+many_says s r h = sym (says_stop [] (settled_many s r h)).0
+
+pub many_stays : (s : List ℕ) (r : Record) (old : List ℕ) → 2 ^ 32 ≤ r.blocks → laid_over (settled_of s r) old ≡ old
+many_stays s r old h = sym (says_stop old (settled_many s r h)).1
 
 pub settled_unread : (s : List ℕ) (r : Record) → r.blocks < 2 ^ 32 → scan_of s r ≡ broke nowhere → settled_of s r ≡ broke nowhere
 unfolding settled_of

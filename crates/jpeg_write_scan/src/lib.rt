@@ -286,6 +286,7 @@ fn foretell(s: &[u8], found: Record, plan: Plan, words: &[u32], room: usize) -> 
 
 // The scan of a record is read, and then, where it was accepted, lacks no code and the buffer has room for all of it, read again
 // and written: so a refusal writes nothing.
+#[tactic(auto, using(crate::proofs::SettledAnswers::many_says, crate::proofs::SettledAnswers::many_stays))]
 pub fn settled(s: &[u8], found: Record, out: &mut [u8]) -> ScanSettled
     ensures { (result ≡ scan_settled (settled_of s.now found)) × (out.new ≡ laid_over (settled_of s.now found) out.old) }
 {
