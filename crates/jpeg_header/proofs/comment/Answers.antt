@@ -19,7 +19,9 @@ pub returns-then-not-goes_on : goal.returns-then-not-goes_on
 returns-then-not-goes_on c = look_none c.args.s.now c.args.i c.loop-state.state c.loop-state.before c.loop-state.invariant (goes_not c.step-r.ensures (sym c.goes_on.ensures ∙ c.if-not-goes_on.true))
 
 pub text_at-requires : goal.text_at-requires
-text_at-requires c = comment_room c.args.s.now false c.loop-state.state c.step-r.result.state (sym c.at_comment.ensures ∙ c.if-at_comment.true) (goes_more c.step-r.ensures (sym c.goes_on.ensures ∙ c.if-not-goes_on.false))
+text_at-requires c =
+    comment_room c.args.s.now false c.loop-state.state c.step-r.result.state (sym c.at_comment.ensures ∙ c.if-at_comment.true)
+    (goes_more c.step-r.ensures (sym c.goes_on.ensures ∙ c.if-not-goes_on.false))
 
 pub loop-state-smaller : goal.loop-state-smaller
 loop-state-smaller c = run_down c.args.s.now false c.loop-state.state c.step-r.result.state c.loop-state.invariant.run (goes_more c.step-r.ensures (sym c.goes_on.ensures ∙ c.if-not-goes_on.false))

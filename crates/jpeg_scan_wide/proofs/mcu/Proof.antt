@@ -90,23 +90,13 @@ mul_predictors c = omega (arith, few_channels c.before.before.before.before.befo
 array_set_from_predictors : tie.Need-bounds-predictors-c-in-Got invariant_walk decreases_walk
 array_set_from_predictors c = few_channels c.before.before.before.before.before.before.before.before.before
 
-blocks_limit : (c : tie.Start invariant_walk decreases_walk) → c.args.plan.blocks < 2 ^ 64
-blocks_limit c = omega (arith, c.well_formed.1.0.1.1.1.1.1.1.1.0)
-
-per_limit : (c : tie.Start invariant_walk decreases_walk) → c.args.plan.per < 2 ^ 64
-per_limit c = omega (arith, c.well_formed.1.0.1.1.1.1.1.0)
-
 add_done : tie.Need-overflow_add-done invariant_walk decreases_walk
 add_done c =
-    let unread = c in
-    let start = unread in
-    omega (arith, unread.if-plan-done.false, blocks_limit start.before.before.before.before.before.before.before.before.before.before.before.before.before.before.before.before.before.before.before.before.before.before)
+    omega (arith, c.if-plan-done.false, c.well_formed.1.0.1.1.1.1.1.1.1.0)
 
 add_j : tie.Need-overflow_add-j invariant_walk decreases_walk
 add_j c =
-    let inside = c in
-    let start = inside in
-    omega (arith, inside.if-plan-j.false, per_limit start.before.before.before.before.before.before.before.before.before.before.before.before.before.before.before.before.before.before.before.before.before.before)
+    omega (arith, c.if-plan-j.false, c.well_formed.1.0.1.1.1.1.1.0)
 
 walk_less : tie.Need-walk-smaller invariant_walk decreases_walk
 walk_less c = omega (arith, c.if-plan-j.false)
