@@ -8,7 +8,7 @@ ghost use Rattle.c_functions.specs.Flat.{inspected, drawn, decoded, decode_flat,
 ghost use Rattle.reading.specs.Comments.{comment_part, has_comment};
 
 use c_record::FlatRecord;
-use reading::Budget;
+use reading::{Budget, Limits, Part};
 
 #[repr(C)]
 #[derive(Clone, Copy)]
@@ -60,19 +60,20 @@ pub extern "C" fn tillsparrow_inspect(
     let seen = jpeg::inspect(
         bytes,
         colour,
-        c_record::limits(input, side, output),
+        Limits {
+            input,
+            side,
+            output,
+        },
         Budget::fresh(budget),
     );
-    let found = c_record::flat(seen.found);
-    let verdict = seen.verdict;
-    let rest = seen.budget;
-    let named = verdict.named();
+    let named = reading::place_named(seen.verdict);
     Inspected {
-        number: c_record::number(verdict),
-        left: rest.left,
+        number: usize::from(reading::number(seen.verdict)),
+        left: seen.budget.left,
         block: named.block,
         place: named.place,
-        found: found,
+        found: FlatRecord::from(seen.found),
     }
 }
 
@@ -94,11 +95,9 @@ pub extern "C" fn tillsparrow_decode(
         scratch,
         Budget::fresh(budget),
     );
-    let verdict = seen.verdict;
-    let rest = seen.budget;
     Decoded {
-        number: c_record::number(verdict),
-        left: rest.left,
+        number: usize::from(reading::number(seen.verdict)),
+        left: seen.budget.left,
     }
 }
 
@@ -107,11 +106,8 @@ pub extern "C" fn tillsparrow_decode(
 pub extern "C" fn tillsparrow_comment(bytes: &[u8], i: usize) -> FlatPart
     ensures { result ≡ flat_part (comment_part bytes.now i) }
 {
-    let part = jpeg_comment::comment_part(bytes, i);
-    FlatPart {
-        at: part.at,
-        length: part.length,
-    }
+    let Part { at, length } = jpeg_comment::comment_part(bytes, i);
+    FlatPart { at, length }
 }
 
 // Whether comment i is there, at inspect's price and with its numbers.
@@ -129,18 +125,19 @@ pub extern "C" fn tillsparrow_has_comment(
     let seen = jpeg_comment::has_comment(
         bytes,
         i,
-        c_record::limits(input, side, output),
+        Limits {
+            input,
+            side,
+            output,
+        },
         Budget::fresh(budget),
     );
-    let verdict = seen.verdict;
-    let rest = seen.budget;
-    let there = c_record::digit(seen.there);
-    let named = verdict.named();
+    let named = reading::place_named(seen.verdict);
     FlatPresence {
-        number: c_record::number(verdict),
-        left: rest.left,
+        number: usize::from(reading::number(seen.verdict)),
+        left: seen.budget.left,
         block: named.block,
         place: named.place,
-        there: there,
+        there: usize::from(seen.there),
     }
 }

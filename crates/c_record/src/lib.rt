@@ -1,13 +1,11 @@
-// What the functions for C take and give as numbers: a record, which is 46 numbers, the limits, a verdict and a yes or no. No call is made
-// here; `c_functions` and `c_settle` make them.
+// A record as the functions for C take and give it: 46 numbers. No call is made here; `c_functions` makes them.
 #![tactic(auto)]
 
 ghost use Rattle.std.specs.Prelude.{◌≡◌};
-ghost use Rattle.reading.specs.Calls.{number};
 ghost use Rattle.c_record.specs.Asked.{asked};
-ghost use Rattle.c_record.specs.Flat.{digit, flat, record_of};
+ghost use Rattle.c_record.specs.Flat.{flat, record_of};
 
-use reading::{Frame, Limits, Record, Tables, Verdict};
+use reading::{Frame, Record, Tables};
 
 // A record as numbers of 64 bits, in this order; `include/tillsparrow.h` has the same. The colour choice is 0 or 1.
 #[repr(C)]
@@ -34,100 +32,81 @@ pub struct FlatRecord {
     pub colour: usize,
 }
 
-// The number of a verdict, 0 where accepted.
-pub fn number(verdict: Verdict) -> usize
-    ensures { result ≡ number verdict }
-{
-    verdict.number() as usize
-}
+impl From<Record> for FlatRecord {
+    ghost from_gives = { λ found numbers. numbers ≡ flat found };
 
-// 0 for no, 1 for yes.
-pub fn digit(yes: bool) -> usize
-    ensures { result ≡ digit yes }
-{
-    if yes {
-        return 1;
-    }
-    0
-}
-
-pub fn flat(found: Record) -> FlatRecord
-    ensures { result ≡ flat found }
-{
-    let frame = found.frame;
-    let tables = found.tables;
-    let across = frame.across;
-    let down = frame.down;
-    let ids = frame.ids;
-    let qids = frame.qids;
-    let dcids = found.dcids;
-    let acids = found.acids;
-    let quants = tables.quants;
-    let dcs = tables.dcs;
-    let acs = tables.acs;
-    let colour = digit(found.colour);
-    FlatRecord {
-        width: frame.width,
-        height: frame.height,
-        channels: frame.channels,
-        across: across,
-        down: down,
-        ids: ids,
-        qids: qids,
-        dcids: dcids,
-        acids: acids,
-        quants: quants,
-        dcs: dcs,
-        acs: acs,
-        interval: found.interval,
-        start: found.start,
-        blocks: found.blocks,
-        scratch: found.scratch,
-        output: found.output,
-        work: found.work,
-        colour: colour,
+    fn from(found: Record) -> Self {
+        let Frame {
+            across,
+            down,
+            ids,
+            qids,
+            ..
+        } = found.frame;
+        let Tables { quants, dcs, acs } = found.tables;
+        let Record { dcids, acids, .. } = found;
+        Self {
+            width: found.frame.width,
+            height: found.frame.height,
+            channels: found.frame.channels,
+            across,
+            down,
+            ids,
+            qids,
+            dcids,
+            acids,
+            quants,
+            dcs,
+            acs,
+            interval: found.interval,
+            start: found.start,
+            blocks: found.blocks,
+            scratch: found.scratch,
+            output: found.output,
+            work: found.work,
+            colour: usize::from(found.colour),
+        }
     }
 }
 
 // The record of numbers whose last is 0 or 1.
-fn record_of(numbers: FlatRecord) -> Record
-    ensures { result ≡ record_of numbers }
-{
-    let across = numbers.across;
-    let down = numbers.down;
-    let ids = numbers.ids;
-    let qids = numbers.qids;
-    let frame = Frame {
-        width: numbers.width,
-        height: numbers.height,
-        channels: numbers.channels,
-        across: across,
-        down: down,
-        ids: ids,
-        qids: qids,
-    };
-    let quants = numbers.quants;
-    let dcs = numbers.dcs;
-    let acs = numbers.acs;
-    let tables = Tables {
-        quants: quants,
-        dcs: dcs,
-        acs: acs,
-    };
-    let dcids = numbers.dcids;
-    let acids = numbers.acids;
-    Record {
-        frame: frame,
-        tables: tables,
-        dcids: dcids,
-        acids: acids,
-        interval: numbers.interval,
-        start: numbers.start,
-        blocks: numbers.blocks,
-        scratch: numbers.scratch,
-        output: numbers.output,
-        work: numbers.work,
-        colour: numbers.colour == 1,
+impl From<FlatRecord> for Record {
+    ghost from_gives = { λ numbers found. found ≡ record_of numbers };
+
+    fn from(numbers: FlatRecord) -> Self {
+        let FlatRecord {
+            across,
+            down,
+            ids,
+            qids,
+            dcids,
+            acids,
+            quants,
+            dcs,
+            acs,
+            ..
+        } = numbers;
+        Self {
+            frame: Frame {
+                width: numbers.width,
+                height: numbers.height,
+                channels: numbers.channels,
+                across,
+                down,
+                ids,
+                qids,
+            },
+            tables: Tables { quants, dcs, acs },
+            dcids,
+            acids,
+            interval: numbers.interval,
+            start: numbers.start,
+            blocks: numbers.blocks,
+            scratch: numbers.scratch,
+            output: numbers.output,
+            work: numbers.work,
+            colour: numbers.colour == 1,
+        }
     }
 }
 
@@ -137,19 +116,9 @@ fn record_of(numbers: FlatRecord) -> Record
 pub fn asked(numbers: FlatRecord) -> Record
     ensures { result ≡ asked numbers }
 {
-    let mut found = record_of(numbers);
+    let mut found = Record::from(numbers);
     if 1 < numbers.colour {
         found.frame.channels = 0;
     }
     found
-}
-
-pub fn limits(input: usize, side: usize, output: usize) -> Limits
-    ensures { result ≡ record { input = input; side = side; output = output } }
-{
-    Limits {
-        input: input,
-        side: side,
-        output: output,
-    }
 }

@@ -6,7 +6,7 @@ ghost use Rattle.std.specs.Prelude.{◌≡◌};
 ghost use Rattle.reading.specs.Calls.{settle};
 ghost use Rattle.c_settle.specs.Flat.{remade, settled};
 
-use reading::Budget;
+use reading::{Budget, Limits};
 
 #[repr(C)]
 #[derive(Clone, Copy)]
@@ -32,16 +32,18 @@ pub extern "C" fn tillsparrow_settle(
 {
     let seen = jpeg::settle(
         bytes,
-        c_record::limits(input, side, output),
+        Limits {
+            input,
+            side,
+            output,
+        },
         Budget::fresh(budget),
         room,
     );
-    let verdict = seen.verdict;
-    let rest = seen.budget;
-    let named = verdict.named();
+    let named = reading::place_named(seen.verdict);
     Settled {
-        number: c_record::number(verdict),
-        left: rest.left,
+        number: usize::from(reading::number(seen.verdict)),
+        left: seen.budget.left,
         block: named.block,
         place: named.place,
         length: seen.length,

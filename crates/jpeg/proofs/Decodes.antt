@@ -13,7 +13,6 @@ use Rattle.reading.specs.declared.Break.{Break}
 use Rattle.reading.specs.declared.Record.{Record}
 use Rattle.reading.specs.declared.Refusal.{Refusal}
 use Rattle.reading.specs.declared.Refusal.TheVariants.{OverBudget, ShortRoom, NotItsRecord}
-use Rattle.reading.specs.declared.Verdict.TheVariants.{Refused}
 use Rattle.reading.specs.Scan.{Scanned, whole, broke}
 use Rattle.reading.specs.Header.{Stage, more, done, stop, header}
 use Rattle.reading.specs.Code.Heads.{headed}
@@ -24,7 +23,6 @@ use Rattle.reading.specs.Calls.{header_price, same, short_room, its_levels, Deco
 use Rattle.reading.proofs.Equal.{records_equal}
 use Rattle.reading.proofs.HeaderEnds.{or_left, or_right}
 use Rattle.jpeg.specs.Steps.{drawn_as, file_drawn}
-use Rattle.jpeg_price.proofs.Charged.{is_refused}
 
 -- ---- room
 
@@ -64,29 +62,6 @@ module _ (s : List ℕ) (r : Record) (out scratch : List ℕ) (budget : Budget) 
         → file_drawn s r out scratch rest ≡ decode s r out scratch budget
     unfolding file_drawn
     decode_paid rest p = sym (ap behind p) ∙ decode_on
-
--- ---- behind the price
-
-module _ (s : List ℕ) (r : Record) (out scratch : List ℕ) (rest : Budget) where
-  abbrev from_stage : Stage → Decoded
-  from_stage st = decoded s r out scratch (its_levels r (read_from s st) rest)
-
-  pub file_headless :
-      (x : Refusal)
-      → (headed (header s r.colour)).verdict ≡ Refused x
-      → undecoded NotItsRecord rest out scratch ≡ file_drawn s r out scratch rest
-  unfolding file_drawn
-  file_headless x e = go (header s r.colour) e
-    where
-      go : (st : Stage) → (headed st).verdict ≡ Refused x → undecoded NotItsRecord rest out scratch ≡ from_stage st
-      go (more h) q = refl
-      go (done d) q = absurd (subst⁻¹ is_refused q tt)
-      go (stop y) q = refl
-
-  -- what drawing the record leaves
-  pub file_drawn_lem : (q : Record) → header s r.colour ≡ done q → drawn_as s q r out scratch rest ≡ file_drawn s r out scratch rest
-  unfolding drawn_as file_drawn
-  file_drawn_lem q e = sym (ap from_stage e)
 
 -- ---- behind the header
 

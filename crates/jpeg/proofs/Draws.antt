@@ -1,5 +1,5 @@
 -- What drawing a record leaves in the two buffers.
-use mathlib.Core.Path.{◌≡◌, sym, ap, ap₂, ◌∙◌, subst⁻¹}
+use mathlib.Core.Path.{◌≡◌, refl, sym, ap, ap₂, ◌∙◌, subst}
 use mathlib.Core.Bool.{Bool, true, false}
 use mathlib.Core.List.{List}
 use Prim.Native.Nat.{ℕ, ◌*◌, ◌≤◌}
@@ -8,13 +8,10 @@ use lib.Dec.{T}
 use lib.ListN.{length, take, drop}
 use lib.Seq.{take_at}
 use Rattle.reading.specs.declared.Budget.{Budget}
-use Rattle.reading.specs.declared.Decoding.{Decoding}
 use Rattle.reading.specs.declared.Break.{Break}
 use Rattle.reading.specs.declared.Record.{Record}
 use Rattle.reading.specs.declared.Refusal.TheVariants.{NotItsRecord}
-use Rattle.reading.specs.declared.ScanRead.{ScanRead}
-use Rattle.reading.specs.declared.ScanRead.TheVariants.{Done, Stop}
-use Rattle.reading.specs.declared.Verdict.TheVariants.{Accepted, Refused}
+use Rattle.std.specs.declared.result.Result.TheVariants.{Ok, Err}
 use Rattle.reading.specs.Tests.{over}
 use Rattle.reading.specs.Scan.{whole}
 use Rattle.reading.specs.Header.{done, header}
@@ -24,7 +21,7 @@ use Rattle.reading.specs.Code.Answers.{scan_read}
 use Rattle.reading.specs.Reading.{samples_of, picture_of}
 use Rattle.reading.specs.Tables.{shape_of, quantizers_of}
 use Rattle.reading.specs.Code.Painted.{drawn}
-use Rattle.reading.specs.Calls.{same}
+use Rattle.reading.specs.Calls.{same, undecoded}
 use Rattle.reading.proofs.Equal.{records_equal}
 use Rattle.reading.proofs.FileBytes.{AllBytes}
 use Rattle.reading.proofs.Accepted as H
@@ -48,13 +45,13 @@ sized s y colour r e =
       height_most = omega (arith, a.frame.high.1);
     }
 
-module _ (s : List ℕ) (y : AllBytes s) (q r : Record) (out scratch : List ℕ) (rest : Budget) (m : Meets s q r out scratch) (t : Bool) (e : t ≡ same q r) where
-  pub draws_other : {answer : Decoding} → answer ≡ record { verdict = Refused NotItsRecord; budget = rest } → t ≡ false → leaving answer out scratch ≡ drawn_as s q r out scratch rest
-  draws_other a f = ap (λ x. leaving x out scratch) a ∙ drawn_other s q r out scratch rest (sym e ∙ f)
+module _ (s : List ℕ) (y : AllBytes s) (q r : Record) (out scratch : List ℕ) (rest : Budget) (m : Meets s q r out scratch) where
+  pub draws_other : false ≡ same q r → undecoded NotItsRecord rest out scratch ≡ drawn_as s q r out scratch rest
+  draws_other e = drawn_other s q r out scratch rest (sym e)
 
-  module _ (f : t ≡ true) where
+  module _ (e : true ≡ same q r) where
     itself : q ≡ r
-    itself = records_equal q r (subst⁻¹ T (sym e ∙ f) tt)
+    itself = records_equal q r (subst T e tt)
 
     head : header s r.colour ≡ done r
     head = m.head ∙ ap done itself
@@ -68,24 +65,22 @@ module _ (s : List ℕ) (y : AllBytes s) (q r : Record) (out scratch : List ℕ)
     room : 64 * r.blocks ≤ length scratch
     room = omega (arith, m.scratch_room, accepted.scratch)
 
-    module _ (v : ScanRead) (e3 : v ≡ scan_read (scan_of s r)) (scratch' : List ℕ) (e4 : scratch' ≡ drawn (shape_of r.frame) (quantizers_of s r) r.blocks (scan_of s r) scratch) where
-      pub draws_stop :
-          {answer : Decoding}
-          → answer ≡ record { verdict = Refused NotItsRecord; budget = rest }
-          → (g : Break)
-          → v ≡ Stop g
-          → leaving answer out scratch' ≡ drawn_as s q r out scratch rest
-      draws_stop a g p =
-          let o = E.refused (scan_of s r) e3 p in
-          ap₂ (λ x z. leaving x out z) a (e4 ∙ sym (E.drawn_stop (shape_of r.frame) (quantizers_of s r) r.blocks scratch o))
-          ∙ drawn_fault s q r out scratch rest (sym e ∙ f) g (sym (scan_is s r okay) ∙ o)
+    module _ (scratch' : List ℕ) (e4 : scratch' ≡ drawn (shape_of r.frame) (quantizers_of s r) r.blocks (scan_of s r) scratch) where
+      pub draws_stop : {g : Break} → Err g ≡ scan_read (scan_of s r) → undecoded NotItsRecord rest out scratch' ≡ drawn_as s q r out scratch rest
+      draws_stop {g} e3 =
+          let o = E.refused (scan_of s r) e3 refl in
+          ap (undecoded NotItsRecord rest out) (e4 ∙ sym (E.drawn_stop (shape_of r.frame) (quantizers_of s r) r.blocks scratch o))
+          ∙ drawn_fault s q r out scratch rest (sym e) g (sym (scan_is s r okay) ∙ o)
 
-      module _ (p : v ≡ Done) where
-        scanned : levels s r ≡ whole (E.accepted (scan_of s r) e3 p).blocks_read (E.accepted (scan_of s r) e3 p).behind
-        scanned = scan_levels s r (E.accepted (scan_of s r) e3 p).is
+      module _ (e3 : Ok tt ≡ scan_read (scan_of s r)) where
+        read : E.Accepted (scan_of s r)
+        read = E.accepted (scan_of s r) e3 refl
+
+        scanned : levels s r ≡ whole read.blocks_read read.behind
+        scanned = scan_levels s r read.is
 
         all : List ℕ
-        all = samples_of s r (E.accepted (scan_of s r) e3 p).blocks_read
+        all = samples_of s r read.blocks_read
 
         counted : length all ≡ r.scratch
         unfolding all
@@ -93,16 +88,13 @@ module _ (s : List ℕ) (y : AllBytes s) (q r : Record) (out scratch : List ℕ)
 
         filled : scratch' ≡ over all scratch
         unfolding all
-        filled = e4 ∙ sym (E.drawn_all (shape_of r.frame) (quantizers_of s r) r.blocks scratch (E.accepted (scan_of s r) e3 p) room)
+        filled = e4 ∙ sym (E.drawn_all (shape_of r.frame) (quantizers_of s r) r.blocks scratch read room)
 
         part : take r.scratch scratch' ≡ all
         part = ap (take r.scratch) filled ∙ take_at all (drop (length all) scratch) r.scratch counted
 
         full : length (take r.scratch scratch') ≡ 64 * r.blocks
         full = ap length part ∙ counted ∙ accepted.scratch
-
-        pub draws_part : r.scratch ≡ length (take r.scratch scratch')
-        draws_part = sym (ap length part ∙ counted)
 
         drawable : Drawable r.frame (take r.scratch scratch') out
         drawable =
@@ -113,13 +105,11 @@ module _ (s : List ℕ) (y : AllBytes s) (q r : Record) (out scratch : List ℕ)
             }
 
         pub draws_done :
-            {answer : Decoding} {out' : List ℕ}
-            → answer ≡ record { verdict = Accepted; budget = rest }
+            {out' : List ℕ}
             → out' ≡ rendered r.frame r.colour (take r.scratch scratch') out
-            → leaving answer out' scratch' ≡ drawn_as s q r out scratch rest
+            → leaving (record { verdict = Ok tt; budget = rest }) out' scratch' ≡ drawn_as s q r out scratch rest
         unfolding all
-        draws_done {answer} {out'} a b =
-            ap (λ x. leaving x out' scratch') a
-            ∙ ap₂ (λ x z. leaving (record { verdict = Accepted; budget = rest }) x z)
+        draws_done {out'} b =
+            ap₂ (leaving (record { verdict = Ok tt; budget = rest }))
             (b ∙ rendered_drawable r.frame r.colour (take r.scratch scratch') out drawable ∙ ap (λ x. over (picture_of r x) out) part) filled
-            ∙ drawn_done s q r out scratch rest (sym e ∙ f) (E.accepted (scan_of s r) e3 p).blocks_read (E.accepted (scan_of s r) e3 p).behind scanned
+            ∙ drawn_done s q r out scratch rest (sym e) read.blocks_read read.behind scanned

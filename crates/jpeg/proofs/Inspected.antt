@@ -1,5 +1,5 @@
 -- What inspect answers, one law for each way behind its tests before the scan.
-use mathlib.Core.Path.{◌≡◌, sym, ap, ◌∙◌}
+use mathlib.Core.Path.{◌≡◌, refl, sym, ap, ◌∙◌}
 use mathlib.Core.Bool.{Bool, true}
 use mathlib.Core.List.{List}
 use Prim.Native.Nat.{ℕ}
@@ -12,8 +12,7 @@ use Rattle.reading.specs.declared.Limits.{Limits}
 use Rattle.reading.specs.declared.Record.{Record}
 use Rattle.reading.specs.declared.Refusal.{Refusal}
 use Rattle.reading.specs.declared.Refusal.TheVariants.{Scan}
-use Rattle.reading.specs.declared.ScanRead.{ScanRead}
-use Rattle.reading.specs.declared.ScanRead.TheVariants.{Done, Stop}
+use Rattle.std.specs.declared.result.Result.TheVariants.{Ok, Err}
 use Rattle.reading.specs.Code.Answers.{scan_read}
 use Rattle.reading.specs.Scan.{Scanned}
 use Rattle.reading.specs.Scan.{levels}
@@ -39,7 +38,7 @@ module _ (s : List ℕ) (colour : Bool) (l : Limits) (budget : Budget) {rest : B
   unfolding inspect
   inspect_stops z = sym (ap (answer s) z)
 
-  module _ {r : Record} (z : Goes s colour l budget r rest) (y : AllBytes s) (v : ScanRead) (e : v ≡ scan_read (scan_of s r)) where
+  module _ {r : Record} (z : Goes s colour l budget r rest) (y : AllBytes s) where
     okay : readable s r ≡ true
     okay = header_readable s y colour r z.head
 
@@ -47,8 +46,8 @@ module _ (s : List ℕ) (colour : Bool) (l : Limits) (budget : Budget) {rest : B
     unfolding inspect
     by_scan = sym (ap (answer s) z.is)
 
-    pub inspect_fault : {f : Break} → v ≡ Stop f → inspection (refuses (Scan f) rest) ≡ inspect s colour l budget
-    inspect_fault p = sym (ap (read r rest) (sym (scan_is s r okay) ∙ E.refused (scan_of s r) e p)) ∙ by_scan
+    pub inspect_fault : {f : Break} → Err f ≡ scan_read (scan_of s r) → inspection (refuses (Scan f) rest) ≡ inspect s colour l budget
+    inspect_fault e = sym (ap (read r rest) (sym (scan_is s r okay) ∙ E.refused (scan_of s r) e refl)) ∙ by_scan
 
-    pub inspect_done : v ≡ Done → inspection (accepts r rest) ≡ inspect s colour l budget
-    inspect_done p = sym (ap (read r rest) (sym (scan_is s r okay) ∙ (E.accepted (scan_of s r) e p).is)) ∙ by_scan
+    pub inspect_done : Ok tt ≡ scan_read (scan_of s r) → inspection (accepts r rest) ≡ inspect s colour l budget
+    inspect_done e = sym (ap (read r rest) (sym (scan_is s r okay) ∙ (E.accepted (scan_of s r) e refl).is)) ∙ by_scan

@@ -1,6 +1,6 @@
--- Laws of the calls.
+-- What the calls answer and leave, one law for each way through their tests.
 pub mod Inspected
-pub mod Refiled
-pub mod SettledCode
 pub mod Decodes
 pub mod Draws
+pub mod Refiled
+pub mod SettledCode

@@ -11,19 +11,17 @@ use Rattle.reading.specs.declared.Budget.{Budget}
 use Rattle.reading.specs.declared.Limits.{Limits}
 use Rattle.reading.specs.declared.Record.{Record}
 use Rattle.reading.specs.declared.Refusal.{Refusal}
-use Rattle.reading.specs.declared.Settling.{Settling}
-use Rattle.reading.specs.declared.Verdict.TheVariants.{Refused}
 use Rattle.reading.specs.Scan.{Scanned, whole, broke}
 use Rattle.reading.specs.Header.{done, header}
 use Rattle.reading.specs.Scan.{levels, plan_of}
 use Rattle.reading.specs.Code.Scans.{settled_read, settled_of}
 use Rattle.reading.specs.Judging.{Judged, refuses, onward, give, unbroken}
-use Rattle.reading.specs.Calls.{admission, Rewritten, rewritten, settle}
+use Rattle.reading.specs.Calls.{admission, Rewritten, unsettled, rewritten, settle}
 use Rattle.reading.proofs.FileBytes.{AllBytes}
 use Rattle.reading.proofs.Accepted as H
 use Rattle.reading.proofs.Counted.{scan_is}
 use Rattle.reading.proofs.States.{header_readable}
-use Rattle.jpeg_settle.specs.Refiled.{remade, refiled_by, refiled}
+use Rattle.jpeg_settle.specs.Refiled.{refiled_by, refiled}
 use Rattle.jpeg_settle.proofs.Refiling.{refiled_is}
 use Rattle.reading.proofs.Judgement.{scan_behind}
 use Rattle.reading.proofs.SettledCalls.{file_of}
@@ -46,15 +44,15 @@ abbrev answer : List ℕ → List ℕ → Judged Record → Rewritten
 answer s out m = rewritten out (onward (onward m (scan_behind s)) (file_of s))
 
 module _ (s : List ℕ) (l : Limits) (budget : Budget) (out : List ℕ) {rest : Budget} where
-  pub settle_stops : {x : Refusal} → admission s false l budget ≡ refuses x rest → {answer : Settling} → answer ≡ record { verdict = Refused x; budget = rest; length = 0 } → remade answer out ≡ settle s l budget out
+  pub settle_stops : {x : Refusal} → admission s false l budget ≡ refuses x rest → unsettled x rest 0 out ≡ settle s l budget out
   unfolding settle
-  settle_stops z a = ap (λ y. remade y out) a ∙ sym (ap (answer s out) z)
+  settle_stops z = sym (ap (answer s out) z)
 
   module _ {r : Record} where
     pub settle_goes : AllBytes s → Goes s false l budget r rest → refiled s r rest out ≡ settle s l budget out
     unfolding settle
     settle_goes y z =
-        refiled_is s r rest out (omega (arith, z.counted)) ∙ ap (refiled_by s r rest out) (settled_is s y r z.head) ∙ go (levels s r)
+        refiled_is s r (omega (arith, z.counted)) rest out ∙ ap (refiled_by s r rest out) (settled_is s y r z.head) ∙ go (levels s r)
         ∙ sym (ap (answer s out) z.is)
       where
         go :

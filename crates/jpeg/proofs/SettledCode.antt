@@ -16,7 +16,7 @@ use Rattle.reading.specs.declared.Limits.{Limits}
 use Rattle.reading.specs.declared.Record.{Record}
 use Rattle.reading.specs.declared.Settling.{Settling}
 use Rattle.reading.specs.declared.Refusal.TheVariants.{NoEndCode}
-use Rattle.reading.specs.declared.Verdict.TheVariants.{Accepted, Refused}
+use Rattle.std.specs.declared.result.Result.TheVariants.{Ok, Err}
 use Rattle.reading.specs.Header.{byte}
 use Rattle.reading.specs.Reading.{reading}
 use Rattle.reading.specs.Calls.{header_price, inspect, Decoded, decode, Rewritten, settle}
@@ -29,10 +29,10 @@ use Rattle.reading.proofs.SettledCalls.{SettledBy, settled_by, settled_bytes, by
 use Rattle.jpeg_settle.specs.Refiled.{remade}
 use Rattle.jpeg.specs.Steps as steps
 
--- a call of settle that answered Accepted, and the buffer as it left it
+-- a call of settle that accepted, and the buffer as it left it
 pub record Call (s : List ℕ) (l : Limits) (budget : Budget) (out : List ℕ) (answer : Settling) (left : List ℕ) : Type 0 where
   pub contract : remade answer left ≡ settle s l budget out
-  pub accepted : answer.verdict ≡ Accepted
+  pub accepted : answer.verdict ≡ Ok tt
 
 module _ (s : List ℕ) (l : Limits) (budget : Budget) (out : List ℕ) (answer : Settling) (left : List ℕ) (c : Call s l budget out answer left) where
   pub by : SettledBy s l budget out
@@ -57,10 +57,10 @@ module _ (s : List ℕ) (l : Limits) (budget : Budget) (out : List ℕ) (answer 
     pub code_inspects :
         (colour : Bool) (l'' : Limits) (budget'' : Budget) {seen again : Inspection}
         → seen ≡ inspect s colour l'' budget''
-        → seen.verdict ≡ Accepted
+        → seen.verdict ≡ Ok tt
         → again ≡ inspect (take answer.length left) colour l' budget'
         → Enough (take answer.length left) seen.found l' budget'
-        → (again.verdict ≡ Accepted) × (again.found ≡ seen.found)
+        → (again.verdict ≡ Ok tt) × (again.found ≡ seen.found)
     code_inspects colour l'' budget'' {seen} {again} a v b e =
         let read = ((inspect_accepts s colour l'' budget'' seen.found).0 (sym (ap (λ (i : Inspection). i.verdict) a) ∙ v, sym (ap (λ (i : Inspection). i.found) a))).0 in
         let w = (inspect_accepts (take answer.length left) colour l' budget' seen.found).1 ((read.0, code_reads colour ∙ read.1), e) in
@@ -72,7 +72,7 @@ module _ (s : List ℕ) (l : Limits) (budget : Budget) (out : List ℕ) (answer 
         → remade again left' ≡ settle (take answer.length left) l' budget' out'
         → Enough (take answer.length left) by.found l' budget'
         → answer.length ≤ length out'
-        → (again.verdict ≡ Accepted) × (again.length ≡ answer.length) × (take again.length left' ≡ take answer.length left)
+        → (again.verdict ≡ Ok tt) × (again.length ≡ answer.length) × (take again.length left' ≡ take answer.length left)
     code_settles_again out' {again} {left'} b e room =
         let enough = subst⁻¹ (λ x. Enough x by.found l' budget') same e in
         let fits = subst⁻¹ (λ n. n ≤ length out') (ap length same ∙ whole) room in
@@ -87,10 +87,10 @@ module _ (s : List ℕ) (l : Limits) (budget : Budget) (out : List ℕ) (answer 
   pub code_decodes :
       (r : Record) (picture scratch : List ℕ) (first second : Budget) {d d' : Decoding} {p q p' q' : List ℕ}
       → steps.leaving d p q ≡ decode s r picture scratch first
-      → d.verdict ≡ Accepted
+      → d.verdict ≡ Ok tt
       → steps.leaving d' p' q' ≡ decode (take answer.length left) r picture scratch second
       → header_price (take answer.length left) + r.work ≤ second.left
-      → (d'.verdict ≡ Accepted) × (p' ≡ p) × (q' ≡ q)
+      → (d'.verdict ≡ Ok tt) × (p' ≡ p) × (q' ≡ q)
   code_decodes r picture scratch first second a v b enough =
       let w = settled_decodes s (take answer.length left) code_settled r picture scratch first second (sym (ap (λ (x : Decoded). x.answer.verdict) a) ∙ v) enough in (
         ap (λ (x : Decoded). x.answer.verdict) b ∙ w.verdict,
@@ -116,7 +116,7 @@ pub code_nine :
     (s : List ℕ) (colour : Bool) (l : Limits) (budget : Budget) (out : List ℕ) {answer : Settling} {left : List ℕ}
     → (known : (i : ℕ) → byte s i < 256)
     → remade answer left ≡ settle s l budget out
-    → answer.verdict ≡ Refused NoEndCode
+    → answer.verdict ≡ Err NoEndCode
     ↔ Inspects s colour l budget × T (lacks_end_in s)
 code_nine s colour l budget out known c =
     let e = ap (λ (w : Rewritten). w.answer.verdict) c in

@@ -11,12 +11,11 @@ use Rattle.whole.specs.Powers.{one_more}
 use Rattle.reading.specs.declared.Bits.{Bits}
 use Rattle.reading.specs.declared.Fault.{Fault}
 use Rattle.reading.specs.declared.Fault.TheVariants.{Broken}
-use Rattle.reading.specs.declared.BitRead.{BitRead}
-use Rattle.reading.specs.declared.BitRead.TheVariants as bit
+use Rattle.std.specs.Prelude.{Result, Ok, Err}
 use Rattle.reading.specs.Reader.{got, fault, Reader, onward}
 use Rattle.reading.specs.Bits.{one, field_from, field}
 use Rattle.reading.specs.Code.Fields.{short_field}
-use Rattle.reading.specs.Code.Answers.{bit_read}
+use Rattle.reading.specs.Code.Answers.{read_of}
 
 -- ---- the field
 
@@ -42,11 +41,11 @@ unfolding further
 step s b v zero h = absurd (not-suc-le-zero h)
 step s b v (suc n) h = rw sub-one
 
-module _ (s : List ℕ) (b : Bits) (v n : ℕ) (h : 0 < n) {r : BitRead} (e : bit_read r ≡ one s b) where
-  pub field_more : {c : ℕ} {p : Bits} → r ≡ bit.Got c p → further s n v b ≡ further s (n - 1) (2 * v + c) p
+module _ (s : List ℕ) (b : Bits) (v n : ℕ) (h : 0 < n) {r : Result (ℕ × Bits) Fault} (e : read_of r ≡ one s b) where
+  pub field_more : {c : ℕ} {p : Bits} → r ≡ Ok (c, p) → further s n v b ≡ further s (n - 1) (2 * v + c) p
   field_more g = step s b v n h ∙ rw (← e, g)
 
-  pub field_cut : {f : Fault} → r ≡ bit.Stop f → further s n v b ≡ fault f
+  pub field_cut : {f : Fault} → r ≡ Err f → further s n v b ≡ fault f
   field_cut g = step s b v n h ∙ rw (← e, g)
 
 -- ---- several bits at once

@@ -43,6 +43,8 @@ module _ (s : List ℕ) (at : ℕ) where
         pub fresh_full : get_or s (at + 1) 0 ≡ 0 → fresh s at ≡ got 1 (record { at = at + 2; byte = 255; left = 7 })
         fresh_full z = rw (element_in s at h, eq-eqb _ _ full, element_in s (at + 1) i, eq-eqb _ _ z)
 
+pub ruleset fresh_ways = (fresh_out, fresh_data, fresh_last, fresh_bare, fresh_full)
+
 -- ---- the next bit
 
 -- above a byte there are zeros
@@ -51,7 +53,10 @@ none_above {x} {m} byte h =
     let power : 2 ^ 8 ≤ 2 ^ m = pow_mono {i = 8} h in
     div-eq_of_lt (omega arith)
 
-unread : (s : List ℕ) (at byte left : ℕ) → (left ≡ 0 → ⊥) → one_at s at byte left ≡ got ((byte / 2 ^ (left - 1)) % 2) (record { at = at; byte = byte; left = left - 1 })
+unread :
+    (s : List ℕ) (at byte left : ℕ)
+    → (left ≡ 0 → ⊥)
+    → one_at s at byte left ≡ got ((byte / 2 ^ (left - 1)) % 2) (record { at = at; byte = byte; left = left - 1 })
 unread s at byte zero n = absurd (n refl)
 unread s at byte (suc left) n = rw sub-one
 
@@ -67,3 +72,5 @@ module _ (s : List ℕ) (b : Bits) where
 
     pub one_above : 7 < b.left - 1 → b.byte < 256 → one s b ≡ got 0 (record { at = b.at; byte = b.byte; left = b.left - 1 })
     one_above h byte = one_unread ∙ rw (none_above byte h)
+
+pub ruleset one_ways = (one_fresh, one_unread, one_above)

@@ -5,66 +5,57 @@
 ghost use Rattle.std.specs.Prelude.{◌+◌, ◌*◌, ◌/◌, ◌%◌, ◌^◌, ◌<◌, ◌≤◌, ◌≡◌};
 ghost use Rattle.reading.specs.Bits.{fresh, one};
 ghost use Rattle.reading.specs.Code.Fields.{short_field};
-ghost use Rattle.reading.specs.Code.Answers.{bit_read, number_read};
+ghost use Rattle.reading.specs.Code.Answers.{read_of};
 
-use reading::{BitRead, Bits, Fault, NumberRead};
+use reading::{Bits, Fault};
 
 // The first bit of the next data byte. A 255 must be followed by 0, which is skipped.
-#[tactic(auto, using(crate::proofs::Next::fresh_out, crate::proofs::Next::fresh_data, crate::proofs::Next::fresh_last, crate::proofs::Next::fresh_bare, crate::proofs::Next::fresh_full))]
-fn fresh(s: &[u8], at: usize) -> BitRead
-    ensures { bit_read result ≡ fresh s.now at }
+#[tactic(auto, using(crate::proofs::Next::fresh_ways))]
+fn fresh(s: &[u8], at: usize) -> Result<(u8, Bits), Fault>
+    ensures { read_of result ≡ fresh s.now at }
 {
     if s.len() <= at {
-        return BitRead::Stop(Fault::RanOut);
+        return Err(Fault::RanOut);
     }
-    let x = s[at];
-    if x != 255 {
-        return BitRead::Got(
-            x / 128,
-            Bits {
-                at: at + 1,
-                byte: x,
-                left: 7,
-            },
-        );
+    let byte = s[at];
+    let mut next = at + 1;
+    if byte == 255 {
+        if s.len() <= next {
+            return Err(Fault::RanOut); // a 255 as the very last byte counts as ran out
+        }
+        if s[next] != 0 {
+            return Err(Fault::Bare);
+        }
+        next += 1;
     }
-    if s.len() - at < 2 {
-        return BitRead::Stop(Fault::RanOut); // a 255 as the very last byte counts as ran out
-    }
-    if s[at + 1] != 0 {
-        return BitRead::Stop(Fault::Bare);
-    }
-    BitRead::Got(
-        1,
+    Ok((
+        byte / 128,
         Bits {
-            at: at + 2,
-            byte: 255,
+            at: next,
+            byte,
             left: 7,
         },
-    )
+    ))
 }
 
 // The next bit: the highest unread one of the current byte, or the first of the next data byte.
 // A cursor may claim more than eight unread bits; those above its byte are 0.
-pub fn bit(s: &[u8], b: Bits) -> BitRead
-    ensures { bit_read result ≡ one s.now b }
+#[tactic(auto, using(crate::proofs::Next::one_ways))]
+pub fn bit(s: &[u8], b: Bits) -> Result<(u8, Bits), Fault>
+    ensures { read_of result ≡ one s.now b }
 {
-    let left = b.left;
-    // One test for nearly every bit.
-    if 0 < left && left <= 8 {
-        let n = left - 1;
-        return BitRead::Got((b.byte >> n) % 2, Bits { left: n, ..b });
+    match b.left {
+        // one test for nearly every bit
+        1..=8 => {
+            let left = b.left - 1;
+            Ok(((b.byte >> left) % 2, Bits { left, ..b }))
+        }
+        0 => fresh(s, b.at),
+        _ => {
+            let left = b.left - 1;
+            Ok((0, Bits { left, ..b }))
+        }
     }
-    if left == 0 {
-        return fresh(s, b.at);
-    }
-    BitRead::Got(
-        0,
-        Bits {
-            left: left - 1,
-            ..b
-        },
-    )
 }
 
 // The number v, and behind it k bits of a byte: those above its lowest `rest`. Above a byte there are zeros.
@@ -80,39 +71,29 @@ fn behind(v: usize, byte: u8, rest: usize, k: usize) -> usize
 }
 
 // A field of `n` bits, at most 16: as many at once as the current byte still has.
-pub fn read(s: &[u8], b: Bits, n: usize) -> NumberRead
-    ensures { number_read result ≡ short_field (one s.now) n b }
+pub fn read(s: &[u8], b: Bits, n: usize) -> Result<(usize, Bits), Fault>
+    ensures { read_of result ≡ short_field (one s.now) n b }
 {
     if 16 < n {
-        return NumberRead::Stop(Fault::Broken);
+        return Err(Fault::Broken);
     }
     let mut here = b;
     let mut value = 0usize;
     let mut more = n;
-    'field: loop {
+    while (here.left as usize) < more {
         let left = here.left as usize;
-        if more <= left {
-            let rest = left - more;
-            let all = behind(value, here.byte, rest, more);
-            break 'field NumberRead::Got(
-                all,
-                Bits {
-                    left: rest as u8,
-                    ..here
-                },
-            );
-        }
         value = behind(value, here.byte, 0, left);
         more -= left;
-        match fresh(s, here.at) {
-            BitRead::Stop(f) => {
-                break 'field NumberRead::Stop(f);
-            }
-            BitRead::Got(x, after) => {
-                value = 2 * value + x as usize;
-                here = after;
-            }
-        }
+        let (x, after) = fresh(s, here.at)?;
+        value = 2 * value + x as usize;
+        here = after;
         more -= 1;
     }
+    let rest = here.left as usize - more;
+    let all = behind(value, here.byte, rest, more);
+    let after = Bits {
+        left: rest as u8,
+        ..here
+    };
+    Ok((all, after))
 }

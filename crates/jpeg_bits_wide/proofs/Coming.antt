@@ -1,6 +1,7 @@
 -- What is to come at a cursor, as a plain list of bits and the bytes from the next marker on: filling up leaves it as it is, taking n bits takes
 -- the first n from it, and where none is left and no data byte comes the next bit is a fault.
-use Rattle.std.proofs.Common.{◌≡◌, ℕ, zero, suc, ◌+◌, ◌-◌, ◌*◌, ◌/◌, ◌%◌, ◌^◌, ◌<◌, ◌≤◌, Bool, true, false, eqb, ltb, leb, ◌⊎◌, List, [], ◌∷◌, ◌++◌, drop, sym, refl, ap, ◌∙◌, subst, ap₂, inl, inr, ⊎_elim, append_assoc, mod-lt, mod-eq_of_lt, mul_assoc, mul_comm, add-mul, arith, lit<, pow_pos, pow-add, shl_lt, shr-shr, shr_lt, ltb-true, leb-false, leb-true}
+use Rattle.std.proofs.Common.{◌≡◌, ℕ, zero, suc, ◌+◌, ◌-◌, ◌*◌, ◌/◌, ◌%◌, ◌^◌, ◌<◌, ◌≤◌, Bool, true, false, eqb, leb, ◌⊎◌, List, [], ◌∷◌, ◌++◌, drop, sym, refl, ap, ◌∙◌, subst, ap₂, inl, inr, ⊎_elim, append_assoc, mod-lt, mod-eq_of_lt, mul_assoc, mul_comm, add-mul, arith, lit<, pow_pos, pow-add, shl_lt, shr-shr, shr_lt, leb-false, leb-true, Some, None}
+use Rattle.std.specs.Prelude as Std
 use mathlib.Core.Path.{subst⁻¹}
 use mathlib.Core.Option.{some}
 use native.Mathlib.Nat.{add-mul-mod_self_right, mod-add-div'}
@@ -188,17 +189,17 @@ module _ (s : List ℕ) (bytes : AllBytes s) (w : Wide) (p : Proper w) where
 
   pub topped_ready : Ready s 32 w (topped s w)
   unfolding topped
-  topped_ready = go (leb 32 w.left) refl (ltb (word_at s w.at) 4294967296) refl
+  topped_ready = go (leb 32 w.left) refl (word_at s w.at) refl
     where
-      go : (t : Bool) → leb 32 w.left ≡ t → (u : Bool) → ltb (word_at s w.at) 4294967296 ≡ u → Ready s 32 w (topped s w)
-      go true e u f = rw e (record { still = same_self p; enough = inl (leb-true 32 w.left e) })
-      go false e true f =
+      go : (t : Bool) → leb 32 w.left ≡ t → (o : Std.Option ℕ) → word_at s w.at ≡ o → Ready s 32 w (topped s w)
+      go true e o f = rw e (record { still = same_self p; enough = inl (leb-true 32 w.left e) })
+      go false e (Some v) f =
           rw (e, f)
           (record {
             still = (bytes_more_lem s bytes 4 w p).still;
-            enough = inl (subst⁻¹ (λ r. 32 ≤ r.left) (four_bytes s w.at w.acc w.left (leb-false 32 w.left e) (four s w.at (ltb-true _ _ f))) (omega arith));
+            enough = inl (subst⁻¹ (λ r. 32 ≤ r.left) (four_bytes s w.at w.acc w.left (leb-false 32 w.left e) (four s w.at f)) (omega arith));
           })
-      go false e false f = rw (e, f) (record { still = filled_ready.still; enough = ⊎_elim (λ h. inl (omega (arith, h))) inr filled_ready.enough })
+      go false e None f = rw (e, f) (record { still = filled_ready.still; enough = ⊎_elim (λ h. inl (omega (arith, h))) inr filled_ready.enough })
 
 -- ---- taking n bits
 

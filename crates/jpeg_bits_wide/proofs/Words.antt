@@ -1,5 +1,10 @@
 -- Four data bytes as one number, and that they are four bytes more.
-use Rattle.std.proofs.Common.{◌≡◌, ℕ, ◌+◌, ◌-◌, ◌*◌, ◌%◌, ◌^◌, ◌<◌, ◌≤◌, Bool, true, false, cond, List, length, get_or, sym, refl, ap, ◌∙◌, ap₂, add_assoc, mul_assoc, add-mul, arith, pow-add, ltb-false, le-ltb, lt-ltb, eq-eqb, ne_eqb, le-leb}
+use Rattle.std.proofs.Common.{◌≡◌, ℕ, ◌+◌, ◌-◌, ◌*◌, ◌%◌, ◌^◌, ◌<◌, ◌≤◌, Bool, true, false, cond, ◌||◌, ◌==◌, List, [], ◌∷◌, length, get_or, take, drop, Some, None, w32, sym, refl, ap, ◌∙◌, ap₂, add_assoc, mul_assoc, add-mul, arith, pow-add, shl_exact, ltb-false, le-ltb, lt-ltb, le-leb, drop-cons, slice_range, add-one}
+use Rattle.std.proofs.lemmas.List.{take_rest}
+use Rattle.std.specs.Prelude as Std
+use Rattle.std.specs.List.{list_any}
+use Rattle.std.specs.Int.{from_be_bytes}
+use Rattle.std.proofs.lemmas.Option.{same_Some}
 use native.Mathlib.Nat.{mod-add-mod}
 use borrow.Author.Tests.{lt-leb, eqb-false}
 use Rattle.jpeg_bits_wide.specs.declared.Wide.{Wide}
@@ -8,52 +13,74 @@ use Rattle.jpeg_bits_wide.proofs.Filling.{more_data, cursor}
 
 -- ---- the number
 
+-- one of four tests holds, or none: the chain of the tests stops, or comes to its end
+stopped : {A : Type 0} (p q r t : Bool) (n x : A) → p || (q || (r || (t || false))) ≡ true → n ≡ cond p n (cond q n (cond r n (cond t n x)))
+stopped true q r t n x h = refl
+stopped false true r t n x h = refl
+stopped false false true t n x h = refl
+stopped false false false true n x h = refl
+stopped false false false false n x h = cc
+
+ended : {A : Type 0} (p q r t : Bool) (n x : A) → p || (q || (r || (t || false))) ≡ false → x ≡ cond p n (cond q n (cond r n (cond t n x)))
+ended true q r t n x h = cc
+ended false true r t n x h = cc
+ended false false true t n x h = cc
+ended false false false true n x h = cc
+ended false false false false n x h = refl
+
+one_of : (s : List ℕ) (i j : ℕ) → j ≡ i + 1 → i < length s → drop i s ≡ get_or s i 0 ∷ drop j s
+one_of s i j e h = drop-cons s i 0 h ∙ ap (λ k. get_or s i 0 ∷ drop k s) (sym (e ∙ add-one i))
+
 module _ (s : List ℕ) (at : ℕ) where
-  pub word_short : length s < at + 4 → 4294967296 ≡ word_at s at
+  pub word_short : length s < at + 4 → None ≡ word_at s at
   unfolding word_at
   word_short h = rw (lt-ltb _ _ h)
 
   module _ (room : at + 4 ≤ length s) where
-    pub word_first : get_or s at 0 ≡ 255 → 4294967296 ≡ word_at s at
-    unfolding word_at
-    word_first e = rw (le-ltb _ _ room, eq-eqb _ _ e)
+    four_of : take 4 (drop at s) ≡ get_or s at 0 ∷ get_or s (at + 1) 0 ∷ get_or s (at + 2) 0 ∷ get_or s (at + 3) 0 ∷ []
+    four_of =
+        rw (
+          one_of s at (at + 1) refl (omega arith),
+          one_of s (at + 1) (at + 2) (omega arith) (omega arith),
+          one_of s (at + 2) (at + 3) (omega arith) (omega arith),
+          one_of s (at + 3) (at + 4) (omega arith) (omega arith),
+        )
 
-    module _ (a : get_or s at 0 ≡ 255 → ⊥) where
-      pub word_second : get_or s (at + 1) 0 ≡ 255 → 4294967296 ≡ word_at s at
+    module _ {rest bytes : List ℕ} (from : rest ≡ slice_range s at (length s)) (is : bytes ≡ take 4 rest) where
+      bytes_are : bytes ≡ get_or s at 0 ∷ get_or s (at + 1) 0 ∷ get_or s (at + 2) 0 ∷ get_or s (at + 3) 0 ∷ []
+      bytes_are = is ∙ ap (take 4) (from ∙ take_rest s at) ∙ four_of
+
+      pub word_marked : true ≡ list_any (λ x. x == 255) bytes → None ≡ word_at s at
       unfolding word_at
-      word_second e = rw (le-ltb _ _ room, ne_eqb _ _ a, eq-eqb _ _ e)
+      word_marked h =
+          rw (le-ltb _ _ room)
+          (stopped (get_or s at 0 == 255) (get_or s (at + 1) 0 == 255) (get_or s (at + 2) 0 == 255) (get_or s (at + 3) 0 == 255) None _
+          (sym (rw bytes_are at h)))
 
-      module _ (b : get_or s (at + 1) 0 ≡ 255 → ⊥) where
-        pub word_third : get_or s (at + 2) 0 ≡ 255 → 4294967296 ≡ word_at s at
-        unfolding word_at
-        word_third e = rw (le-ltb _ _ room, ne_eqb _ _ a, ne_eqb _ _ b, eq-eqb _ _ e)
+      pub word_whole : false ≡ list_any (λ x. x == 255) bytes → Some (from_be_bytes w32 bytes) ≡ word_at s at
+      unfolding word_at
+      word_whole h =
+          rw (le-ltb _ _ room)
+          (rw bytes_are
+          (ended (get_or s at 0 == 255) (get_or s (at + 1) 0 == 255) (get_or s (at + 2) 0 == 255) (get_or s (at + 3) 0 == 255) None _
+          (sym (rw bytes_are at h))))
 
-        module _ (c : get_or s (at + 2) 0 ≡ 255 → ⊥) where
-          pub word_fourth : get_or s (at + 3) 0 ≡ 255 → 4294967296 ≡ word_at s at
-          unfolding word_at
-          word_fourth e = rw (le-ltb _ _ room, ne_eqb _ _ a, ne_eqb _ _ b, ne_eqb _ _ c, eq-eqb _ _ e)
-
-          pub word_whole :
-              (get_or s (at + 3) 0 ≡ 255 → ⊥)
-              → get_or s at 0 * 16777216 + get_or s (at + 1) 0 * 65536 + get_or s (at + 2) 0 * 256 + get_or s (at + 3) 0 ≡ word_at s at
-          unfolding word_at
-          word_whole d = rw (le-ltb _ _ room, ne_eqb _ _ a, ne_eqb _ _ b, ne_eqb _ _ c, ne_eqb _ _ d)
-
--- what a number below 2^32 says
-pub record Four (s : List ℕ) (at : ℕ) : Type 0 where
+-- what a number says
+pub record Four (s : List ℕ) (at v : ℕ) : Type 0 where
   pub room : at + 4 ≤ length s
   pub first : get_or s at 0 ≡ 255 → ⊥
   pub second : get_or s (at + 1) 0 ≡ 255 → ⊥
   pub third : get_or s (at + 2) 0 ≡ 255 → ⊥
   pub fourth : get_or s (at + 3) 0 ≡ 255 → ⊥
+  pub is : v ≡ get_or s at 0 * 16777216 + get_or s (at + 1) 0 * 65536 + get_or s (at + 2) 0 * 256 + get_or s (at + 3) 0
 
-under : (t : Bool) (x : ℕ) → cond t 4294967296 x < 4294967296 → (t ≡ false) × (x < 4294967296)
-under true x h = let none : ⊥ = omega arith in absurd none
+under : (t : Bool) (x : Std.Option ℕ) {v : ℕ} → cond t None x ≡ Some v → (t ≡ false) × (x ≡ Some v)
+under true x h = cc
 under false x h = (refl, h)
 
-pub four : (s : List ℕ) (at : ℕ) → word_at s at < 4294967296 → Four s at
+pub four : (s : List ℕ) (at : ℕ) {v : ℕ} → word_at s at ≡ Some v → Four s at v
 unfolding word_at
-four s at h =
+four s at {v} h =
     let p = under _ _ h in
     let q = under _ _ p.1 in
     let r = under _ _ q.1 in
@@ -65,6 +92,7 @@ four s at h =
       second = eqb-false _ _ r.0;
       third = eqb-false _ _ t.0;
       fourth = eqb-false _ _ u.0;
+      is = sym (same_Some _ _ u.1);
     }
 
 -- ---- four bytes more
@@ -91,7 +119,7 @@ gathered a b c d p =
     (add-mul (a * 16777216 + b * 65536 + c * 256) d p
     ∙ ap (λ k. k + d * p) (add-mul (a * 16777216 + b * 65536) (c * 256) p ∙ ap (λ k. k + c * 256 * p) (add-mul (a * 16777216) (b * 65536) p)))
 
-module _ (s : List ℕ) (at acc left : ℕ) (few : left < 32) (f : Four s at) where
+module _ (s : List ℕ) (at acc left : ℕ) (few : left < 32) {v : ℕ} (f : Four s at v) where
   -- the bytes one after the other
   abbrev one : Wide
   one = joined (cursor at acc left) (get_or s at 0) (at + 1)
@@ -121,10 +149,7 @@ module _ (s : List ℕ) (at acc left : ℕ) (few : left < 32) (f : Four s at) wh
       ∙ ap (λ w. byte_more s w) (step two (at + 2) refl (omega arith) (omega (arith, f.room)) f.third ∙ ap (λ k. joined two (get_or s (at + 2) 0) k) p2)
       ∙ (step three (at + 3) refl (omega arith) (omega (arith, f.room)) f.fourth ∙ ap (λ k. joined three (get_or s (at + 3) 0) k) p3)
 
-  word_is : word_at s at ≡ get_or s at 0 * 16777216 + get_or s (at + 1) 0 * 65536 + get_or s (at + 2) 0 * 256 + get_or s (at + 3) 0
-  word_is = sym (word_whole s at f.room f.first f.second f.third f.fourth)
-
-  all_acc : all.acc ≡ (acc + word_at s at * 2 ^ (32 - left)) % 2 ^ 64
+  all_acc : all.acc ≡ (acc + v * 2 ^ (32 - left)) % 2 ^ 64
   all_acc =
       sums acc _ _ _ _ (2 ^ 64)
       ∙ ap (λ k. (acc + k) % 2 ^ 64)
@@ -134,12 +159,12 @@ module _ (s : List ℕ) (at acc left : ℕ) (few : left < 32) (f : Four s at) wh
       (raised (get_or s (at + 2) 0) 8 (32 - left) (omega arith)))
       (ap (λ k. get_or s (at + 3) 0 * 2 ^ k) same)
       ∙ gathered (get_or s at 0) (get_or s (at + 1) 0) (get_or s (at + 2) 0) (get_or s (at + 3) 0) (2 ^ (32 - left))
-      ∙ ap (λ k. k * 2 ^ (32 - left)) (sym word_is))
+      ∙ ap (λ k. k * 2 ^ (32 - left)) (sym f.is))
     where
       same : 56 - (left + 8 + 8 + 8) ≡ 32 - left
       same = omega arith
 
-  pub four_bytes : bytes_more s 4 (cursor at acc left) ≡ cursor (at + 4) ((acc + word_at s at * 2 ^ (32 - left)) % 2 ^ 64) (left + 32)
+  pub four_bytes : bytes_more s 4 (cursor at acc left) ≡ cursor (at + 4) ((acc + v * 2 ^ (32 - left)) % 2 ^ 64) (left + 32)
   four_bytes = four_more ∙ ap₂ (λ x y. cursor (at + 4) x y) all_acc (omega arith)
 
 -- ---- `topped`
@@ -149,22 +174,16 @@ module _ (s : List ℕ) (w : Wide) where
   unfolding topped
   topped_enough h = rw (le-leb _ _ h)
 
-  module _ (few : w.left < 32) {v : ℕ} (e : v ≡ word_at s w.at) where
+  module _ (few : w.left < 32) where
     pub topped_word :
-        v < 4294967296
-        → {y acc : ℕ}
-        → y ≡ v * 2 ^ (32 - w.left)
-        → acc ≡ (w.acc + y) % 2 ^ 64
-        → cursor (w.at + 4) acc (w.left + 32) ≡ topped s w
+        {v : ℕ}
+        → v < 4294967296
+        → word_at s w.at ≡ Some v
+        → cursor (w.at + 4) ((w.acc + v * 2 ^ (32 - w.left) % 2 ^ 64) % 2 ^ 64) (w.left + 32) ≡ topped s w
     unfolding topped
-    topped_word h {y} {acc} g a =
-        let small : word_at s w.at < 4294967296 = rw e at h in
-        rw (lt-leb _ _ few, lt-ltb _ _ small)
-        (ap (λ k. cursor (w.at + 4) k (w.left + 32)) (a ∙ ap (λ k. (w.acc + k) % 2 ^ 64) (g ∙ ap (λ k. k * 2 ^ (32 - w.left)) e))
-        ∙ sym (four_bytes s w.at w.acc w.left few (four s w.at small)))
+    topped_word {v} small e =
+        rw (lt-leb _ _ few, e, shl_exact 32 (32 - w.left) 64 small (omega arith)) (sym (four_bytes s w.at w.acc w.left few (four s w.at e)))
 
-    pub topped_filled : 4294967296 ≤ v → {r : Wide} → r ≡ filled s w → r ≡ topped s w
+    pub topped_filled : word_at s w.at ≡ None → filled s w ≡ topped s w
     unfolding topped
-    topped_filled h g =
-        let large : 4294967296 ≤ word_at s w.at = rw e at h in
-        g ∙ rw (lt-leb _ _ few, le-ltb _ _ large)
+    topped_filled e = rw (lt-leb _ _ few, e)

@@ -1,6 +1,8 @@
 -- A cursor that holds up to 64 bits, the highest first: filling it up with data bytes, taking bits. All of it for any numbers that its
 -- three fields can have. And when such a cursor stands where a bit place of the file stands.
 use Rattle.std.specs.Prelude.{◌≡◌, ℕ, zero, suc, ◌+◌, ◌-◌, ◌*◌, ◌/◌, ◌%◌, ◌^◌, ◌<◌, ◌≤◌, cond, List, length, drop, ℤ, pos, ◌-ℤ◌, ◌==◌, nat_le, nat_lt, slice_index}
+use Rattle.std.specs.Prelude.{Some, None}
+use Rattle.std.specs.Prelude as Std
 use Rattle.std.proofs.Math.Option.{Option, none, some}
 use Rattle.std.proofs.Math.ListN.{get_elem?}
 use Rattle.reading.specs.declared.Bits.{Bits}
@@ -43,20 +45,25 @@ unfoldable pub filled : List ℕ → Wide → Wide
 unfolding bytes_more
 filled s w = bytes_more s 8 w
 
--- four data bytes as one number; 2^32 where there are not four, or one of them is 255
-unfoldable pub word_at : List ℕ → ℕ → ℕ
+-- four data bytes as one number, where there are four and none of them is 255
+unfoldable pub word_at : List ℕ → ℕ → Std.Option ℕ
 word_at s at =
-    cond (nat_lt (length s) (at + 4)) 4294967296
-    (cond (slice_index s at == 255) 4294967296
-    (cond (slice_index s (at + 1) == 255) 4294967296
-    (cond (slice_index s (at + 2) == 255) 4294967296
-    (cond (slice_index s (at + 3) == 255) 4294967296
-    (slice_index s at * 16777216 + slice_index s (at + 1) * 65536 + slice_index s (at + 2) * 256 + slice_index s (at + 3))))))
+    cond (nat_lt (length s) (at + 4)) None
+    (cond (slice_index s at == 255) None
+    (cond (slice_index s (at + 1) == 255) None
+    (cond (slice_index s (at + 2) == 255) None
+    (cond (slice_index s (at + 3) == 255) None
+    (Some (slice_index s at * 16777216 + slice_index s (at + 1) * 65536 + slice_index s (at + 2) * 256 + slice_index s (at + 3)))))))
 
--- where fewer than 32 bits are there: four data bytes more, or all that there is room for
+-- four data bytes more where they make a number, else all that there is room for
+abbrev pub more_by : List ℕ → Wide → Std.Option ℕ → Wide
+more_by s w (Some v) = bytes_more s 4 w
+more_by s w None = filled s w
+
+-- where fewer than 32 bits are there
 unfoldable pub topped : List ℕ → Wide → Wide
 unfolding bytes_more filled word_at
-topped s w = cond (nat_le 32 w.left) w (cond (nat_lt (word_at s w.at) 4294967296) (bytes_more s 4 w) (filled s w))
+topped s w = cond (nat_le 32 w.left) w (more_by s w (word_at s w.at))
 
 -- ---- taking
 

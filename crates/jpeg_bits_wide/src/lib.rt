@@ -22,105 +22,76 @@ impl Wide {
         ensures { result ≡ fresh at }
     {
         Self {
-            at: at,
+            at,
             acc: 0,
             left: 0,
         }
     }
 }
 
-// Four data bytes as one number; 2^32 where there are not four, or one of them is 255.
-fn word(s: &[u8], at: usize) -> u64
+// Four data bytes as one number, where there are four and none of them is 255.
+fn word(s: &[u8], at: usize) -> Option<u32>
     ensures { result ≡ word_at s.now at }
 {
-    if s.len() < 4 {
-        return 4294967296;
+    let (bytes, _) = s.get(at..)?.split_first_chunk::<4>()?;
+    if bytes.contains(&255) {
+        return None;
     }
-    if s.len() - 4 < at {
-        return 4294967296;
-    }
-    let a = s[at];
-    let b = s[at + 1];
-    let c = s[at + 2];
-    let d = s[at + 3];
-    if a == 255 {
-        return 4294967296;
-    }
-    if b == 255 {
-        return 4294967296;
-    }
-    if c == 255 {
-        return 4294967296;
-    }
-    if d == 255 {
-        return 4294967296;
-    }
-    a as u64 * 16777216 + b as u64 * 65536 + c as u64 * 256 + d as u64
+    Some(u32::from_be_bytes(*bytes))
 }
 
 // Byte by byte while there is room: to a marker, to the end, or over 56 bits. What is to come stays the same.
+// A turn goes past one byte or two, so that no `for` counts them; the cursor is in three numbers, which stay in registers.
 pub fn filled(s: &[u8], w: Wide) -> Wide
     ensures { result ≡ filled s.now w }
 {
-    let mut at = w.at;
-    let mut acc = w.acc;
-    let mut left = w.left;
-    'more: while left <= 56 {
-        if s.len() <= at {
-            break 'more;
-        }
+    let Wide {
+        mut at,
+        mut acc,
+        mut left,
+    } = w;
+    'more: while left <= 56 && at < s.len() {
         let x = s[at];
         if x == 255 {
-            if s.len() - at < 2 {
-                break 'more;
-            }
-            if s[at + 1] != 0 {
+            if s.len() - at < 2 || s[at + 1] != 0 {
                 break 'more;
             }
             at += 2;
         } else {
             at += 1;
         }
-        acc = std::num::wrapping_add_u64(acc, (x as u64) << (56 - left));
+        acc = acc.wrapping_add((x as u64) << (56 - left));
         left += 8;
     }
-    Wide {
-        at: at,
-        acc: acc,
-        left: left,
-    }
+    Wide { at, acc, left }
 }
 
 // At least 32 bits, or all that there are. What is to come stays the same.
 pub fn topped(s: &[u8], w: Wide) -> Wide
     ensures { result ≡ topped s.now w }
 {
-    let left = w.left;
-    if 32 <= left {
+    if 32 <= w.left {
         return w;
     }
-    let v = word(s, w.at);
-    if v < 4294967296 {
-        return Wide {
-            at: w.at + 4,
-            acc: std::num::wrapping_add_u64(w.acc, v << (32 - left)),
-            left: left + 32,
-        };
+    let Some(v) = word(s, w.at) else {
+        return filled(s, w);
+    };
+    Wide {
+        at: w.at + 4,
+        acc: w.acc.wrapping_add((v as u64) << (32 - w.left)),
+        left: w.left + 32,
     }
-    filled(s, w)
 }
 
 // Why no bit can be read behind `at`, where reading stopped.
 pub fn fault_at(s: &[u8], at: usize) -> Fault
     ensures { result ≡ fault_at s.now at }
 {
-    if s.len() <= at {
-        return Fault::RanOut;
+    if s.len().saturating_sub(at) < 2 {
+        Fault::RanOut
+    } else {
+        Fault::Bare
     }
-    if s.len() - at < 2 {
-        return Fault::RanOut;
-    }
-    Fault::Bare
 }
 
 // The number that the highest n bits make.
@@ -130,25 +101,25 @@ pub fn top(acc: u64, n: usize) -> usize
     if n == 0 {
         return 0;
     }
-    if 64 < n {
-        return acc as usize;
-    }
-    (acc >> (64 - n)) as usize
+    (acc >> 64usize.saturating_sub(n)) as usize
 }
 
 // What n bits that make v mean, n the low four bits of `size`: a symbol can be given for its size. Negative in the lower half.
+// jpeg_block_value has a `meant` of its own, which requires that the bits fit; a public function requires nothing, and this one tests nothing.
 pub fn meant(v: u16, size: usize) -> i32
     ensures { result ≡ meant_by (size % 16) v }
 {
     let x = v as usize;
     let span = 1usize << (size % 16);
     if 2 * x < span {
-        return (x + 1) as i32 - span as i32;
+        (x + 1) as i32 - span as i32
+    } else {
+        x as i32
     }
-    x as i32
 }
 
 // The bit place of a cursor that has at most seven bits, as the plain engine keeps it: markers and the end are looked for there.
+#[tactic(auto, unfolding(crate::specs::Cursor::narrowed))]
 pub fn narrow(w: Wide) -> Bits
     ensures { result ≡ narrowed w }
 {

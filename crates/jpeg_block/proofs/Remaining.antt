@@ -12,6 +12,7 @@ use lib.ListN.{length, take, set, length-set}
 use lib.Seq.{take_all, take-suc-set}
 use lib.IntN.{ℤ, ◌+ℤ◌}
 use borrow.Author.Tests.{le-leb, lt-leb, ne_eqb}
+use Rattle.std.specs.Result.{is_err}
 use Rattle.reading.specs.declared.Bits.{Bits}
 use Rattle.reading.specs.declared.Fault.{Fault}
 use Rattle.reading.specs.Reader.{Read, got, fault, Reader, onward, ◌>>=◌, give, rule}
@@ -19,12 +20,16 @@ use Rattle.reading.specs.Bits.{one, amplitude}
 use Rattle.reading.specs.Huffman.{table_at, symbol}
 use Rattle.reading.specs.Block.{Ask, end, skip, value, wrong, asked, answered, zeros, first, rest, block, predictable}
 use Rattle.reading.specs.Code.Places.{extent, places}
+use Rattle.reading.specs.Code.Answers.{said, levels_or, levels_of}
 use Rattle.jpeg_block.specs.Step.{ask_at, Step, ends, skips, puts, level_at, value_at, step_for, stepped}
 use Rattle.jpeg_block.proofs.Steps.{Possible, asked_possible, Puts, leads}
 use Rattle.reading.proofs.Reach.{reach_all, reach_take, reach_put, Reached, reached_put}
 
 -- two readings one after the other, the answers put together
-give_twice : {A B : Type 0} (o : Read Bits A) (f g : A → B) (h : B → B) → ((a : A) → h (f a) ≡ g a) → onward (onward o (λ a. give (f a))) (λ b. give (h b)) ≡ onward o (λ a. give (g a))
+give_twice :
+    {A B : Type 0} (o : Read Bits A) (f g : A → B) (h : B → B)
+    → ((a : A) → h (f a) ≡ g a)
+    → onward (onward o (λ a. give (f a))) (λ b. give (h b)) ≡ onward o (λ a. give (g a))
 give_twice (got a s) f g h e = ap (λ x. got x s) (e a)
 give_twice (fault x) f g h e = refl
 
@@ -52,7 +57,10 @@ module _ (t s : List ℕ) (dc ac : ℕ) (p : ℤ) where
   unfolding block remaining
   begins b = refl
 
-  remaining_later : (n place : ℕ) (l : List ℤ) (q : Bits) → 0 < place → remaining n place l q ≡ onward (later n place q) (λ m. give (take place l ++ m))
+  remaining_later :
+      (n place : ℕ) (l : List ℤ) (q : Bits)
+      → 0 < place
+      → remaining n place l q ≡ onward (later n place q) (λ m. give (take place l ++ m))
   unfolding remaining
   remaining_later n zero l q h = absurd (not-suc-le-zero h)
   remaining_later n (suc k) l q h = refl
@@ -80,7 +88,9 @@ module _ (t s : List ℕ) (dc ac : ℕ) (p : ℤ) where
   unfolding remaining stepped ask_at value_at
   first_step n l q h = start (symbol (one s) (table_at t dc) q)
     where
-      level : (x : Bool) (z : ℤ) (r : Bits) → onward (onward (rule x r) (λ _. give z)) (behind (n - 1)) ≡ onward (onward (rule x r) (λ _. give (puts 0 z))) (led (n - 1) 0 l)
+      level : (x : Bool) (z : ℤ) (r : Bits)
+          → onward (onward (rule x r) (λ _. give z)) (behind (n - 1))
+          ≡ onward (onward (rule x r) (λ _. give (puts 0 z))) (led (n - 1) 0 l)
       level true z r = ap (λ front. onward (later (n - 1) 1 r) (λ m. give (front ++ m))) (sym (take-suc-set l 0 z h))
       level false z r = refl
 
@@ -88,11 +98,15 @@ module _ (t s : List ℕ) (dc ac : ℕ) (p : ℤ) where
       difference (fault x) = refl
       difference (got d r) = level (predictable (p +ℤ d)) (p +ℤ d) r
 
-      category : (x : Bool) (c : ℕ) (r : Bits) → onward (onward (rule x r) (λ _. different c)) (behind (n - 1)) ≡ onward (step_for (one s) 0 p (cond x (value 0 c) wrong) r) (led (n - 1) 0 l)
+      category : (x : Bool) (c : ℕ) (r : Bits)
+          → onward (onward (rule x r) (λ _. different c)) (behind (n - 1))
+          ≡ onward (step_for (one s) 0 p (cond x (value 0 c) wrong) r) (led (n - 1) 0 l)
       category true c r = difference (amplitude (one s) c r)
       category false c r = refl
 
-      start : (o : Read Bits ℕ) → onward (onward o (λ c. rule (leb c 11) >>= λ _. different c)) (behind (n - 1)) ≡ onward (onward o (λ x. step_for (one s) 0 p (ask_at 0 x))) (led (n - 1) 0 l)
+      start : (o : Read Bits ℕ)
+          → onward (onward o (λ c. rule (leb c 11) >>= λ _. different c)) (behind (n - 1))
+          ≡ onward (onward o (λ x. step_for (one s) 0 p (ask_at 0 x))) (led (n - 1) 0 l)
       start (fault x) = refl
       start (got c r) = category (leb c 11) c r
 
@@ -116,8 +130,11 @@ module _ (t s : List ℕ) (dc ac : ℕ) (p : ℤ) where
         go (fault x) = refl
         go (got v r) =
             let far : eqb (place + run) 0 ≡ false = ne_eqb (place + run) 0 (λ e. let z : ⊥ = omega arith in z) in
-            give_twice (later n (place + run + 1) r) (λ m. zeros run ++ v ∷ m) (λ m. take (place + run + 1) (set l (place + run) v) ++ m) (λ m. take place l ++ m)
-            (λ m. ap (λ x. take place l ++ x) (sym (append_assoc (zeros run) (v ∷ []) m)) ∙ sym (append_assoc (take place l) (zeros run ++ (v ∷ [])) m) ∙ ap (λ front. front ++ m) (sym (reach_put l place quiet run v (omega (arith, f.inside)))))
+            give_twice (later n (place + run + 1) r) (λ m. zeros run ++ v ∷ m)
+            (λ m. take (place + run + 1) (set l (place + run) v) ++ m) (λ m. take place l ++ m)
+            (λ m. ap (λ x. take place l ++ x) (sym (append_assoc (zeros run) (v ∷ []) m))
+            ∙ sym (append_assoc (take place l) (zeros run ++ (v ∷ [])) m)
+            ∙ ap (λ front. front ++ m) (sym (reach_put l place quiet run v (omega (arith, f.inside)))))
             ∙ sym (remaining_later n (place + run + 1) (set l (place + run) v) r (omega arith))
             ∙ rw far
 
@@ -155,14 +172,25 @@ pub record Walk (t s : List ℕ) (dc ac : ℕ) (p : ℤ) (b here : Bits) (place 
 
 pub begun : (t s : List ℕ) (dc ac : ℕ) (p : ℤ) (b : Bits) → Walk t s dc ac p b b 0 1 (zeros 64)
 unfolding places
-begun t s dc ac p b = record { left = 64; within = omega arith; enough = omega arith; long = refl; quiet = omega arith; many = refl; same = begins t s dc ac p b }
+begun t s dc ac p b = record {
+  left = 64;
+  within = omega arith;
+  enough = omega arith;
+  long = refl;
+  quiet = omega arith;
+  many = refl;
+  same = begins t s dc ac p b;
+}
 
 module _ {t s : List ℕ} {dc ac : ℕ} {p : ℤ} {b here : Bits} {place reach : ℕ} {levels : List ℤ} (w : Walk t s dc ac p b here place reach levels) where
   pub at_64 : 64 ≤ place → block (one s) (table_at t dc) (table_at t ac) p b ≡ got levels here
   at_64 h = w.same ∙ remaining_none t s dc ac p w.left place levels here h w.long
 
   module _ (h : place < 64) {base : ℕ} (u : base ≡ cond (eqb place 0) dc ac) where
-    on : {x : Read Bits Step} → stepped (one s) (table_at t base) place p here ≡ x → block (one s) (table_at t dc) (table_at t ac) p b ≡ onward x (led t s dc ac p (w.left - 1) place levels)
+    on :
+        {x : Read Bits Step}
+        → stepped (one s) (table_at t base) place p here ≡ x
+        → block (one s) (table_at t dc) (table_at t ac) p b ≡ onward x (led t s dc ac p (w.left - 1) place levels)
     on g =
         w.same ∙ one_step t s dc ac p w.left place levels here (omega (arith, w.enough)) h w.long w.quiet
         ∙ ap (λ o. onward o (led t s dc ac p (w.left - 1) place levels)) (ap (λ k. stepped (one s) (table_at t k) place p here) (sym u) ∙ g)
@@ -170,7 +198,10 @@ module _ {t s : List ℕ} {dc ac : ℕ} {p : ℤ} {b here : Bits} {place reach :
     pub stopped : {f : Fault} → stepped (one s) (table_at t base) place p here ≡ fault f → block (one s) (table_at t dc) (table_at t ac) p b ≡ fault f
     stopped g = on g
 
-    pub ended : {q : Bits} → stepped (one s) (table_at t base) place p here ≡ got ends q → block (one s) (table_at t dc) (table_at t ac) p b ≡ got levels q
+    pub ended :
+        {q : Bits}
+        → stepped (one s) (table_at t base) place p here ≡ got ends q
+        → block (one s) (table_at t dc) (table_at t ac) p b ≡ got levels q
     ended g = on g
 
     module _ {q : Bits} (g : stepped (one s) (table_at t base) place p here ≡ got skips q) where
@@ -207,3 +238,15 @@ module _ {t s : List ℕ} {dc ac : ℕ} {p : ℤ} {b here : Bits} {place reach :
             many = reached.many;
             same = on g;
           }
+
+-- ---- what a block leaves behind
+
+pub left_refused : (r : Read Bits (List ℤ)) → is_err (said r) ≡ true → zeros 64 ≡ levels_of r
+unfolding said levels_of levels_or
+left_refused (got l b) h = cc
+left_refused (fault f) h = refl
+
+pub left_read : (r : Read Bits (List ℤ)) {l : List ℤ} → is_err (said r) ≡ false → l ≡ levels_or r l → l ≡ levels_of r
+unfolding said levels_of levels_or
+left_read (got l b) h e = e
+left_read (fault f) h e = cc

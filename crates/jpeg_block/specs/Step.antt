@@ -1,7 +1,7 @@
 -- One step of the walk over a block: a symbol, what it asks for, and the level that its value makes. The first level is read by
 -- the same step, at place 0.
-use Rattle.std.specs.Prelude.{ℕ, ◌+◌, cond, eqb, ℤ, ◌+ℤ◌}
-use Rattle.reading.specs.declared.Bits.{Bits}
+use Rattle.std.specs.Prelude.{ℕ, ◌+◌, cond, eqb, ℤ, ◌+ℤ◌, Result, Ok, Err}
+use Rattle.reading.specs.declared.Fault.{Fault}
 use Rattle.reading.specs.declared.Fault.TheVariants.{Broken}
 use Rattle.reading.specs.Reader.{Read, got, fault, Reader, ◌>>=◌, ◌>>◌, give, fail, rule}
 use Rattle.reading.specs.Bits.{amplitude}
@@ -9,18 +9,19 @@ use Rattle.reading.specs.Huffman.{Table, symbol}
 use Rattle.reading.specs.Block.{Ask, end, skip, value, wrong, dc_taken, asked, predictable}
 use Rattle.jpeg_block.specs.declared.Asked.{Asked}
 use Rattle.jpeg_block.specs.declared.Asked.TheVariants as asked
-use Rattle.jpeg_block.specs.declared.StepRead.{StepRead}
-use Rattle.jpeg_block.specs.declared.StepRead.TheVariants as read
+use Rattle.jpeg_block.specs.declared.Step as declared
+use Rattle.jpeg_block.specs.declared.Step.TheVariants as read
 
 -- what a symbol asks for: the first one is a category
 unfoldable pub ask_at : ℕ → ℕ → Ask
 ask_at place x = cond (eqb place 0) (cond (dc_taken x) (value 0 x) wrong) (asked place x)
 
-abbrev pub asked_for : Asked → Ask
-asked_for asked.End = end
-asked_for asked.Skip = skip
-asked_for (asked.Value run size) = value run size
-asked_for asked.Wrong = wrong
+-- the code's answer for it
+abbrev pub asked_for : Ask → Result Asked Fault
+asked_for end = Ok asked.End
+asked_for skip = Ok asked.Skip
+asked_for (value run size) = Ok (asked.Value run size)
+asked_for wrong = Err Broken
 
 -- what a symbol and its value make
 pub data Step : Type 0 where
@@ -28,11 +29,11 @@ pub data Step : Type 0 where
   skips : Step
   puts : ℕ → ℤ → Step
 
-abbrev pub step_read : StepRead → Read Bits Step
-step_read (read.End b) = got ends b
-step_read (read.Skip b) = got skips b
-step_read (read.Put at z b) = got (puts at z) b
-step_read (read.Stop f) = fault f
+abbrev pub step_read : {P : Type 0} → Result (declared.Step P) Fault → Read P Step
+step_read (Ok (read.End b)) = got ends b
+step_read (Ok (read.Skip b)) = got skips b
+step_read (Ok (read.Put at z b)) = got (puts at z) b
+step_read (Err f) = fault f
 
 -- the level that v makes at a place: the first is added to the prediction p
 abbrev pub level_at : {S : Type 0} → ℕ → ℤ → ℤ → Reader S Step

@@ -7,15 +7,14 @@ use native.Mathlib.Omega.{arith}
 use lib.Pow.{pow_pos}
 use lib.IntN.{ℤ, pos, sub_ℕ, nat_abs, ◌-ℤ◌}
 use borrow.Author.Tests.{lt-ltb, le-ltb, le-leb}
+use Rattle.std.specs.Prelude.{Result, Ok, Err}
 use Rattle.reading.specs.declared.Bits.{Bits}
 use Rattle.reading.specs.declared.Fault.{Fault}
-use Rattle.reading.specs.declared.NumberRead.{NumberRead}
-use Rattle.reading.specs.declared.NumberRead.TheVariants as number
 use Rattle.reading.specs.Reader.{got, fault, give}
 use Rattle.reading.specs.Bits.{one, meaning, field, amplitude}
 use Rattle.reading.specs.Code.Fields.{short_field, short_amplitude}
 use Rattle.reading.specs.Settled.{size}
-use Rattle.reading.specs.Code.Answers.{number_read}
+use Rattle.reading.specs.Code.Answers.{read_of}
 use Rattle.reading.proofs.Readings.{two, got_val}
 use Rattle.reading.proofs.FineRead.{file_bits, field_below, meaning_below}
 use Rattle.reading.proofs.WantOfCode.{size_meaning}
@@ -36,12 +35,12 @@ meaning_high v (suc n) below h = rw (le-ltb v (2 ^ n) (omega (arith, pow-suc 2 n
 
 -- ---- an amplitude
 
-module _ (s : List ℕ) (b : Bits) (n : ℕ) {r : NumberRead} (e : number_read r ≡ short_field (one s) n b) where
-  pub amplitude_is : {v : ℕ} {q : Bits} → r ≡ number.Got v q → short_amplitude (one s) n b ≡ got (meaning n v) q
+module _ (s : List ℕ) (b : Bits) (n : ℕ) {r : Result (ℕ × Bits) Fault} (e : read_of r ≡ short_field (one s) n b) where
+  pub amplitude_is : {v : ℕ} {q : Bits} → r ≡ Ok (v, q) → short_amplitude (one s) n b ≡ got (meaning n v) q
   unfolding short_amplitude
   amplitude_is g = rw (← e, g)
 
-  pub amplitude_cut : {f : Fault} → r ≡ number.Stop f → short_amplitude (one s) n b ≡ fault f
+  pub amplitude_cut : {f : Fault} → r ≡ Err f → short_amplitude (one s) n b ≡ fault f
   unfolding short_amplitude
   amplitude_cut g = rw (← e, g)
 

@@ -6,9 +6,9 @@ ghost use Rattle.std.specs.Prelude.{◌≡◌, ◌<◌, ◌≤◌, ◌^◌};
 ghost use Rattle.reading.specs.Bits.{one, meaning};
 ghost use Rattle.reading.specs.Code.Fields.{short_amplitude};
 ghost use Rattle.reading.specs.Block.{predictable};
-ghost use Rattle.reading.specs.Code.Answers.{amplitude_read};
+ghost use Rattle.reading.specs.Code.Answers.{read_of};
 
-use reading::{AmplitudeRead, Bits, Level, NumberRead};
+use reading::{Bits, Fault, Level};
 
 // What n bits that make v mean: negative in the lower half. With no bits v is 0, and so is what it means.
 fn meant(v: usize, n: usize) -> i32
@@ -23,13 +23,11 @@ fn meant(v: usize, n: usize) -> i32
 }
 
 // n bits, at most 16, as the number that they mean.
-pub fn amplitude(s: &[u8], b: Bits, n: usize) -> AmplitudeRead
-    ensures { amplitude_read result ≡ short_amplitude (one s.now) n b }
+pub fn amplitude(s: &[u8], b: Bits, n: usize) -> Result<(i32, Bits), Fault>
+    ensures { read_of result ≡ short_amplitude (one s.now) n b }
 {
-    match jpeg_bits::read(s, b, n) {
-        NumberRead::Stop(f) => AmplitudeRead::Stop(f),
-        NumberRead::Got(v, q) => AmplitudeRead::Got(meant(v, n), q),
-    }
+    let (v, after) = jpeg_bits::read(s, b, n)?;
+    Ok((meant(v, n), after))
 }
 
 // A first level can predict the next one.

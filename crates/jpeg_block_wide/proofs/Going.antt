@@ -11,13 +11,14 @@ use lib.ListN.{get_or, set}
 use borrow.Author.Tests.{ne_eqb}
 use Rattle.reading.specs.declared.Bits.{Bits}
 use Rattle.reading.specs.declared.Fault.{Fault}
+use Rattle.std.specs.Prelude.{Result, Ok, Err}
 use Rattle.reading.specs.Reader.{Read, got, fault, Reader, onward}
 use Rattle.reading.specs.Bits.{one, amplitude, meaning}
 use Rattle.reading.specs.Huffman.{Table, table_at, symbol}
 use Rattle.reading.specs.Block.{Ask, end, skip, value, wrong, block}
 use Rattle.reading.specs.Code.Places.{places}
 use Rattle.reading.proofs.FileBytes.{AllBytes}
-use Rattle.jpeg_block.specs.Step.{ask_at, level_at, value_at, step_for, stepped}
+use Rattle.jpeg_block.specs.Step.{ask_at, level_at, value_at, step_read, step_for, stepped}
 use Rattle.jpeg_block.proofs.Steps.{level_later}
 use Rattle.jpeg_block.proofs.Remaining.{Walk, begun, at_64, stopped, ended, skipped, put}
 use Rattle.jpeg_bits_wide.specs.declared.Wide.{Wide}
@@ -25,11 +26,10 @@ use Rattle.jpeg_bits_wide.specs.Cursor.{Meets, topped, meant_by}
 use Rattle.jpeg_bits_wide.proofs.Coming.{acc_fits}
 use Rattle.jpeg_bits_wide.proofs.Meeting.{topped_meets}
 use Rattle.jpeg_huffman_table.specs.Looks.{entry_at, looked, field_at}
-use Rattle.jpeg_block_wide.specs.declared.WideStep.{WideStep}
-use Rattle.jpeg_block_wide.specs.declared.WideStep.TheVariants as step
-use Rattle.jpeg_block_wide.specs.declared.WideRead.TheVariants.{Got, Stop}
-use Rattle.jpeg_block_wide.specs.Blocks.{Looks, Agree, step_of, SameStep, BlockAlike, Opened}
-use Rattle.jpeg_block_wide.proofs.Stepping.{cursor_at, same_meets}
+use Rattle.jpeg_block.specs.declared.Step as code
+use Rattle.jpeg_block.specs.declared.Step.TheVariants.{End, Skip, Put}
+use Rattle.jpeg_block_wide.specs.Blocks.{Looks, Agree, SameStep, BlockAlike, Opened}
+use Rattle.jpeg_block_wide.proofs.Stepping.{cursor_at}
 use Rattle.jpeg_block_wide.proofs.Looking.{looked_value, looked_cursor, later_looked, later_end}
 
 -- behind the first place no step asks for the prediction
@@ -62,11 +62,11 @@ module _ (s : List ℕ) {o : Read Bits (List ℤ)} (levels : List ℤ) where
       → z ≡ get_or levels 0 (pos 0)
       → places levels ≡ n
       → Meets s q w
-      → BlockAlike s o (Got w z n) levels
-  alike_read {q} {w} z n e f g m = subst⁻¹ (λ r. BlockAlike s r (Got w z n) levels) e (refl, f, sym g, m)
+      → BlockAlike s o (Ok (record { after = w; first = z; reach = n })) levels
+  alike_read {q} {w} z n e f g m = subst⁻¹ (λ r. BlockAlike s r (Ok (record { after = w; first = z; reach = n })) levels) e (refl, f, sym g, m)
 
-  pub alike_stopped : {f : Fault} → o ≡ fault f → BlockAlike s o (Stop f) levels
-  alike_stopped {f} e = subst⁻¹ (λ r. BlockAlike s r (Stop f) levels) e refl
+  pub alike_stopped : {f : Fault} → o ≡ fault f → BlockAlike s o (Err f) levels
+  alike_stopped {f} e = subst⁻¹ (λ r. BlockAlike s r (Err f) levels) e refl
 
 -- the plain walk stands at a bit place that meets the cursor
 pub record Going (t s : List ℕ) (dc ac : ℕ) (p : ℤ) (b : Bits) (at acc left place reach : ℕ) (levels : List ℤ) : Type 0 where
@@ -85,16 +85,6 @@ set_out {t} {ac} {s = s} o =
       meets = o.meets;
     }
 
--- the same cursor
-pub same_going :
-    {t s : List ℕ} {dc ac : ℕ} {p : ℤ} {b : Bits} {at acc left at' acc' left' place reach : ℕ} {levels : List ℤ}
-    → at' ≡ at
-    → acc' ≡ acc
-    → left' ≡ left
-    → Going t s dc ac p b at acc left place reach levels
-    → Going t s dc ac p b at' acc' left' place reach levels
-same_going e f h g = record { here = g.here; walk = g.walk; meets = same_meets e f h g.meets }
-
 module _ {t s : List ℕ} {dc ac : ℕ} {p : ℤ} {b : Bits} {at acc left place reach : ℕ} {levels : List ℤ} (g : Going t s dc ac p b at acc left place reach levels) where
   -- at place 64
   pub arrived :
@@ -102,7 +92,7 @@ module _ {t s : List ℕ} {dc ac : ℕ} {p : ℤ} {b : Bits} {at acc left place 
       → {w : Wide} (z : ℤ)
       → w ≡ cursor_at at acc left
       → z ≡ get_or levels 0 (pos 0)
-      → BlockAlike s (block (one s) (table_at t dc) (table_at t ac) p b) (Got w z reach) levels
+      → BlockAlike s (block (one s) (table_at t dc) (table_at t ac) p b) (Ok (record { after = w; first = z; reach = reach })) levels
   arrived h {w} z e f = alike_read s levels z reach (at_64 g.walk h) f g.walk.many (subst⁻¹ (Meets s g.here) e g.meets)
 
   -- filled up
@@ -118,28 +108,28 @@ module _ {t s : List ℕ} {dc ac : ℕ} {p : ℤ} {b : Bits} {at acc left place 
     at_prediction = later_any (one s) (table_at t ac) place p (pos 0) g.here later
 
     -- ---- by the plain walk
-    module _ {r : WideStep} {w : Wide} (e : w ≡ cursor_at at acc left) (same : SameStep t ac s w place (pos 0) r) where
-      agrees : {x : WideStep} → r ≡ x → Agree s (stepped (one s) (table_at t ac) place (pos 0) g.here) (step_of x)
-      agrees f = subst (λ y. Agree s (stepped (one s) (table_at t ac) place (pos 0) g.here) (step_of y)) f (same g.here (subst⁻¹ (Meets s g.here) e g.meets))
+    module _ {r : Result (code.Step Wide) Fault} {w : Wide} (e : w ≡ cursor_at at acc left) (same : SameStep t ac s w place (pos 0) r) where
+      agrees : {x : Result (code.Step Wide) Fault} → r ≡ x → Agree s (stepped (one s) (table_at t ac) place (pos 0) g.here) (step_read x)
+      agrees f = subst (λ y. Agree s (stepped (one s) (table_at t ac) place (pos 0) g.here) (step_read y)) f (same g.here (subst⁻¹ (Meets s g.here) e g.meets))
 
-      pub plain_stop : {f : Fault} → r ≡ step.Stop f → BlockAlike s (block (one s) (table_at t dc) (table_at t ac) p b) (Stop f) levels
+      pub plain_stop : {f : Fault} → r ≡ Err f → BlockAlike s (block (one s) (table_at t dc) (table_at t ac) p b) (Err f) levels
       plain_stop {f} i = alike_stopped s levels (stopped g.walk h by_table (at_prediction ∙ agrees i))
 
       pub plain_end :
           {q : Wide} (z : ℤ)
-          → r ≡ step.End q
+          → r ≡ Ok (End q)
           → z ≡ get_or levels 0 (pos 0)
-          → BlockAlike s (block (one s) (table_at t dc) (table_at t ac) p b) (Got q z reach) levels
+          → BlockAlike s (block (one s) (table_at t dc) (table_at t ac) p b) (Ok (record { after = q; first = z; reach = reach })) levels
       plain_end z i k =
           let a = agrees i in
           alike_read s levels z reach (ended g.walk h by_table (at_prediction ∙ a.is)) k g.walk.many a.meets
 
-      pub plain_skip : {q : Wide} → r ≡ step.Skip q → Going t s dc ac p b q.at q.acc q.left (place + 16) reach levels
+      pub plain_skip : {q : Wide} → r ≡ Ok (Skip q) → Going t s dc ac p b q.at q.acc q.left (place + 16) reach levels
       plain_skip i =
           let a = agrees i in
           record { here = a.behind; walk = skipped g.walk h by_table (at_prediction ∙ a.is); meets = a.meets }
 
-      pub plain_put : {n : ℕ} {z : ℤ} {q : Wide} → r ≡ step.Put n z q → Going t s dc ac p b q.at q.acc q.left (n + 1) (n + 1) (set levels n z)
+      pub plain_put : {n : ℕ} {z : ℤ} {q : Wide} → r ≡ Ok (Put n z q) → Going t s dc ac p b q.at q.acc q.left (n + 1) (n + 1) (set levels n z)
       plain_put {n} {z} i =
           let a = agrees i in
           record { here = a.behind; walk = put g.walk h by_table (at_prediction ∙ a.is); meets = a.meets }
@@ -172,7 +162,7 @@ module _ {t s : List ℕ} {dc ac : ℕ} {p : ℤ} {b : Bits} {at acc left place 
           → {w : Wide} (z : ℤ)
           → w ≡ cursor_at at (acc * 2 ^ (e / 256 % 64) % 2 ^ 64) (left - e / 256)
           → z ≡ get_or levels 0 (pos 0)
-          → BlockAlike s (block (one s) (table_at t dc) (table_at t ac) p b) (Got w z reach) levels
+          → BlockAlike s (block (one s) (table_at t dc) (table_at t ac) p b) (Ok (record { after = w; first = z; reach = reach })) levels
       look_end none z i k =
           let a = later_end g.meets t ac entry some there place p later none in
           alike_read s levels z reach (ended g.walk h by_table a.is) k g.walk.many

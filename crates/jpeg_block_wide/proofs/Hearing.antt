@@ -8,6 +8,8 @@ use lib.ListN.{get_or}
 use Rattle.reading.specs.declared.Bits.{Bits}
 use Rattle.reading.specs.declared.Fault.{Fault}
 use Rattle.reading.specs.declared.Fault.TheVariants.{Broken}
+use Rattle.std.specs.Prelude.{Result, Ok, Err}
+use Rattle.reading.specs.declared.BlockRead.{BlockRead}
 use Rattle.reading.specs.Reader.{Read, got, fault}
 use Rattle.reading.specs.Bits.{one}
 use Rattle.reading.specs.Huffman.{Table, table_at}
@@ -19,32 +21,30 @@ use Rattle.reading.proofs.Unstuffed.{Pending, one_alike}
 use Rattle.jpeg_bits_wide.specs.declared.Wide.{Wide}
 use Rattle.jpeg_bits_wide.specs.Cursor.{to_come, Meets}
 use Rattle.jpeg_bits_wide.proofs.Meeting.{pending_there}
-use Rattle.jpeg_block_wide.specs.declared.WideRead.{WideRead}
-use Rattle.jpeg_block_wide.specs.declared.WideRead.TheVariants as read
 use Rattle.jpeg_block_wide.specs.Blocks.{BlockAlike, BlockMeets, Said, saying, told, heard, Sound, Begun, Promised}
 
 -- ---- from alike to what is promised
 
 alike_told :
-    (s : List ℕ) (x : Read Bits (List ℤ)) (r : WideRead) (levels : List ℤ)
+    (s : List ℕ) (x : Read Bits (List ℤ)) (r : Result (BlockRead Wide) Fault) (levels : List ℤ)
     → BlockAlike s x r levels
     → (told s r levels ≡ heard s x) × Sound r
 unfolding heard
-alike_told s (got l b) (read.Got w z k) levels h = (both h.0 h.1 h.2 h.3.same, h.3.proper)
+alike_told s (got l b) (Ok r) levels h = (both h.0 h.1 h.2 h.3.same, h.3.proper)
   where
     both :
         levels ≡ l
-        → z ≡ get_or l 0 (pos 0)
-        → k ≡ places l
-        → to_come s w ≡ pending s b
-        → got (saying levels z k) (to_come s w) ≡ got (saying l (get_or l 0 (pos 0)) (places l)) (pending s b)
+        → r.first ≡ get_or l 0 (pos 0)
+        → r.reach ≡ places l
+        → to_come s r.after ≡ pending s b
+        → got (saying levels r.first r.reach) (to_come s r.after) ≡ got (saying l (get_or l 0 (pos 0)) (places l)) (pending s b)
     both u v x y = cc
-alike_told s (got l b) (read.Stop f) levels h = absurd h
-alike_told s (fault f) (read.Got w z k) levels h = absurd h
-alike_told s (fault f) (read.Stop g) levels h = (ap fault (sym h), tt)
+alike_told s (got l b) (Err f) levels h = absurd h
+alike_told s (fault f) (Ok r) levels h = absurd h
+alike_told s (fault f) (Err g) levels h = (ap fault (sym h), tt)
 
 pub promised :
-    (t : List ℕ) (dc ac : ℕ) (look : List ℕ) (c : ℕ) (s : List ℕ) (from : Wide) (p : ℤ) (r : WideRead) (levels : List ℤ)
+    (t : List ℕ) (dc ac : ℕ) (look : List ℕ) (c : ℕ) (s : List ℕ) (from : Wide) (p : ℤ) (r : Result (BlockRead Wide) Fault) (levels : List ℤ)
     → BlockMeets t dc ac look c s from p r levels
     → Promised t dc ac look c s from p r levels
 unfolding BlockMeets
@@ -96,24 +96,24 @@ behind_few s dc ac p m (fault f) e y h l' q g = absurd (true≢false (sym (ap th
     there (fault f) = false
 
 told_alike :
-    (s : List ℕ) (x : Read Bits (List ℤ)) (r : WideRead) (levels : List ℤ)
+    (s : List ℕ) (x : Read Bits (List ℤ)) (r : Result (BlockRead Wide) Fault) (levels : List ℤ)
     → ((l : List ℤ) (q : Bits) → x ≡ got l q → q.left < 8)
     → told s r levels ≡ heard s x
     → Sound r
     → BlockAlike s x r levels
 unfolding heard said_in place_in is_got fault_in
-told_alike s (got l b) (read.Got w z k) levels few e sound = (
+told_alike s (got l b) (Ok r) levels few e sound = (
   ap (λ y. (said_in y).levels) e,
   ap (λ y. (said_in y).first) e,
   ap (λ y. (said_in y).reach) e,
   record { proper = sound; same = ap place_in e; few = few l b refl },
 )
-told_alike s (got l b) (read.Stop f) levels few e sound = absurd (true≢false (sym (ap is_got e)))
-told_alike s (fault f) (read.Got w z k) levels few e sound = absurd (true≢false (ap is_got e))
-told_alike s (fault f) (read.Stop g) levels few e sound = sym (ap fault_in e)
+told_alike s (got l b) (Err f) levels few e sound = absurd (true≢false (sym (ap is_got e)))
+told_alike s (fault f) (Ok r) levels few e sound = absurd (true≢false (ap is_got e))
+told_alike s (fault f) (Err g) levels few e sound = sym (ap fault_in e)
 
 pub meets_block :
-    (t : List ℕ) (dc ac : ℕ) (look : List ℕ) (c : ℕ) (s : List ℕ) (from : Wide) (p : ℤ) (r : WideRead) (levels : List ℤ)
+    (t : List ℕ) (dc ac : ℕ) (look : List ℕ) (c : ℕ) (s : List ℕ) (from : Wide) (p : ℤ) (r : Result (BlockRead Wide) Fault) (levels : List ℤ)
     → Promised t dc ac look c s from p r levels
     → BlockMeets t dc ac look c s from p r levels
 unfolding BlockMeets

@@ -8,15 +8,17 @@ use native.Mathlib.Nat.{mod-lt, mod-eq_of_lt}
 use lib.Dec.{leb, ltb, eqb, lit≤}
 use lib.IntN.{ℤ}
 use lib.Pow.{pow_pos, shr_lt}
-use borrow.Author.Tests.{leb-true, eqb-true, ltb-true, ltb-false, eq-eqb, ne_eqb, lt-ltb}
+use borrow.Author.Tests.{leb-true, eqb-true, ltb-true, eq-eqb, ne_eqb, lt-ltb}
 use Rattle.reading.specs.declared.Bits.{Bits}
-use Rattle.reading.specs.declared.NumberRead.TheVariants as number
+use Rattle.std.specs.Prelude.{Result, Ok}
+use Rattle.reading.specs.declared.Fault.{Fault}
 use Rattle.reading.specs.Bits.{one, meaning}
 use Rattle.reading.specs.Huffman.{table_at, symbol}
 use Rattle.reading.specs.Block.{end, value, ac_taken, dc_taken}
 use Rattle.reading.specs.Tests.{◌and◌, ◌or◌}
 use Rattle.jpeg_block.specs.declared.Asked.TheVariants as asked
-use Rattle.jpeg_block.specs.Step.{ask_at, ends, puts, level_at, stepped}
+use Rattle.jpeg_block.specs.declared.Step as code
+use Rattle.jpeg_block.specs.Step.{asked_for, step_read, ask_at, ends, puts, level_at, stepped}
 use Rattle.jpeg_block.proofs.Steps.{ask_inside, level_later, step_end, step_value}
 use Rattle.jpeg_bits_wide.specs.declared.Wide.{Wide}
 use Rattle.jpeg_bits_wide.specs.Cursor.{Meets, taken, meant_by}
@@ -26,8 +28,7 @@ use Rattle.jpeg_huffman_table.specs.Looks.{allowed, entry_at, looked, field_at}
 use Rattle.jpeg_huffman_table.proofs.Entries.{field_is}
 use Rattle.jpeg_huffman_table.proofs.Looking.{Entry, entry_says}
 use Rattle.jpeg_huffman_table.proofs.Meeting.{symbol_allowed, symbol_looked, value_looked}
-use Rattle.jpeg_block_wide.specs.declared.WideStep.{WideStep}
-use Rattle.jpeg_block_wide.specs.Blocks.{part_of, serving, ending, Reads, Agree, step_of, FirstMeets}
+use Rattle.jpeg_block_wide.specs.Blocks.{part_of, serving, ending, Reads, Agree, FirstMeets}
 use Rattle.jpeg_block_wide.proofs.Values.{means}
 use Rattle.jpeg_block_wide.proofs.Stepping.{cursor_at, read_at, agree_from, same_level, value_agrees}
 
@@ -41,13 +42,6 @@ part_looks look c d acc = go (ltb 3 c) refl
     go : (t : Bool) → ltb 3 c ≡ t → looked 9 look (cond t 4096 (1024 * c) + d) acc ≡ looked 9 look (1024 * c + d) acc
     go true e = rw (lt-ltb 3584 (4096 + d) (omega arith), lt-ltb 3584 (1024 * c + d) (omega (arith, ltb-true 3 c e)))
     go false e = refl
-
-pub part_small : (c : ℕ) → part_of c ≤ 4096
-part_small c = go (ltb 3 c) refl
-  where
-    go : (t : Bool) → ltb 3 c ≡ t → cond t 4096 (1024 * c) ≤ 4096
-    go true e = omega arith
-    go false e = omega (arith, ltb-false 3 c e)
 
 -- ---- the code's tests
 
@@ -172,14 +166,14 @@ module _
       let q = symbol_there in
       let v = value_looked m 9 (lit≤ tt) first (table_at t base) is not_none there q.related in
       agree_from s (level_at (place + run) p (meaning (e % 16) (w.acc / 2 ^ (64 - e / 256) % 2 ^ (e % 16))) (taken (e / 256) w))
-      (step_value t s base b place p {r = number.Got (e % 256) q.place} (sym q.is) refl {w = asked.Value run (e % 16)} (sym a) refl)
+      (step_value t s base b place p {r = Ok (e % 256, q.place)} (sym q.is) refl {w = Ok (asked.Value run (e % 16))} (sym (ap asked_for a)) refl)
       (value_agrees (place + run) (e % 16) p q.place v.is v.related)
 
   -- the end code
   looked_end : (place : ℕ) (p : ℤ) → ask_at place (e % 256) ≡ end → e % 16 ≡ 0 → Reads s (stepped (one s) (table_at t base) place p b) ends (taken (e / 256) w)
   looked_end place p a none =
       let q = symbol_there in
-      read_at (step_end t s base b place p {r = number.Got (e % 256) q.place} (sym q.is) refl {w = asked.End} (sym a) refl)
+      read_at (step_end t s base b place p {r = Ok (e % 256, q.place)} (sym q.is) refl {w = Ok asked.End} (sym (ap asked_for a)) refl)
       (subst (λ n. Meets s q.place (taken n w)) all q.related)
     where
       all : e / 256 - e % 16 ≡ e / 256
@@ -246,13 +240,13 @@ module _ {s : List ℕ} {b : Bits} {w : Wide} (m : Meets s b w) (t : List ℕ) (
 
 -- what the code makes of the first symbol, at a cursor that the same bit places meet
 pub first_level :
-    (t : List ℕ) (dc : ℕ) {s : List ℕ} (look : List ℕ) (from : ℕ) (p : ℤ) (r : WideStep) {w q : Wide}
+    (t : List ℕ) (dc : ℕ) {s : List ℕ} (look : List ℕ) (from : ℕ) (p : ℤ) (r : Result (code.Step Wide) Fault) {w q : Wide}
     → ((b : Bits) → Meets s b w → Meets s b q)
     → {e : ℕ}
     → e ≡ looked 9 look from q.acc
     → 0 < e / 256
     → e / 256 ≤ q.left
-    → step_of r ≡ level_at 0 p (meant_by (e % 16 % 16) (field_at q.acc (e / 256) (e % 16))) (cursor_at q.at (q.acc * 2 ^ (e / 256 % 64) % 2 ^ 64) (q.left - e / 256))
+    → step_read r ≡ level_at 0 p (meant_by (e % 16 % 16) (field_at q.acc (e / 256) (e % 16))) (cursor_at q.at (q.acc * 2 ^ (e / 256 % 64) % 2 ^ 64) (q.left - e / 256))
     → FirstMeets t dc look from s w p r
 first_level t dc {s} look from p r {w} {q} moved {e} found some there made looks b m =
     subst (Agree s (stepped (one s) (table_at t dc) 0 p b))

@@ -9,20 +9,20 @@ use lib.IntN.{ℤ, ◌+ℤ◌}
 use lib.ListN.{set}
 use Rattle.reading.specs.declared.Bits.{Bits}
 use Rattle.reading.specs.declared.Fault.{Fault}
+use Rattle.std.specs.Prelude.{Result, Ok, Err}
+use Rattle.reading.specs.declared.BlockRead.{BlockRead}
 use Rattle.reading.specs.Reader.{Read, got, fault, onward, rule, give}
 use Rattle.reading.specs.Bits.{one, amplitude}
 use Rattle.reading.specs.Huffman.{table_at, symbol}
 use Rattle.reading.specs.Block.{value, wrong, dc_taken, zeros, predictable}
-use Rattle.jpeg_block.specs.Step.{ask_at, Step, ends, skips, puts, level_at, value_at, step_for, stepped}
+use Rattle.jpeg_block.specs.Step.{ask_at, Step, ends, skips, puts, step_read, level_at, value_at, step_for, stepped}
 use Rattle.jpeg_block.proofs.Remaining.{begun, stopped}
 use Rattle.jpeg_bits_wide.specs.declared.Wide.{Wide}
 use Rattle.jpeg_bits_wide.specs.Cursor.{Meets}
 use Rattle.jpeg_huffman_table.specs.Looks.{looked}
-use Rattle.jpeg_block_wide.specs.declared.WideStep.{WideStep}
-use Rattle.jpeg_block_wide.specs.declared.WideStep.TheVariants as step
-use Rattle.jpeg_block_wide.specs.declared.WideRead.{WideRead}
-use Rattle.jpeg_block_wide.specs.declared.WideRead.TheVariants.{Stop}
-use Rattle.jpeg_block_wide.specs.Blocks.{Looks, Tabled, part_of, Agree, step_of, FirstMeets, RestMeets, BlockMeets, Promised}
+use Rattle.jpeg_block.specs.declared.Step as code
+use Rattle.jpeg_block.specs.declared.Step.TheVariants.{End, Skip, Put}
+use Rattle.jpeg_block_wide.specs.Blocks.{Looks, Tabled, part_of, Agree, FirstMeets, RestMeets, BlockMeets, Promised}
 use Rattle.jpeg_block_wide.proofs.Looking.{part_looks}
 use Rattle.jpeg_block_wide.proofs.Going.{alike_stopped}
 use Rattle.jpeg_block_wide.proofs.Hearing.{promised}
@@ -56,9 +56,9 @@ first_leads t s dc p b = go (symbol (one s) (table_at t dc) b)
 
 module _
     (t : List ℕ) (dc ac : ℕ) (look : List ℕ) (c : ℕ) (s : List ℕ) (from : Wide) (p : ℤ) {n : ℕ} (part : n ≡ part_of c)
-    {r : WideStep} (h : FirstMeets t dc look n s from p r) where
-  agrees : {x : WideStep} → r ≡ x → Tabled t dc ac look c → (b : Bits) → Meets s b from → Agree s (stepped (one s) (table_at t dc) 0 p b) (step_of x)
-  agrees e tabled b m = subst (λ y. Agree s (stepped (one s) (table_at t dc) 0 p b) (step_of y)) e (h looks b m)
+    (r : Result (code.Step Wide) Fault) (h : FirstMeets t dc look n s from p r) where
+  agrees : Tabled t dc ac look c → (b : Bits) → Meets s b from → Agree s (stepped (one s) (table_at t dc) 0 p b) (step_read r)
+  agrees tabled b m = h looks b m
     where
       none : (k : ℕ) → k ≡ k + 0
       none k = omega arith
@@ -68,39 +68,57 @@ module _
           ap (λ k. looked 9 look k acc) (part ∙ none (part_of c)) ∙ part_looks look c 0 acc ∙ ap (λ k. looked 9 look k acc) (sym (none (1024 * c)))
           ∙ tabled.firsts acc fits
 
-  stopped_meets : {f : Fault} → r ≡ step.Stop f → (levels : List ℤ) → BlockMeets t dc ac look c s from p (Stop f) levels
-  unfolding BlockMeets
-  stopped_meets e levels tabled b m = alike_stopped s levels (stopped (begun t s dc ac p b) (lit< tt) {base = dc} refl (agrees e tabled b m))
+  at_first :
+      {x : code.Step Wide}
+      → r ≡ Ok x
+      → Tabled t dc ac look c
+      → (b : Bits)
+      → Meets s b from
+      → Agree s (stepped (one s) (table_at t dc) 0 p b) (step_read (Ok x))
+  at_first e tabled b m = subst (λ y. Agree s (stepped (one s) (table_at t dc) 0 p b) (step_read y)) e (agrees tabled b m)
 
-  pub block_stopped : {f : Fault} → r ≡ step.Stop f → (levels : List ℤ) → Promised t dc ac look c s from p (Stop f) levels
-  block_stopped {f} e levels = promised t dc ac look c s from p (Stop f) levels (stopped_meets e levels)
+  -- a fault
+  stopped_meets : {f : Fault} → r ≡ Err f → (levels : List ℤ) → BlockMeets t dc ac look c s from p (Err f) levels
+  unfolding BlockMeets
+  stopped_meets e levels tabled b m =
+      alike_stopped s levels
+      (stopped (begun t s dc ac p b) (lit< tt) {base = dc} refl
+      (subst (λ y. Agree s (stepped (one s) (table_at t dc) 0 p b) (step_read y)) e (agrees tabled b m)))
+
+  pub block_stopped : {f : Fault} → r ≡ Err f → (levels : List ℤ) → Promised t dc ac look c s from p (Err f) levels
+  block_stopped {f} e levels = promised t dc ac look c s from p (Err f) levels (stopped_meets e levels)
 
   -- neither the end nor 16 zeros come first
-  ends_meets : {q : Wide} → r ≡ step.End q → (x : WideRead) (levels : List ℤ) → BlockMeets t dc ac look c s from p x levels
+  never_meets :
+      (z : code.Step Wide)
+      → r ≡ Ok z
+      → ((at : ℕ) (l : ℤ) (q : Wide) → z ≡ Put at l q → ⊥)
+      → (x : Result (BlockRead Wide) Fault) (levels : List ℤ)
+      → BlockMeets t dc ac look c s from p x levels
   unfolding BlockMeets
-  ends_meets e x levels tabled b m = absurd (subst AtFirst (agrees e tabled b m).is (first_leads t s dc p b))
+  never_meets (End q) e other x levels tabled b m = absurd (subst AtFirst (at_first e tabled b m).is (first_leads t s dc p b))
+  never_meets (Skip q) e other x levels tabled b m = absurd (subst AtFirst (at_first e tabled b m).is (first_leads t s dc p b))
+  never_meets (Put at l q) e other x levels tabled b m = absurd (other at l q refl)
 
-  skips_meets : {q : Wide} → r ≡ step.Skip q → (x : WideRead) (levels : List ℤ) → BlockMeets t dc ac look c s from p x levels
-  unfolding BlockMeets
-  skips_meets e x levels tabled b m = absurd (subst AtFirst (agrees e tabled b m).is (first_leads t s dc p b))
-
-  pub block_never_ends : {q : Wide} → r ≡ step.End q → (x : WideRead) (levels : List ℤ) → Promised t dc ac look c s from p x levels
-  block_never_ends e x levels = promised t dc ac look c s from p x levels (ends_meets e x levels)
-
-  pub block_never_skips : {q : Wide} → r ≡ step.Skip q → (x : WideRead) (levels : List ℤ) → Promised t dc ac look c s from p x levels
-  block_never_skips e x levels = promised t dc ac look c s from p x levels (skips_meets e x levels)
+  pub block_never :
+      (z : code.Step Wide)
+      → r ≡ Ok z
+      → ((at : ℕ) (l : ℤ) (q : Wide) → z ≡ Put at l q → ⊥)
+      → (x : Result (BlockRead Wide) Fault) (levels : List ℤ)
+      → Promised t dc ac look c s from p x levels
+  block_never z e other x levels = promised t dc ac look c s from p x levels (never_meets z e other x levels)
 
   -- behind the first level
   goes_meets :
       {at : ℕ} {z : ℤ} {q : Wide}
-      → r ≡ step.Put at z q
-      → {before : List ℤ} (x : WideRead) (levels : List ℤ)
+      → r ≡ Ok (Put at z q)
+      → {before : List ℤ} (x : Result (BlockRead Wide) Fault) (levels : List ℤ)
       → before ≡ set (zeros 64) 0 z
       → RestMeets t ac look (n + 512) s q before x levels
       → BlockMeets t dc ac look c s from p x levels
   unfolding BlockMeets
   goes_meets {at} {z} {q} e x levels first rest tabled b m =
-      let a = agrees e tabled b m in
+      let a = at_first e tabled b m in
       let none : at ≡ 0 = subst AtFirst a.is (first_leads t s dc p b) in
       rest (record {
         dc = dc;
@@ -116,8 +134,8 @@ module _
 
   pub block_goes :
       {at : ℕ} {z : ℤ} {q : Wide}
-      → r ≡ step.Put at z q
-      → {before : List ℤ} (x : WideRead) (levels : List ℤ)
+      → r ≡ Ok (Put at z q)
+      → {before : List ℤ} (x : Result (BlockRead Wide) Fault) (levels : List ℤ)
       → before ≡ set (zeros 64) 0 z
       → RestMeets t ac look (n + 512) s q before x levels
       → Promised t dc ac look c s from p x levels

@@ -1,6 +1,8 @@
 -- A block that is read at a wide cursor: at every bit place of the file that the cursor meets, it is the rules' block.
-use Rattle.std.specs.Prelude.{ℕ, ◌+◌, ◌*◌, ◌/◌, ◌^◌, ◌<◌, ◌≤◌, ◌≡◌, Bool, true, false, cond, List, leb, ltb, eqb, ℤ, pos, get_or, set}
+use Rattle.std.specs.Prelude.{ℕ, ◌+◌, ◌*◌, ◌/◌, ◌^◌, ◌<◌, ◌≤◌, ◌≡◌, Bool, true, false, cond, List, leb, ltb, eqb, ℤ, pos, get_or, set, Result, Ok, Err}
 use Rattle.reading.specs.declared.Bits.{Bits}
+use Rattle.reading.specs.declared.BlockRead.{BlockRead}
+use Rattle.reading.specs.declared.Fault.{Fault}
 use Rattle.reading.specs.Reader.{Read, got, fault}
 use Rattle.reading.specs.Bits.{one}
 use Rattle.reading.specs.Huffman.{Table, table_at}
@@ -8,14 +10,12 @@ use Rattle.reading.specs.Block.{block, zeros}
 use Rattle.reading.specs.Tests.{◌and◌}
 use Rattle.reading.specs.Code.Places.{places}
 use Rattle.reading.specs.Code.Coming.{Plain, pending}
-use Rattle.jpeg_block.specs.Step.{Step, ends, skips, puts, stepped}
+use Rattle.jpeg_block.specs.declared.Step as code
+use Rattle.jpeg_block.specs.declared.Step.TheVariants.{End, Skip, Put}
+use Rattle.jpeg_block.specs.Step.{puts, step_read, stepped}
 use Rattle.jpeg_bits_wide.specs.declared.Wide.{Wide}
 use Rattle.jpeg_bits_wide.specs.Cursor.{Proper, to_come, Meets}
 use Rattle.jpeg_huffman_table.specs.Looks.{entry_at, looked}
-use Rattle.jpeg_block_wide.specs.declared.WideStep.{WideStep}
-use Rattle.jpeg_block_wide.specs.declared.WideStep.TheVariants as step
-use Rattle.jpeg_block_wide.specs.declared.WideRead.{WideRead}
-use Rattle.jpeg_block_wide.specs.declared.WideRead.TheVariants as read
 
 -- ---- the entries of a block's tables
 
@@ -53,40 +53,34 @@ abbrev pub Agree : {A : Type 0} → List ℕ → Read Bits A → Read Wide A →
 Agree s x (got a w) = Reads s x a w
 Agree s x (fault f) = x ≡ fault f
 
-abbrev pub step_of : WideStep → Read Wide Step
-step_of (step.End w) = got ends w
-step_of (step.Skip w) = got skips w
-step_of (step.Put at z w) = got (puts at z) w
-step_of (step.Stop f) = fault f
-
 -- a level is put at this place or behind it, and before place 64
-abbrev pub Inside : ℕ → WideStep → Type 0
-Inside place (step.End w) = Unit {0}
-Inside place (step.Skip w) = Unit {0}
-Inside place (step.Put at z w) = (place ≤ at) × (at < 64)
-Inside place (step.Stop f) = Unit {0}
+abbrev pub Inside : ℕ → Result (code.Step Wide) Fault → Type 0
+Inside place (Ok (End w)) = Unit {0}
+Inside place (Ok (Skip w)) = Unit {0}
+Inside place (Ok (Put at z w)) = (place ≤ at) × (at < 64)
+Inside place (Err f) = Unit {0}
 
 -- one symbol and its value: the step of the rules' walk over a block
-abbrev pub SameStep : List ℕ → ℕ → List ℕ → Wide → ℕ → ℤ → WideStep → Type 0
-SameStep t base s w place p r = (b : Bits) → Meets s b w → Agree s (stepped (one s) (table_at t base) place p b) (step_of r)
+abbrev pub SameStep : List ℕ → ℕ → List ℕ → Wide → ℕ → ℤ → Result (code.Step Wide) Fault → Type 0
+SameStep t base s w place p r = (b : Bits) → Meets s b w → Agree s (stepped (one s) (table_at t base) place p b) (step_read r)
 
-pub record StepMeets (t : List ℕ) (base : ℕ) (s : List ℕ) (w : Wide) (place : ℕ) (p : ℤ) (r : WideStep) : Type 0 where
+pub record StepMeets (t : List ℕ) (base : ℕ) (s : List ℕ) (w : Wide) (place : ℕ) (p : ℤ) (r : Result (code.Step Wide) Fault) : Type 0 where
   pub inside : Inside place r
   pub same : SameStep t base s w place p r
 
 -- the first one, where the entries are those of its table
-abbrev pub FirstMeets : List ℕ → ℕ → List ℕ → ℕ → List ℕ → Wide → ℤ → WideStep → Type 0
+abbrev pub FirstMeets : List ℕ → ℕ → List ℕ → ℕ → List ℕ → Wide → ℤ → Result (code.Step Wide) Fault → Type 0
 FirstMeets t dc look from s w p r = Looks true (table_at t dc) look from → SameStep t dc s w 0 p r
 
 -- ---- a block
 
 -- a block that was read at a bit place, and one that was read at a cursor: the same levels, first level and reach, and the cursor meets the
 -- place behind it; or it is the same fault
-abbrev pub BlockAlike : List ℕ → Read Bits (List ℤ) → WideRead → List ℤ → Type 0
-BlockAlike s (got l b) (read.Got w z k) levels = (levels ≡ l) × (z ≡ get_or l 0 (pos 0)) × (k ≡ places l) × Meets s b w
-BlockAlike s (got l b) (read.Stop f) levels = ⊥
-BlockAlike s (fault f) (read.Got w z k) levels = ⊥
-BlockAlike s (fault f) (read.Stop g) levels = f ≡ g
+abbrev pub BlockAlike : List ℕ → Read Bits (List ℤ) → Result (BlockRead Wide) Fault → List ℤ → Type 0
+BlockAlike s (got l b) (Ok r) levels = (levels ≡ l) × (r.first ≡ get_or l 0 (pos 0)) × (r.reach ≡ places l) × Meets s b r.after
+BlockAlike s (got l b) (Err f) levels = ⊥
+BlockAlike s (fault f) (Ok r) levels = ⊥
+BlockAlike s (fault f) (Err g) levels = f ≡ g
 
 -- the first level of a block was read, nothing else stands in its levels, the cursor meets the place behind it, and the entries are those of
 -- the table for the others
@@ -102,12 +96,12 @@ pub record Opened (t : List ℕ) (ac : ℕ) (look : List ℕ) (from : ℕ) (s : 
   pub looks : Looks false (table_at t ac) look from
 
 -- the whole block behind it
-abbrev pub RestMeets : List ℕ → ℕ → List ℕ → ℕ → List ℕ → Wide → List ℤ → WideRead → List ℤ → Type 0
+abbrev pub RestMeets : List ℕ → ℕ → List ℕ → ℕ → List ℕ → Wide → List ℤ → Result (BlockRead Wide) Fault → List ℤ → Type 0
 RestMeets t ac look from s w before r levels =
     (o : Opened t ac look from s w before) → BlockAlike s (block (one s) (table_at t o.dc) (table_at t ac) o.p o.b) r levels
 
 -- where the entries are those of the block's two tables, at every bit place that the cursor meets
-unfoldable pub BlockMeets : List ℕ → ℕ → ℕ → List ℕ → ℕ → List ℕ → Wide → ℤ → WideRead → List ℤ → Type 0
+unfoldable pub BlockMeets : List ℕ → ℕ → ℕ → List ℕ → ℕ → List ℕ → Wide → ℤ → Result (BlockRead Wide) Fault → List ℤ → Type 0
 unfolding block one
 BlockMeets t dc ac look c s from p r levels =
     Tabled t dc ac look c
@@ -127,9 +121,9 @@ abbrev pub saying : List ℤ → ℤ → ℕ → Said
 saying levels first reach = record { levels = levels; first = first; reach = reach }
 
 -- that of a block at a cursor, with what is to come behind it
-abbrev pub told : List ℕ → WideRead → List ℤ → Read Plain Said
-told s (read.Got w z k) levels = got (saying levels z k) (to_come s w)
-told s (read.Stop f) levels = fault f
+abbrev pub told : List ℕ → Result (BlockRead Wide) Fault → List ℤ → Read Plain Said
+told s (Ok r) levels = got (saying levels r.first r.reach) (to_come s r.after)
+told s (Err f) levels = fault f
 
 -- that of a block at a bit place
 unfoldable pub heard : List ℕ → Read Bits (List ℤ) → Read Plain Said
@@ -138,9 +132,9 @@ heard s (got l b) = got (saying l (get_or l 0 (pos 0)) (places l)) (pending s b)
 heard s (fault f) = fault f
 
 -- a cursor behind a block is a proper one
-abbrev pub Sound : WideRead → Type 0
-Sound (read.Got w z k) = Proper w
-Sound (read.Stop f) = Unit {0}
+abbrev pub Sound : Result (BlockRead Wide) Fault → Type 0
+Sound (Ok r) = Proper r.after
+Sound (Err f) = Unit {0}
 
 -- a bit place that a block's cursor meets, where the entries are those of its tables
 pub record Begun (t : List ℕ) (dc ac : ℕ) (look : List ℕ) (c : ℕ) (s : List ℕ) (from : Wide) : Type 0 where
@@ -149,6 +143,6 @@ pub record Begun (t : List ℕ) (dc ac : ℕ) (look : List ℕ) (c : ℕ) (s : L
   pub meets : Meets s place from
 
 -- at each such place a block says what the rules' block says, and the same is to come behind both
-abbrev pub Promised : List ℕ → ℕ → ℕ → List ℕ → ℕ → List ℕ → Wide → ℤ → WideRead → List ℤ → Type 0
+abbrev pub Promised : List ℕ → ℕ → ℕ → List ℕ → ℕ → List ℕ → Wide → ℤ → Result (BlockRead Wide) Fault → List ℤ → Type 0
 Promised t dc ac look c s from p r levels =
     (o : Begun t dc ac look c s from) → (told s r levels ≡ heard s (block (one s) (table_at t dc) (table_at t ac) p o.place)) × Sound r

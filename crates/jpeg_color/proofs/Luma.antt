@@ -8,6 +8,7 @@ use lib.IntN.{ℤ, pos, neg_ℤ, nat_abs, ◌+ℤ◌, ◌*ℤ◌, +ℤ_assoc}
 use lib.Signed.{shr_z}
 use mir.Syntax.{Width, w8}
 use mir.Val.{Fits, SFits, to_z, of_z, hbits}
+use mir.Facts.{to_z-of_z}
 use Rattle.whole.specs.Expressions.{fits_abs}
 use Rattle.whole.specs.Held.{Held, input, plus, plus_fits}
 use Rattle.reading.specs.Colour.{to_byte, chroma, red, green, blue}
@@ -31,6 +32,9 @@ green_is y cb cr =
 pub blue_is : (y cb : ℕ) → to_byte (pos y +ℤ blue_part cb) ≡ blue y cb
 unfolding blue blue_part
 blue_is y cb = behind y (pos 116130 *ℤ chroma cb) (pos 32768)
+
+-- what `red`, `green` and `blue` stand on: a part is read back as it is, and luma passes by
+pub ruleset colours = (to_z-of_z, red_is, green_is, blue_is)
 
 -- ---- the sum at a width: x is the number p, as each part's function ensures
 

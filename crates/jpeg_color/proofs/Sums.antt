@@ -10,11 +10,10 @@ use lib.Dec.{T, ltb, leb, leb→le}
 use lib.IntN.{ℤ, pos, negsuc, neg_ℤ, nat_abs, ◌+ℤ◌, ◌-ℤ◌, ◌*ℤ◌, +ℤ_assoc, +ℤ_invr, +ℤ_invl, +ℤ_idl}
 use lib.Signed.{shr_z}
 use mir.Syntax.{w8, w32}
-use mir.Val.{Fits, SFits, to_z, of_z}
-use mir.Facts.{to_z-of_z}
+use mir.Val.{Fits, to_z, of_z}
 use Rattle.whole.specs.Expressions.{abs_sub, fits_abs}
 use Rattle.whole.specs.Signs.{shifted}
-use Rattle.whole.specs.Held.{Held, held_small, number, plain, less}
+use Rattle.whole.specs.Held.{Held, number, plain, less}
 
 -- ---- the division
 
@@ -83,20 +82,3 @@ pub called : {r x y z v : ℤ} {m n : ℕ} → Held w32 x z m → Held w32 y v n
 called {r} {x} {y} {z} {v} {m} {n} g h k t u e =
     let w : Held w32 (to_z w32 (of_z w32 (shr_z (z -ℤ v) 65536))) (shr_z (z -ℤ v) 65536) k = floor {x = z -ℤ v} (record { is = refl; small = abs_sub z v g.small h.small }) k t u in
     record { is = ap (λ a. to_z w32 (of_z w32 a)) (e ∙ ap₂ (λ a b. shr_z (a -ℤ b) 65536) g.is h.is) ∙ w.is; small = w.small }
-
--- the bits n are those of a number of at most 2 ^ 24 in magnitude: a parameter so bounded is one, one divided is, and the difference of two
--- fits
-pub record Small (n : ℕ) : Type 0 where
-  pub within : nat_abs (to_z w32 n) ≤ 16777216
-
-pub small_input : {z : ℤ} → SFits w32 z → nat_abs z ≤ 16777216 → Small (of_z w32 z)
-small_input h k = record { within = rw (to_z-of_z h) k }
-
-pub small_floor : {n : ℕ} → Small n → Small (of_z w32 (shr_z (to_z w32 n) 65536))
-small_floor {n} h =
-    record { within = le_trans (held_small {m = 256} (floor {x = to_z w32 n} (record { is = refl; small = h.within }) 256 tt tt) tt) (leb→le 256 16777216 tt) }
-
-pub small_less : (m n : ℕ) → Small m → Small n → SFits w32 (to_z w32 m -ℤ to_z w32 n)
-small_less m n h k = fits_abs (abs_sub (to_z w32 m) (to_z w32 n) h.within k.within) tt
-
-pub ruleset small = (small_input, small_floor, small_less)

@@ -4,65 +4,25 @@
 // loops over pixels quick.
 #![tactic(auto)]
 
-ghost use Rattle.std.specs.Prelude.{◌≡◌, cond, ◌≤◌, pos, nat_abs, ◌+ℤ◌, ◌-ℤ◌};
-ghost use Rattle.std.specs.Int.Signed.{lt_z};
+ghost use Rattle.std.specs.Prelude.{◌≡◌, ◌≤◌, ℤ, pos, nat_abs, ◌+ℤ◌, ◌-ℤ◌};
 ghost use Rattle.reading.specs.Colour.{to_byte, red, green, blue, floored};
 ghost use Rattle.jpeg_color.specs.Parts.{red_part, green_part, blue_part};
 
 use reading::Sample;
 
-// The larger of a number and 0. `to_byte` is this and the next one after the other, and not one choice of three: so loops that clamp are
-// compiled to vector code.
-fn at_least(v: i32) -> i32
-    ensures { result ≡ cond (lt_z v (pos 0)) (pos 0) v }
+// A whole number, clamped to 0..255. It may be of any type that 32 bits hold: a loop that clamps numbers of 16 bits stays in them, and a
+// vector has twice as many of those.
+pub fn to_byte<T: Into<i32>>(v: T) -> u8
+    ensures { (z : ℤ) × T.converts v z × (result ≡ to_byte z) }
 {
-    if v < Sample::LEAST as i32 {
-        return Sample::LEAST as i32;
-    }
-    v
+    v.into().clamp(Sample::LEAST as i32, Sample::MOST as i32) as u8
 }
 
-// The smaller of a number and 255.
-fn at_most(v: i32) -> i32
-    ensures { result ≡ cond (lt_z (pos 255) v) (pos 255) v }
-{
-    if v > Sample::MOST as i32 {
-        return Sample::MOST as i32;
-    }
-    v
-}
-
-// A whole number, clamped to 0..255.
-pub fn to_byte(v: i32) -> u8
-    ensures { result ≡ to_byte v }
-{
-    at_most(at_least(v)) as u8
-}
-
-// The same three for numbers of 16 bits: a vector has twice as many of them, and a loop that clamps them stays in them.
-fn short_at_least(short: i16) -> i16
-    ensures { result ≡ cond (lt_z short (pos 0)) (pos 0) short }
-{
-    if short < Sample::LEAST {
-        return Sample::LEAST;
-    }
-    short
-}
-
-#[tactic(auto, using(crate::proofs::Clamps::high, crate::proofs::Clamps::not_high))]
-fn short_at_most(short: i16) -> i16
-    ensures { result ≡ cond (lt_z (pos 255) short) (pos 255) short }
-{
-    if short > Sample::MOST {
-        return Sample::MOST;
-    }
-    short
-}
-
+// The same of a number of 16 bits, by its name.
 pub fn short_to_byte(short: i16) -> u8
     ensures { result ≡ to_byte short }
 {
-    short_at_most(short_at_least(short)) as u8
+    to_byte(short)
 }
 
 // What a chroma sample adds to luma in red: 91881 is 65536 + 26345.
@@ -106,18 +66,21 @@ fn with_luma(y: u8, part: i32) -> u8
     to_byte(y as i32 + part)
 }
 
+#[tactic(auto, using(crate::proofs::Luma::colours))]
 pub fn red(y: u8, cr: u8) -> u8
     ensures { result ≡ red y cr }
 {
     with_luma(y, red_part(cr))
 }
 
+#[tactic(auto, using(crate::proofs::Luma::colours))]
 pub fn green(y: u8, cb: u8, cr: u8) -> u8
     ensures { result ≡ green y cb cr }
 {
     with_luma(y, green_part(cb, cr))
 }
 
+#[tactic(auto, using(crate::proofs::Luma::colours))]
 pub fn blue(y: u8, cb: u8) -> u8
     ensures { result ≡ blue y cb }
 {

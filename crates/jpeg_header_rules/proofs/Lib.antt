@@ -2,5 +2,4 @@ pub mod Walks
 pub mod Marks
 pub mod Distinct
 pub mod Channels
-pub mod Rules
 pub mod Sampled

@@ -1,20 +1,21 @@
 -- What a segment makes of the header's state, as the code answers it, for every state: the two tests that a state of the header
 -- itself always passes, and a stage as an answer.
-use Rattle.std.specs.Prelude.{ℕ, ◌+◌, Bool, not, List, leb, length}
+use Rattle.std.specs.Prelude.{ℕ, ◌+◌, Bool, not, List, leb, length, Result, Ok, Err}
+use Rattle.reading.specs.declared.Refusal.{Refusal}
 use Rattle.reading.specs.declared.Refusal.TheVariants.{Malformed, Unsupported}
 use Rattle.reading.specs.declared.Frame.{Frame}
 use Rattle.reading.specs.declared.Header.{Header}
 use Rattle.reading.specs.Tests.{◌and◌, within}
 use Rattle.reading.specs.Code.Mcus.{sampled}
-use Rattle.reading.specs.Header.{Stage, more, done, stop, stop_if, has_frame, opening, no_record}
-use Rattle.jpeg_header_state.specs.declared.Progress.TheVariants.{More, Done, Stop}
-use Rattle.jpeg_header_state.specs.declared.Stepped.{Stepped}
+use Rattle.reading.specs.Header.{Stage, more, done, stop, stop_if, has_frame}
+use Rattle.jpeg_header_state.specs.declared.Step.{Step}
+use Rattle.jpeg_header_state.specs.declared.Step.TheVariants.{More, Done}
 
--- the answer of a stage: a fresh state where the header does not go on, no record where the scan is not met
-unfoldable pub stepped : Stage → Stepped
-stepped (more h) = record { progress = More; state = h; found = no_record }
-stepped (done r) = record { progress = Done; state = opening; found = r }
-stepped (stop x) = record { progress = Stop x; state = opening; found = no_record }
+-- the answer of a stage
+unfoldable pub stepped : Stage → Result Step Refusal
+stepped (more h) = Ok (More h)
+stepped (done r) = Ok (Done r)
+stepped (stop x) = Err x
 
 -- what is left of a segment of tables ends with the segment; a table that lies past its end is malformed
 unfoldable pub in_segment : List ℕ → Header → ℕ → Stage → Stage

@@ -9,7 +9,7 @@ use native.Mathlib.Nat.{not-suc-le-zero, zero-add}
 use native.Mathlib.Numerals.{sub-one, add-one}
 use lib.Dec.{ltb}
 use lib.Pow.{pow_pos}
-use lib.ListN.{length, get_or, take, drop, length-drop, drop_of_length-le}
+use lib.ListN.{length, get_or, take, drop, length-take, length-drop, drop_of_length-le}
 use lib.Seq.{drop-cons, get_or-take, get_or-drop}
 use borrow.Author.Tests.{lt-ltb, le-ltb}
 use Rattle.reading.specs.declared.Fault.{Fault}
@@ -44,6 +44,14 @@ take_min (suc n) (x ∷ l) =
 counts_all : (t : List ℕ) (base more : ℕ) → more ≡ min 16 (length t - base) → counts_at t base more ≡ counts_at t base 16
 counts_all t base more e = rw (e, sym (length-drop base t)) (take_min 16 (drop base t))
 
+-- the counts that are there, as the code slices them
+module _ (t : List ℕ) (base n : ℕ) (e : n ≡ min 16 (length t - base)) where
+  pub sliced_length : length (take (base + n - base) (drop base t)) ≡ n
+  sliced_length = simp (length-take, length-drop) (omega arith)
+
+  pub sliced_count : (i : ℕ) → i < n → get_or (take (base + n - base) (drop base t)) i 0 ≡ get_or t (base + i) 0
+  sliced_count i h = get_or-take (base + n - base) (drop base t) i 0 (omega arith) ∙ get_or-drop base t i 0
+
 -- ---- the walk
 
 module _ {S : Type 0} (next : Reader S ℕ) where
@@ -63,7 +71,8 @@ module _ {S : Type 0} (next : Reader S ℕ) where
   -- the code with one bit more, w: it is one of this length, or the next length is tried
   abbrev tried : (t : List ℕ) (more at f index w : ℕ) → Reader S ℕ
   tried t more at f index w =
-      cond (ltb w (2 * f + get_or t at 0)) (give (index + (w - 2 * f))) (code_from next (counts_at t (at + 1) (more - 1)) w (2 * f + get_or t at 0) (index + get_or t at 0))
+      cond (ltb w (2 * f + get_or t at 0)) (give (index + (w - 2 * f)))
+      (code_from next (counts_at t (at + 1) (more - 1)) w (2 * f + get_or t at 0) (index + get_or t at 0))
 
   walked_step :
       (t : List ℕ) (base more at v f index : ℕ) (q : S)
@@ -109,7 +118,9 @@ begun next t base b more h e =
       same = rw (counts_all t base more e);
     }
 
-module _ {S : Type 0} {next : Reader S ℕ} {t : List ℕ} {base : ℕ} {b here : S} {past at place more : ℕ} (a : Ahead next t base b here past at place more) where
+module _
+    {S : Type 0} {next : Reader S ℕ} {t : List ℕ} {base : ℕ} {b here : S} {past at place more : ℕ}
+    (a : Ahead next t base b here past at place more) where
   pub no_code : more ≡ 0 → symbol next (table_at t base) b ≡ fault NoCode
   unfolding walked
   no_code e = a.same ∙ rw e
@@ -148,7 +159,8 @@ module _ {S : Type 0} {next : Reader S ℕ} {t : List ℕ} {base : ℕ} {b here 
           let stands : base + 16 + i ≡ place + (2 * past + x) = omega (arith, a.stands, split) in
           after_bit
           ∙ rw (lt-ltb (2 * a.code + x) (2 * a.follows + get_or t at 0) (omega (arith, split, m)))
-          (ap (λ y. got y after) (get_or-take (total t base) (drop (base + 16) t) i 0 among ∙ get_or-drop (base + 16) t i 0 ∙ ap (λ y. get_or t y 0) stands))
+          (ap (λ y. got y after)
+          (get_or-take (total t base) (drop (base + 16) t) i 0 among ∙ get_or-drop (base + 16) t i 0 ∙ ap (λ y. get_or t y 0) stands))
 
       -- no code of this length
       pub passed :
@@ -170,3 +182,14 @@ module _ {S : Type 0} {next : Reader S ℕ} {t : List ℕ} {base : ℕ} {b here 
             some = omega (arith, left, byte, a.few, a.some);
             same = after_bit ∙ rw (le-ltb (2 * a.code + x) (2 * a.follows + get_or t at 0) (omega (arith, split, m)));
           }
+
+      -- the same, for a count and places that equal these
+      pub passed_as :
+          {count at' more' : ℕ}
+          → count ≡ get_or t at 0
+          → at' ≡ at + 1
+          → more' ≡ more - 1
+          → count < 256
+          → count ≤ 2 * past + x
+          → Ahead next t base b after (2 * past + x - count) at' (place + count) more'
+      passed_as c a m byte le = rw (c, a, m) (passed (omega arith) (omega arith))

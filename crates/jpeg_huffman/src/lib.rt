@@ -5,10 +5,10 @@
 ghost use Rattle.std.specs.Prelude.{◌≡◌, min};
 ghost use Rattle.reading.specs.Bits.{one};
 ghost use Rattle.reading.specs.Huffman.{symbol, table_at};
-ghost use Rattle.reading.specs.Code.Answers.{number_read};
+ghost use Rattle.reading.specs.Code.Answers.{read_of};
 ghost use Rattle.jpeg_huffman.specs.Fitting.{counts_fit};
 
-use reading::{BitRead, Bits, Fault, NumberRead};
+use reading::{Bits, Fault};
 
 // At most sixteen counts, and after each length L the next code is at most 2^L - 1, so that all ones is never a code.
 pub fn fits(counts: &[u8]) -> bool
@@ -19,15 +19,12 @@ pub fn fits(counts: &[u8]) -> bool
     }
     let mut next = 0usize;
     let mut power = 1usize;
-    let mut i = 0usize;
-    while i < counts.len() {
-        let count = counts[i] as usize;
+    for count in counts {
         power = 2 * power;
-        next = 2 * next + count;
+        next = 2 * next + *count as usize;
         if power <= next {
             return false;
         }
-        i += 1;
     }
     true
 }
@@ -36,48 +33,33 @@ pub fn fits(counts: &[u8]) -> bool
 pub fn lengths(room: usize) -> usize
     ensures { result ≡ min 16 room }
 {
-    if room < 16 {
-        return room;
-    }
-    16
+    room.min(16)
 }
 
 // The symbol of the next code in s (T.81 F.2.2.3, DECODE). The table's counts stand at `base` of t, its symbols behind them; a
 // count past the end of t is not there, and a symbol past it is 0. `past` is how far the code so far lies past the last one of the
 // lengths before, and `place` that of the first symbol of this length. It is never below 0, whatever the table: a code that is none
 // of its length is as far past the first as there are codes of it, or farther.
-pub fn symbol(t: &[u8], base: usize, s: &[u8], b: Bits) -> NumberRead
-    ensures { number_read result ≡ symbol (one s.now) (table_at t.now base) b }
+pub fn symbol(t: &[u8], base: usize, s: &[u8], b: Bits) -> Result<(usize, Bits), Fault>
+    ensures { read_of result ≡ symbol (one s.now) (table_at t.now base) b }
 {
     if t.len() <= base {
-        return NumberRead::Stop(Fault::NoCode);
+        return Err(Fault::NoCode);
     }
     let mut here = b;
     let mut past = 0usize;
-    let mut at = base;
     let mut place = base + 16;
-    let mut more = lengths(t.len() - base);
-    'walk: loop {
-        if more == 0 {
-            break 'walk NumberRead::Stop(Fault::NoCode);
+    let counts = &t[base..base + lengths(t.len() - base)];
+    for count in counts {
+        let (x, after) = jpeg_bits::bit(s, here)?;
+        let many = *count as usize;
+        let code = 2 * past + x as usize;
+        if code < many {
+            return Ok((reading::at_or(t, place + code, 0) as usize, after));
         }
-        match jpeg_bits::bit(s, here) {
-            BitRead::Stop(f) => {
-                break 'walk NumberRead::Stop(f);
-            }
-            BitRead::Got(x, after) => {
-                let count = t[at] as usize;
-                let code = 2 * past + x as usize;
-                if code < count {
-                    let found = reading::byte_at(t, place + code) as usize;
-                    break 'walk NumberRead::Got(found, after);
-                }
-                here = after;
-                past = code - count;
-                place = place + count;
-            }
-        }
-        at += 1;
-        more -= 1;
+        here = after;
+        past = code - many;
+        place += many;
     }
+    Err(Fault::NoCode)
 }

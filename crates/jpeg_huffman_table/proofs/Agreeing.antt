@@ -5,9 +5,10 @@ use mathlib.Core.Bool.{Bool, true, false, cond}
 use mathlib.Core.Logic.{inl, inr, ⊎_elim}
 use mathlib.Core.List.{List, [], ◌∷◌}
 use native.Mathlib.Omega.{arith}
-use lib.Dec.{ltb, eqb}
+use lib.Dec.{ltb}
 use lib.ListN.{length, get_or, take, length-take, drop}
-use borrow.Author.Tests.{ne_eqb}
+use Rattle.std.specs.Prelude.{Result, Ok, Err}
+use Rattle.reading.specs.declared.Fault.{Fault}
 use Rattle.reading.specs.Reader.{Read, got, fault, Reader, give}
 use Rattle.reading.specs.Huffman.{Table, table_at, sum, code_from, symbol}
 use Rattle.reading.specs.Code.Coming.{Plain, pop}
@@ -19,7 +20,6 @@ use Rattle.jpeg_bits_wide.specs.Cursor.{Proper, to_come, filled, bit, taken}
 use Rattle.jpeg_bits_wide.proofs.Coming.{Bared, Enough, filled_ready, taken_proper}
 use Rattle.jpeg_bits_wide.proofs.Meeting.{Stands, alike_map}
 use Rattle.jpeg_bits_wide.proofs.Ending.{none_left, bit_none, bit_there, pop_there}
-use Rattle.jpeg_huffman_table.specs.declared.SymbolRead.{SymbolRead}
 use Rattle.jpeg_huffman_table.specs.Symbols.{told, plainly}
 
 -- a proper cursor, what is to come there, and so many bits
@@ -104,9 +104,10 @@ table_bytes t base h = bytes_take (sum (take 16 (drop base t))) (drop (base + 16
 
 -- ---- the answer
 
--- what an answer says: 256 is a fault
-abbrev pub symbol_said : SymbolRead → Read Wide ℕ
-symbol_said r = cond (eqb r.symbol 256) (fault r.fault) (got r.symbol r.wide)
+-- what an answer says
+abbrev pub symbol_said : Result (ℕ × Wide) Fault → Read Wide ℕ
+symbol_said (Ok (x, q)) = got x q
+symbol_said (Err f) = fault f
 
 pub symbol_byte : {S : Type 0} (next : Reader S ℕ) (t : Table) → AllBytes t.symbols → (w q : S) (x : ℕ) → symbol next t w ≡ got x q → x < 256
 unfolding symbol
@@ -124,24 +125,19 @@ pub plain_agrees :
     → AllBytes s
     → (t : Table)
     → length t.counts ≤ 16
-    → AllBytes t.symbols
     → (w : Wide)
     → Proper w
     → Alike (Holds s 41) (symbol_said (plainly t s w)) (symbol pop t (to_come s w))
 unfolding plainly
-plain_agrees s bytes t few symbols w p =
+plain_agrees s bytes t few w p =
     let r = filled_ready s bytes w p in
     subst (λ q. Alike (Holds s 41) (symbol_said (plainly t s w)) (symbol pop t q)) r.still.same
-    (go (symbol (bit s) t (filled s w)) refl
+    (go (symbol (bit s) t (filled s w))
     (symbol_holds s 41 t (filled s w) r.still.proper (⊎_elim (λ l. inl (omega (arith, l, few))) inr r.enough)))
   where
     go :
         (a : Read Wide ℕ)
-        → symbol (bit s) t (filled s w) ≡ a
         → Alike (Holds s 41) a (symbol pop t (to_come s (filled s w)))
-        → Alike (Holds s 41) (symbol_said (told w a)) (symbol pop t (to_come s (filled s w)))
-    go (got x q) e h = rw (ne_eqb x 256 (below (symbol_byte (bit s) t symbols (filled s w) q x e))) h
-      where
-        below : x < 256 → x ≡ 256 → ⊥
-        below a b = omega arith
-    go (fault c) e h = h
+        → Alike (Holds s 41) (symbol_said (told a)) (symbol pop t (to_come s (filled s w)))
+    go (got x q) h = h
+    go (fault c) h = h

@@ -7,8 +7,9 @@ use mathlib.Core.List.{List, [], ◌++◌, append_assoc, append-nil}
 use native.Mathlib.Omega.{arith}
 use native.Mathlib.Nat.{not-suc-le-zero, le_of_suc-le-suc, add-zero}
 use lib.Dec.{eqb}
-use lib.ListN.{length, get_or, take, drop, replicate, length-append, length-replicate, length-take, length-drop}
+use lib.ListN.{length, get_or, take, drop, replicate, length-append, length-replicate}
 use lib.Seq.{take_at, drop_at, drop-append-add, paste}
+use borrow.Rule.Slice.PartMut.{put_mid}
 use Rattle.whole.specs.Lists.{length_from}
 use Rattle.reading.specs.Huffman.{Table, table_at}
 use Rattle.jpeg_huffman_table.specs.Looks.{entry_at, entries, channel_looks, looks, paired}
@@ -99,16 +100,7 @@ module _ (t bases : List ℕ) where
   unfolding parts
   laid_none look e = record { few = omega arith; is = e }
 
-  pub laid_length : {j : ℕ} {look : List ℕ} → Laid j look → length look ≡ 4096
-  laid_length {j} {look} l =
-      ap length l.is ∙ length-append (parts 0 j) (zeros (512 * (8 - j)))
-      ∙ omega (arith, parts_length 0 j, zeros_length (512 * (8 - j)), l.few)
-
   module _ {j : ℕ} {look : List ℕ} (l : Laid j look) (less : j < 8) where
-    -- the place of the next part
-    pub slice_length : {m : ℕ} → m ≡ 512 → length (take m (drop (512 * j) look)) ≡ 512
-    slice_length {m} e = length-take m (drop (512 * j) look) ∙ omega (arith, length-drop (512 * j) look, laid_length l, e)
-
     -- with a part that was put behind the others
     behind : {y : List ℕ} → y ≡ part j → {r : List ℕ} → r ≡ (parts 0 j ++ y) ++ drop 512 (zeros (512 * (8 - j))) → Laid (j + 1) r
     behind {y} e g =
@@ -135,11 +127,13 @@ module _ (t bases : List ℕ) where
         → m ≡ 512
         → {y : List ℕ}
         → y ≡ entries 9 (eqb (j % 2) 0) (table_at t (get_or bases j 0))
-        → Laid (j + 1) (take (512 * j) look ++ (y ++ drop m (drop (512 * j) look)))
+        → {r : List ℕ}
+        → r ≡ put_mid (512 * j) m look y
+        → Laid (j + 1) r
     unfolding part
-    laid_filled {m} d {y} e =
+    laid_filled {m} d {y} e g =
         behind e
-        (ap (λ k. take (512 * j) look ++ (y ++ drop k (drop (512 * j) look))) d
+        (g ∙ ap (λ k. take (512 * j) look ++ (y ++ drop k (drop (512 * j) look))) d
         ∙ ap (λ k. take (512 * j) k ++ (y ++ drop 512 (drop (512 * j) k))) l.is
         ∙ ap₂ (λ p q. p ++ (y ++ drop 512 q)) (take_at (parts 0 j) rest (512 * j) (parts_length 0 j)) (drop_at (parts 0 j) rest (512 * j) (parts_length 0 j))
         ∙ sym (append_assoc (parts 0 j) y (drop 512 rest)))
@@ -149,17 +143,19 @@ module _ (t bases : List ℕ) where
 
     -- a part copied from one that is the same
     pub laid_copied :
-        (i : ℕ)
+        {m : ℕ}
+        → m ≡ 512
+        → (i : ℕ)
         → i < j
         → i % 2 ≡ j % 2
         → get_or bases i 0 ≡ get_or bases j 0
         → {r : List ℕ}
-        → r ≡ paste look (512 * j) (drop (512 * i) look) 512
+        → r ≡ paste look (512 * j) (drop (512 * i) look) m
         → Laid (j + 1) r
     unfolding part
-    laid_copied i h even same g =
+    laid_copied {m} d i h even same g =
         behind copied
-        (g ∙ ap₂ (λ p q. (p ++ take 512 (drop (512 * i) look)) ++ q)
+        (g ∙ ap (paste look (512 * j) (drop (512 * i) look)) d ∙ ap₂ (λ p q. (p ++ take 512 (drop (512 * i) look)) ++ q)
         (ap (take (512 * j)) l.is ∙ take_at (parts 0 j) rest (512 * j) (parts_length 0 j))
         (ap₂ drop (ap (λ k. k + 512) (sym (parts_length 0 j))) l.is ∙ drop-append-add (parts 0 j) rest 512))
       where

@@ -1,12 +1,13 @@
 -- A symbol and its value at a bit place of the file and at a wide cursor that meet: by the plain walk, and by a look.
 use Prim.Native.Nat.{ℕ, ◌-◌, ◌/◌, ◌%◌, ◌^◌, ◌≤◌}
-use mathlib.Core.Path.{◌≡◌, refl, subst, subst⁻¹}
-use mathlib.Core.Bool.{Bool, true, cond}
+use mathlib.Core.Path.{◌≡◌, refl, subst⁻¹}
+use mathlib.Core.Bool.{Bool, true}
 use mathlib.Core.List.{List}
 use native.Mathlib.Omega.{arith}
 use lib.ListN.{length}
-use borrow.Author.Tests.{eq-eqb, ne_eqb}
+use Rattle.std.specs.Prelude.{Ok, Err}
 use Rattle.reading.specs.declared.Bits.{Bits}
+use Rattle.reading.specs.declared.Fault.{Fault}
 use Rattle.reading.specs.Reader.{got, fault}
 use Rattle.reading.specs.Bits.{one, amplitude, meaning}
 use Rattle.reading.specs.Huffman.{Table, symbol}
@@ -18,7 +19,6 @@ use Rattle.jpeg_bits_wide.specs.declared.Wide.{Wide}
 use Rattle.jpeg_bits_wide.specs.Cursor.{Meets, to_come, taken}
 use Rattle.jpeg_bits_wide.proofs.Coming.{Enough, taken_proper}
 use Rattle.jpeg_bits_wide.proofs.Meeting.{Found, alike_got, alike_fault, alike_both, Stands, stands_meets, meets_both, pending_there}
-use Rattle.jpeg_huffman_table.specs.declared.SymbolRead.{SymbolRead}
 use Rattle.jpeg_huffman_table.specs.Symbols.{plainly}
 use Rattle.jpeg_huffman_table.specs.Looks.{allowed, entry_at}
 use Rattle.jpeg_huffman_table.proofs.Agreeing.{Holds, symbol_said, plain_agrees}
@@ -34,27 +34,21 @@ symbols_alike {s} {b} {w} m t = symbol_alike (Pending s) (one s) pop (one_alike 
 abbrev pub MeetsWith : List ℕ → ℕ → Bits → Wide → Type 0
 MeetsWith s n b w = Meets s b w × Enough s n w
 
-module _ {s : List ℕ} {b : Bits} {w : Wide} (bytes : AllBytes s) (m : Meets s b w) (t : Table) (few : length t.counts ≤ 16) (symbols : AllBytes t.symbols) where
+module _ {s : List ℕ} {b : Bits} {w : Wide} (bytes : AllBytes s) (m : Meets s b w) (t : Table) (few : length t.counts ≤ 16) where
   pub symbol_plain : Alike (MeetsWith s 41) (symbol (one s) t b) (symbol_said (plainly t s w))
   symbol_plain =
       alike_both (Pending s) (Holds s 41) (MeetsWith s 41) (λ c p q h k. (stands_meets s c p q h k.0, k.1))
       (symbol (one s) t b) (symbol pop t (to_come s w)) (symbol_said (plainly t s w))
-      (symbols_alike m t) (plain_agrees s bytes t few symbols w m.proper)
+      (symbols_alike m t) (plain_agrees s bytes t few w m.proper)
 
   -- by an answer of `plain`: a fault, or a symbol
-  module _ {y : SymbolRead} (e : y ≡ plainly t s w) where
-    said : Alike (MeetsWith s 41) (symbol (one s) t b) (symbol_said y)
-    said = subst⁻¹ (λ r. Alike (MeetsWith s 41) (symbol (one s) t b) (symbol_said r)) e symbol_plain
+  pub plain_stops : {f : Fault} → Err f ≡ plainly t s w → symbol (one s) t b ≡ fault f
+  plain_stops {f} e =
+      alike_fault (MeetsWith s 41) (symbol (one s) t b) f (subst⁻¹ (λ r. Alike (MeetsWith s 41) (symbol (one s) t b) (symbol_said r)) e symbol_plain)
 
-    pub plain_stops : y.symbol ≡ 256 → symbol (one s) t b ≡ fault y.fault
-    plain_stops h =
-        alike_fault (MeetsWith s 41) (symbol (one s) t b) y.fault
-        (subst (λ k. Alike (MeetsWith s 41) (symbol (one s) t b) (cond k (fault y.fault) (got y.symbol y.wide))) (eq-eqb y.symbol 256 h) said)
-
-    pub plain_finds : (y.symbol ≡ 256 → ⊥) → Found (MeetsWith s 41) (symbol (one s) t b) y.symbol y.wide
-    plain_finds n =
-        alike_got (MeetsWith s 41) (symbol (one s) t b) y.symbol y.wide
-        (subst (λ k. Alike (MeetsWith s 41) (symbol (one s) t b) (cond k (fault y.fault) (got y.symbol y.wide))) (ne_eqb y.symbol 256 n) said)
+  pub plain_finds : {x : ℕ} {q : Wide} → Ok (x, q) ≡ plainly t s w → Found (MeetsWith s 41) (symbol (one s) t b) x q
+  plain_finds {x} {q} e =
+      alike_got (MeetsWith s 41) (symbol (one s) t b) x q (subst⁻¹ (λ r. Alike (MeetsWith s 41) (symbol (one s) t b) (symbol_said r)) e symbol_plain)
 
 -- ---- a look
 

@@ -5,14 +5,20 @@ use mathlib.Core.Bool.{Bool, true, false}
 use mathlib.Core.List.{List, [], ◌++◌}
 use native.Mathlib.Omega.{arith}
 use native.Mathlib.Nat.{mod-lt, div-eq_of_lt-le, mul-le-mul_right, add-mul}
-use lib.Dec.{leb, ltb}
-use lib.Pow.{pow_pos, pow-add, shr_lt, split}
-use lib.ListN.{length, get_or, set, take, drop, replicate, length-set, length-append, length-replicate, get_or-replicate, get_or-append}
+use lib.Dec.{leb, ltb, lit≤}
+use Rattle.whole.specs.Powers.{power_is}
+use lib.Pow.{shl_exact, pow_pos, pow-add, shr_lt, split}
+use lib.ListN.{length, get_or, set, take, drop, replicate, length-set, length-append, length-replicate, length-take, length-drop, get_or-replicate, get_or-append}
+use Rattle.std.proofs.lemmas.Slice.{put_mid-paste}
+use borrow.Rule.Slice.PartMut.{put_mid}
 use lib.Seq.{take_all, length-take-le, get_or-take, get_or-append-add, paste, length-paste}
-use borrow.Author.Tests.{lt-ltb, le-ltb, leb-true, leb-false, ltb-true, ltb-false}
+use borrow.Author.Tests.{lt-ltb, leb-true, leb-false, ltb-true, ltb-false}
 use Rattle.whole.specs.Lists.{stored, is_list_of}
+use Rattle.std.proofs.Common.{Ok, Err, Fits, w8}
+use Rattle.reading.specs.declared.Fault.{Fault}
 use Rattle.reading.specs.Reader.{Read, got, fault}
-use Rattle.reading.specs.Huffman.{Table, bits_of, symbol}
+use Rattle.reading.proofs.FileBytes.{AllBytes}
+use Rattle.reading.specs.Huffman.{table_at, Table, bits_of, symbol}
 use Rattle.reading.specs.Code.Coming.{Plain, plain, pop}
 use Rattle.reading.proofs.Unstuffed.{length_bits_of}
 use Rattle.reading.proofs.Same.{Alike}
@@ -20,9 +26,9 @@ use Rattle.jpeg_bits_wide.specs.declared.Wide.{Wide}
 use Rattle.jpeg_bits_wide.specs.Cursor.{bit, filled, byte_more}
 use Rattle.jpeg_bits_wide.proofs.Coming.{bits_behind}
 use Rattle.jpeg_bits_wide.proofs.Filling.{more_full, more_out, filling_begun, filling_over}
-use Rattle.jpeg_huffman_table.specs.declared.SymbolRead.{SymbolRead}
 use Rattle.jpeg_huffman_table.specs.Symbols.{told, plainly}
 use Rattle.jpeg_huffman_table.specs.Looks.{allowed, alone, entry_of, entry_at, entries}
+use Rattle.jpeg_huffman_table.proofs.Agreeing.{symbol_byte, table_bytes}
 use Rattle.jpeg_huffman_table.proofs.Prefix.{Front, symbol_front}
 use Rattle.jpeg_bits_wide.proofs.Meeting.{Stands}
 use Rattle.jpeg_huffman_table.proofs.Looking.{alone_alike, bits_left, same_front}
@@ -113,57 +119,61 @@ filled_none w = sym (filling_over (filling_begun [] w) (go (leb w.left 56) refl)
     go false e = more_full [] w (leb-false w.left 56 e)
 
 -- what the walk says of the k bits of w
-module _ (k : ℕ) (few : k ≤ 64) (t : Table) (w : ℕ) (below : w < 2 ^ k) {y : SymbolRead} (e : y ≡ plainly t [] (alone k w)) where
-  answer : y ≡ told (alone k w) (symbol (bit []) t (alone k w))
+module _ (k : ℕ) (few : k ≤ 64) (t : Table) (w : ℕ) (below : w < 2 ^ k) where
+  answered : plainly t [] (alone k w) ≡ told (symbol (bit []) t (alone k w))
   unfolding plainly
-  answer = e ∙ ap (λ q. told (alone k w) (symbol (bit []) t q)) (filled_none (alone k w))
+  answered = ap (λ q. told (symbol (bit []) t q)) (filled_none (alone k w))
 
-  -- a symbol: so much of the bits is left, and the numbers that begin with its code have the entry
-  pub record Fills (first : Bool) : Type 0 where
-    pub left_few : y.wide.left ≤ k
-    pub same_entry : (j : ℕ) → j < 2 ^ k → j / 2 ^ y.wide.left ≡ w / 2 ^ y.wide.left → entry_at k first t j ≡ 256 * (k - y.wide.left + y.symbol % 16) + y.symbol
-
-  pub fills : (first : Bool) → y.symbol < 256 → allowed first y.symbol ≡ true → Fills first
-  fills first small ok = go (symbol (bit []) t (alone k w)) (symbol pop t (plain (bits_of k w) [])) refl (alone_alike k few w below t) answer
-    where
-      go : (a : Read Wide ℕ) (b : Read Plain ℕ) → symbol pop t (plain (bits_of k w) []) ≡ b → Alike (Stands []) a b → y ≡ told (alone k w) a → Fills first
-      go (fault c) b f h g = absurd (over (ap (λ r. r.symbol) g) small)
-        where
-          over : y.symbol ≡ 256 → y.symbol < 256 → ⊥
-          over p q = omega arith
-      go (got x q) (fault d) f h g = absurd h
-      go (got x q) (got z u) f h g =
-          record {
-            left_few = subst (λ n. n ≤ k) lefts (rest_few k t y.symbol w u.bits reads);
-            same_entry = λ j i p.
-                entry_of_lem k few first t j i y.symbol _ (code_shared k t y.symbol w u.bits reads j (subst⁻¹ (λ n. j / 2 ^ n ≡ w / 2 ^ n) lefts p)) small ok
-                ∙ ap (λ n. 256 * (k - n + y.symbol % 16) + y.symbol) (length_bits_of (length u.bits) (j % 2 ^ length u.bits) ∙ lefts);
-          }
-        where
-          lefts : length u.bits ≡ y.wide.left
-          lefts = bits_left q u h.1.0 ∙ sym (ap (λ r. r.wide.left) g)
-
-          reads : symbol pop t (plain (bits_of k w) []) ≡ got y.symbol (plain u.bits [])
-          reads =
-              f ∙ ap₂ (λ i p. got i p) (sym h.0 ∙ sym (ap (λ r. r.symbol) g))
-              (ap (λ l. plain u.bits l) (symbol_front t (bits_of k w) [] z u f).behind)
-
-  -- no symbol, or one that may not stand
-  pub none_there : (first : Bool) → 256 ≤ y.symbol → 0 ≡ entry_at k first t w
+  -- no symbol
+  pub none_there : {f : Fault} → Err f ≡ plainly t [] (alone k w) → (first : Bool) → 0 ≡ entry_at k first t w
   unfolding entry_at
-  none_there first large = go (symbol (bit []) t (alone k w)) answer
+  none_there {f} e first = go (symbol (bit []) t (alone k w)) (e ∙ answered)
     where
-      go : (a : Read Wide ℕ) → y ≡ told (alone k w) a → 0 ≡ entry_of k first a
+      go : (a : Read Wide ℕ) → Err f ≡ told a → 0 ≡ entry_of k first a
       go (fault c) g = refl
-      go (got x q) g = rw (le-ltb x 256 (subst (λ n. 256 ≤ n) (ap (λ r. r.symbol) g) large)) refl
+      go (got x q) g = cc
 
-  pub not_allowed : (first : Bool) → y.symbol < 256 → allowed first y.symbol ≡ false → 0 ≡ entry_at k first t w
-  unfolding entry_at
-  not_allowed first small bad = go (symbol (bit []) t (alone k w)) answer
-    where
-      go : (a : Read Wide ℕ) → y ≡ told (alone k w) a → 0 ≡ entry_of k first a
-      go (fault c) g = refl
-      go (got x q) g = rw (lt-ltb x 256 (subst (λ n. n < 256) (ap (λ r. r.symbol) g) small), sym (ap (λ r. allowed first r.symbol) g) ∙ bad) refl
+  module _ {x : ℕ} {q : Wide} (e : Ok (x, q) ≡ plainly t [] (alone k w)) where
+    found : symbol (bit []) t (alone k w) ≡ got x q
+    found = go (symbol (bit []) t (alone k w)) (e ∙ answered)
+      where
+        go : (a : Read Wide ℕ) → Ok (x, q) ≡ told a → a ≡ got x q
+        go (fault c) g = cc
+        go (got y r) g =
+            let same : (y, r) ≡ (x, q) = cc in
+            ap (λ (p : ℕ × Wide). got p.0 p.1) same
+
+    pub found_byte : AllBytes t.symbols → x < 256
+    found_byte bytes = symbol_byte (bit []) t bytes (alone k w) q x found
+
+    -- a symbol that may stand: so much of the bits is left, and the numbers that begin with its code have the entry
+    pub record Fills (first : Bool) : Type 0 where
+      pub left_few : q.left ≤ k
+      pub same_entry : (j : ℕ) → j < 2 ^ k → j / 2 ^ q.left ≡ w / 2 ^ q.left → entry_at k first t j ≡ 256 * (k - q.left + x % 16) + x
+
+    pub fills : AllBytes t.symbols → (first : Bool) → allowed first x ≡ true → Fills first
+    fills bytes first ok = go (symbol pop t (plain (bits_of k w) [])) refl (subst (λ a. Alike (Stands []) a (symbol pop t (plain (bits_of k w) []))) found (alone_alike k few w below t))
+      where
+        go : (b : Read Plain ℕ) → symbol pop t (plain (bits_of k w) []) ≡ b → Alike (Stands []) (got x q) b → Fills first
+        go (fault d) f h = absurd h
+        go (got z u) f h =
+            record {
+              left_few = subst (λ n. n ≤ k) lefts (rest_few k t x w u.bits reads);
+              same_entry = λ j i p.
+                  entry_of_lem k few first t j i x _ (code_shared k t x w u.bits reads j (subst⁻¹ (λ n. j / 2 ^ n ≡ w / 2 ^ n) lefts p)) (found_byte bytes) ok
+                  ∙ ap (λ n. 256 * (k - n + x % 16) + x) (length_bits_of (length u.bits) (j % 2 ^ length u.bits) ∙ lefts);
+            }
+          where
+            lefts : length u.bits ≡ q.left
+            lefts = bits_left q u h.1.0
+
+            reads : symbol pop t (plain (bits_of k w) []) ≡ got x (plain u.bits [])
+            reads = f ∙ ap₂ (λ i p. got i p) (sym h.0) (ap (λ l. plain u.bits l) (symbol_front t (bits_of k w) [] z u f).behind)
+
+    -- one that may not
+    pub not_allowed : AllBytes t.symbols → (first : Bool) → allowed first x ≡ false → 0 ≡ entry_at k first t w
+    unfolding entry_at
+    not_allowed bytes first bad = rw (found, lt-ltb x 256 (found_byte bytes), bad) refl
 
 -- ---- numbers that begin alike
 
@@ -171,9 +181,6 @@ module _ (k : ℕ) (few : k ≤ 64) (t : Table) (w : ℕ) (below : w < 2 ^ k) {y
 module _ (w r n : ℕ) (e : n ≡ 2 ^ r - w % 2 ^ r) where
   base_is : w + n ≡ w / 2 ^ r * 2 ^ r + 2 ^ r
   base_is = omega (arith, split w r, mod-lt w (pow_pos r), e)
-
-  pub part_some : 0 < n
-  part_some = omega (arith, mod-lt w (pow_pos r), e)
 
   pub part_same : (j : ℕ) → w ≤ j → j < w + n → j / 2 ^ r ≡ w / 2 ^ r
   part_same j h i = div-eq_of_lt-le (2 ^ r) (omega (arith, split w r, h)) high
@@ -196,18 +203,78 @@ module _ (w r n : ℕ) (e : n ≡ 2 ^ r - w % 2 ^ r) where
       rise : {m : ℕ} → (w / 2 ^ r + 1) * 2 ^ r ≤ m → w / 2 ^ r * 2 ^ r + 2 ^ r ≤ m
       rise g = omega (arith, g, add-mul (w / 2 ^ r) 1 (2 ^ r))
 
+symbols_fit : (t : List ℕ) (base : ℕ) → ((i : ℕ) → Fits w8 (get_or t i 0)) → AllBytes (table_at t base).symbols
+symbols_fit t base h = table_bytes t base (λ i. let fits = h i in omega arith)
+
+-- no symbol of the nine bits of w
+pub nothing :
+    (t : Table) {w : ℕ} {f : Fault}
+    → w < 512
+    → Err f ≡ plainly t [] (record { at = 0; acc = w * 2 ^ 55 % 2 ^ 64; left = 9 })
+    → (first : Bool)
+    → 0 ≡ entry_at 9 first t w
+nothing t {w} below e =
+    none_there 9 (lit≤ tt) t w below
+    (e ∙ ap (λ a. plainly t [] (record { at = 0; acc = a; left = 9 })) (shl_exact 9 55 64 below (lit≤ tt)))
+
+-- a symbol of the nine bits of w that may stand: so many numbers from w on begin with its code, and have its entry
+module _
+    (t : Table) {w x : ℕ} {q : Wide} (below : w < 512)
+    (e : Ok (x, q) ≡ plainly t [] (record { at = 0; acc = w * 2 ^ 55 % 2 ^ 64; left = 9 }))
+  where
+    alone_said : Ok (x, q) ≡ plainly t [] (alone 9 w)
+    alone_said = e ∙ ap (λ a. plainly t [] (record { at = 0; acc = a; left = 9 })) (shl_exact 9 55 64 below (lit≤ tt))
+
+    abbrev span : ℕ
+    span = 1 * 2 ^ q.left % 2 ^ 64
+
+    pub record Runs (first : Bool) : Type 0 where
+      pub few : q.left ≤ 9
+      pub byte : x < 256
+      pub some : 0 < span
+      pub rest : w % span < span
+      pub inside : w + (span - w % span) ≤ 512
+      pub same : (j : ℕ) → w ≤ j → j < w + (span - w % span) → 256 * (9 - q.left + x % 16) + x ≡ entry_at 9 first t j
+
+    runs : AllBytes t.symbols → (first : Bool) → allowed first x ≡ true → Runs first
+    runs bytes first ok =
+        let f = fills 9 (lit≤ tt) t w below alone_said bytes first ok in
+        let few : q.left ≤ 9 = f.left_few in
+        let is : span ≡ 2 ^ q.left = power_is q.left (omega arith) in
+        let many : span - w % span ≡ 2 ^ q.left - w % 2 ^ q.left = ap (λ k. k - w % k) is in
+        let inside : w + (span - w % span) ≤ 512 = part_within w q.left _ many 9 few below in
+        let some : 0 < span = rw is (pow_pos q.left) in
+        record {
+          few = few;
+          byte = found_byte 9 (lit≤ tt) t w below alone_said bytes;
+          some = some;
+          rest = mod-lt w some;
+          inside = inside;
+          same = λ j p r. sym (f.same_entry j (omega arith) (part_same w q.left _ many j p r));
+        }
+
+    -- one that may not stand
+    refused : AllBytes t.symbols → (first : Bool) → allowed first x ≡ false → 0 ≡ entry_at 9 first t w
+    refused = not_allowed 9 (lit≤ tt) t w below alone_said
+
+-- by what `fill` knows of a symbol that was found
+module _
+    (t : List ℕ) (base : ℕ) {w x : ℕ} {q : Wide} (below : w < 512)
+    (e : Ok (x, q) ≡ plainly (table_at t base) [] (record { at = 0; acc = w * 2 ^ 55 % 2 ^ 64; left = 9 }))
+    (numbers : (i : ℕ) → Fits w8 (get_or t i 0)) (first : Bool) {b : Bool} (asked : b ≡ allowed first x)
+  where
+    pub runs_there : b ≡ true → Runs (table_at t base) below e first
+    runs_there h = runs (table_at t base) below e (symbols_fit t base numbers) first (sym asked ∙ h)
+
+    pub refused_there : b ≡ false → 0 ≡ entry_at 9 first (table_at t base) w
+    refused_there h = refused (table_at t base) below e (symbols_fit t base numbers) first (sym asked ∙ h)
+
 -- ---- the table on the way
 
 pub record Done (f : ℕ → ℕ) (look : List ℕ) (w : ℕ) : Type 0 where
   pub long : length look ≡ 512
   pub within : w ≤ 512
   pub done : (j : ℕ) → j < w → get_or look j 0 ≡ f j
-
-pub done_none : (f : ℕ → ℕ) (look : List ℕ) → length look ≡ 512 → Done f look 0
-done_none f look e = record { long = e; within = omega arith; done = λ j h. absurd (none h) }
-  where
-    none : {j : ℕ} → j < 0 → ⊥
-    none h = omega arith
 
 pub done_next : {f : ℕ → ℕ} {look : List ℕ} {w : ℕ} → Done f look w → w < 512 → {x : ℕ} → x ≡ f w → Done f (set look w x) (w + 1)
 done_next {f} {look} {w} d h {x} e =
@@ -268,6 +335,22 @@ done_spread {f} {look} {w} d n x room same {r} g =
           where
             back : w + (j - w) ≡ j
             back = omega (arith, ltb-false j w e)
+
+-- by a fill of the part for them
+pub done_filled :
+    {f : ℕ → ℕ} {look : List ℕ} {w : ℕ}
+    → Done f look w
+    → (n x : ℕ)
+    → w + n ≤ 512
+    → ((j : ℕ) → w ≤ j → j < w + n → x ≡ f j)
+    → {r : List ℕ}
+    → r ≡ replicate (length (take (w + n - w) (drop w look))) x
+    → Done f (put_mid w (w + n - w) look r) (w + n)
+done_filled {f} {look} {w} d n x room same g =
+    let many : n ≡ w + n - w = omega arith in
+    let long : length (take (w + n - w) (drop w look)) ≡ n = omega (arith, length-take (w + n - w) (drop w look), length-drop w look, d.long) in
+    done_spread d n x room same
+    (put_mid-paste w (w + n - w) look _ (replicate n x) n (g ∙ ap (λ k. replicate k x) long) many (sym (length-replicate n x)))
 
 pub all_done : (first : Bool) (t : Table) {look : List ℕ} {w : ℕ} → Done (entry_at 9 first t) look w → 512 ≤ w → look ≡ entries 9 first t
 unfolding entries

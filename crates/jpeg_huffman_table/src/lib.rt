@@ -3,8 +3,7 @@
 // law of proofs/ (`look-agrees`), for tables of any width.
 #![tactic(auto)]
 
-ghost use Rattle.std.specs.Prelude.{◌≡◌, ◌+◌, ◌%◌, ◌<◌, ◌≤◌, length, get_or, drop, replicate};
-ghost use Rattle.std.proofs.Math.Seq.{paste};
+ghost use Rattle.std.specs.Prelude.{◌≡◌, ◌%◌, ◌<◌, ◌≤◌, length, get_or};
 ghost use Rattle.reading.specs.Huffman.{table_at};
 ghost use Rattle.jpeg_huffman_table.specs.Symbols.{plainly};
 ghost use Rattle.jpeg_huffman_table.specs.Looks.{allowed, entries, paired, looks, looked, field_at};
@@ -12,139 +11,78 @@ ghost use Rattle.jpeg_huffman_table.specs.Looks.{allowed, entries, paired, looks
 use jpeg_bits_wide::Wide;
 use reading::Fault;
 
-// A symbol by the plain walk; 256 is a fault, and the cursor is then where it was.
-#[derive(Clone, Copy)]
-pub struct SymbolRead {
-    pub wide: Wide,
-    pub symbol: usize,
-    pub fault: Fault,
-}
-
-fn no_symbol(w: Wide, f: Fault) -> SymbolRead
-    ensures { result ≡ record { wide = w; symbol = 256; fault = f } }
-{
-    SymbolRead {
-        wide: w,
-        symbol: 256,
-        fault: f,
-    }
-}
-
 // As `jpeg_huffman::symbol`, over the wide cursor: 16 bits are there, or all that can be read.
-pub fn plain(t: &[u8], base: usize, s: &[u8], from: Wide) -> SymbolRead
+// The two are not one function: a trait of cursors that give a bit, with its law and both impls, is longer than this loop.
+pub fn plain(t: &[u8], base: usize, s: &[u8], from: Wide) -> Result<(usize, Wide), Fault>
     ensures { result ≡ plainly (table_at t.now base) s.now from }
 {
     if t.len() <= base {
-        return no_symbol(from, Fault::NoCode);
+        return Err(Fault::NoCode);
     }
-    let b = jpeg_bits_wide::filled(s, from);
-    let at = b.at;
-    let mut acc = b.acc;
-    let mut left = b.left;
+    let Wide {
+        at,
+        mut acc,
+        mut left,
+    } = jpeg_bits_wide::filled(s, from);
     let mut past = 0usize;
-    let mut i = base;
     let mut place = base + 16;
-    let mut more = jpeg_huffman::lengths(t.len() - base);
-    'walk: loop {
-        if more == 0 {
-            break 'walk no_symbol(from, Fault::NoCode);
-        }
+    for count in &t[base..t.len().min(base + 16)] {
         if left == 0 {
-            break 'walk no_symbol(from, jpeg_bits_wide::fault_at(s, at));
+            return Err(jpeg_bits_wide::fault_at(s, at));
         }
-        let count = t[i] as usize;
+        let count = *count as usize;
         let code = 2 * past + (acc >> 63) as usize;
-        acc = acc << 1;
+        acc <<= 1;
         left -= 1;
         if code < count {
-            break 'walk SymbolRead {
-                wide: Wide {
-                    at: at,
-                    acc: acc,
-                    left: left,
-                },
-                symbol: reading::byte_at(t, place + code) as usize,
-                fault: Fault::Broken,
-            };
+            let found = reading::at_or(t, place + code, 0) as usize;
+            return Ok((found, Wide { at, acc, left }));
         }
         past = code - count;
         place += count;
-        i += 1;
-        more -= 1;
     }
+    Err(Fault::NoCode)
 }
 
 // A symbol that is asked for where it may not stand has no entry: the plain way finds it and refuses.
+// `listable` of jpeg_header_rules tests the same of a table's class; that crate and this one share only crates that ask neither.
+#[tactic(auto, unfolding(crate::specs::Looks::allowed))]
 fn allowed(first: bool, x: usize) -> bool
     ensures { result ≡ allowed first x }
 {
     if first {
-        return x <= 11;
-    }
-    if x == 0 {
-        return true;
-    }
-    if x == 240 {
-        return true;
-    }
-    reading::within(1, 10, x % 16)
-}
-
-// The same entry n times, from `from` on.
-fn spread(look: &mut [u16], from: usize, n: usize, e: u16)
-    requires { (length look.old ≡ 512) × (from + n ≤ 512) }
-    ensures { look.new ≡ paste look.old from (replicate n e) n }
-{
-    let mut i = 0usize;
-    while i < n {
-        look[from + i] = e;
-        i += 1;
+        x <= 11
+    } else {
+        x == 0 || x == 240 || reading::within(1, 10, x % 16)
     }
 }
 
 // The entries of the table at `base` of t, 512 of them: 256 x (bits of code and value) + symbol; 0 where the 9 bits begin with no code.
-// Each is what the plain walk finds in the 9 bits alone; all indices that begin with the code that it took have the same.
+// Each is what the plain walk finds in the 9 bits alone; all indices that begin with the code that it took have the same, and are filled
+// in one turn, so that no `for` counts the turns.
 fn fill(t: &[u8], base: usize, first: bool, look: &mut [u16])
     requires { length look.old ≡ 512 }
     ensures { look.new ≡ entries 9 first (table_at t.now base) }
 {
     let mut w = 0usize;
     while w < 512 {
-        let y = plain(
-            t,
-            base,
-            &t[..0],
-            Wide {
-                at: 0,
-                acc: (w as u64) << 55,
-                left: 9,
-            },
-        );
-        let x = y.symbol;
-        let rest = y.wide;
-        let left = rest.left;
-        if x < 256 && allowed(first, x) {
-            let width = 1usize << left;
-            let e = (256 * (9 - left + x % 16) + x) as u16;
-            let n = width - w % width;
-            spread(look, w, n, e);
-            w += n;
-        } else {
-            look[w] = 0;
-            w += 1;
+        let alone = Wide {
+            at: 0,
+            acc: (w as u64) << 55,
+            left: 9,
+        };
+        match plain(t, base, &[], alone) {
+            Ok((x, rest)) if allowed(first, x) => {
+                let width = 1usize << rest.left;
+                let n = width - w % width;
+                look[w..w + n].fill((256 * (9 - rest.left + x % 16) + x) as u16);
+                w += n;
+            }
+            _ => {
+                look[w] = 0;
+                w += 1;
+            }
         }
-    }
-}
-
-// The 512 entries from `from` on once more, from `to` on.
-fn copy(look: &mut [u16; 4096], from: usize, to: usize)
-    requires { (length look.old ≡ 4096) × (from + 512 ≤ to) × (to + 512 ≤ 4096) }
-    ensures { look.new ≡ paste look.old to (drop from look.old) 512 }
-{
-    let mut i = 0usize;
-    while i < 512 {
-        look[to + i] = look[from + i];
-        i += 1;
     }
 }
 
@@ -162,13 +100,10 @@ fn alike(bases: [usize; 8], j: usize) -> usize
     requires { j < 8 }
     ensures { (result ≤ j) × (result % 2 ≡ j % 2) × (get_or bases result 0 ≡ get_or bases j 0) }
 {
-    let base = bases[j];
-    let mut i = j % 2;
-    while i < j {
-        if bases[i] == base {
+    for i in 0..j {
+        if i % 2 == j % 2 && bases[i] == bases[j] {
             return i;
         }
-        i += 2;
     }
     j
 }
@@ -180,40 +115,27 @@ pub fn looks(t: &[u8], dcs: [usize; 4], acs: [usize; 4]) -> [u16; 4096]
 {
     let bases = paired(dcs, acs);
     let mut look = [0u16; 4096];
-    let mut j = 0usize;
-    while j < 8 {
+    for j in 0..8 {
         let from = alike(bases, j);
-        let base = bases[j];
-        let first = j % 2 == 0;
-        let again = from < j;
-        let to = 512 * j;
-        j += 1;
-        if again {
-            copy(&mut look, 512 * from, to);
+        if from < j {
+            look.copy_within(512 * from..512 * from + 512, 512 * j);
         } else {
-            let end = to + 512;
-            fill(t, base, first, &mut look[to..end]);
+            fill(t, bases[j], j % 2 == 0, &mut look[512 * j..512 * j + 512]);
         }
     }
     look
 }
 
-// An entry as a larger number.
-fn wide(e: u16) -> usize
-    ensures { result ≡ e }
-{
-    e as usize
-}
-
 // The entry for the next 9 bits, of the 512 from `from` on; 0 where there are none. Bits that are not there are 0 in acc: a caller tests
 // that as many are left as the entry takes. This and the next take and answer single numbers: so they are inlined wherever they are called.
+#[tactic(auto, unfolding(crate::specs::Looks::looked))]
 pub fn entry(look: &[u16; 4096], from: usize, acc: u64) -> usize
     ensures { result ≡ looked 9 look.now from acc }
 {
     if 3584 < from {
         return 0;
     }
-    wide(look[from + (acc >> 55) as usize])
+    look[from + (acc >> 55) as usize] as usize
 }
 
 // The value behind a code: the last `size` of the next `total` bits, at most 63 of them. Shifts go by the low bits of their amount, so that

@@ -1,3 +1,3 @@
--- Laws of the tests before the scan, and of payments.
+-- What the answers of admit and charge say: laws for the calls above.
 pub mod Charged
 pub mod Admitted

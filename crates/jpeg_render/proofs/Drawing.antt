@@ -8,12 +8,13 @@ use native.Mathlib.Decide.{dec_lt}
 use native.Mathlib.Numerals.{add-one}
 use native.Mathlib.Nat.{add-zero, zero-add, mod-lt, zero-mul, mul-one, suc-mul, div-add-mod', div-lt_iff_lt-mul}
 use lib.Arith.{digits_div, digits_mod}
-use lib.ListN.{length, get_or, set, drop, length-drop, length-append, get_or-append}
-use lib.Seq.{get_or-append-add, get_or-drop, ext_get_or}
+use lib.ListN.{length, get_or, set, take, drop, replicate, length-drop, length-append, get_or-append}
+use lib.Seq.{get_or-append-add, get_or-drop, get_or-take, length-take-le, ext_get_or}
+use Rattle.std.proofs.lemmas.List.{length-replicate, get_or-replicate}
 use Rattle.whole.specs.Lists.{list_of, length_from, get_d_from}
 use Rattle.reading.specs.Tests.{over}
 use Rattle.jpeg_render_row.specs.Drawn.{written, pixels}
-use Rattle.jpeg_render_row.proofs.Drawing.{length_written, written_in, written_behind, written_cong, written_join}
+use Rattle.jpeg_render_row.proofs.Drawing.{length_written, written_in, written_before, written_behind, written_cong, written_join}
 use Rattle.jpeg_render.specs.Drawn.{rows}
 
 -- a list from its first place on is what was written, and then the old tail
@@ -119,11 +120,76 @@ pub four_of : (f : ℕ → ℕ) (a : ℕ) (d : List ℕ) {x y z w : ℕ} → x �
 unfolding written
 four_of f a d p q r s = rw (add-zero, p, q, r, s)
 
--- one byte at several places
-pub once : (x a : ℕ) (d : List ℕ) → set d a x ≡ written (λ _. x) a 1 d
-unfolding written
-once x a d = rw add-zero
+-- ---- a part of a buffer that is written at once
 
-pub four_times : (x a : ℕ) (d : List ℕ) → set (set (set (set d a x) (a + 1) x) (a + 2) x) (a + 3) x ≡ written (λ _. x) a 4 d
-unfolding written
-four_times x a d = rw add-zero
+read_behind : (u v : List ℕ) (i k : ℕ) → i ≡ length u + k → get_or (u ++ v) i 0 ≡ get_or v k 0
+read_behind u v i k e = rw e (get_or-append-add u v k 0)
+
+-- a list in the place of a part of the buffer that is as long
+pub put_written : (f : ℕ → ℕ) (a n : ℕ) (d ys : List ℕ) → a + n ≤ length d → length ys ≡ n → ((i : ℕ) → i < n → get_or ys i 0 ≡ f i)
+    → take a d ++ (ys ++ drop n (drop a d)) ≡ written f a n d
+put_written f a n d ys room many says =
+    ext_get_or 0 (take a d ++ (ys ++ drop n (drop a d))) (written f a n d) same (λ i _. each i (dec_lt i a))
+  where
+    front : length (take a d) ≡ a
+    front = length-take-le a d (omega arith)
+
+    same : length (take a d ++ (ys ++ drop n (drop a d))) ≡ length (written f a n d)
+    same = simp (length_written, length-append, length-drop) (omega (arith, front, many))
+
+    behind : (k : ℕ) → Dec (k < n) → get_or (ys ++ drop n (drop a d)) k 0 ≡ get_or (written f a n d) (a + k) 0
+    behind k (yes p) = get_or-append ys (drop n (drop a d)) 0 k (omega (arith, many)) ∙ says k p ∙ sym (written_in f a n d k p room)
+    behind k (no p) =
+        let e : k ≡ length ys + (k - n) = omega (arith, many) in
+        let here : a + (n + (k - n)) ≡ a + k = omega arith in
+        read_behind ys (drop n (drop a d)) k (k - n) e
+        ∙ get_or-drop n (drop a d) (k - n) 0
+        ∙ get_or-drop a d (n + (k - n)) 0
+        ∙ ap (λ j. get_or d j 0) here
+        ∙ sym (written_behind f a n d (a + k) (omega arith))
+
+    each : (i : ℕ) → Dec (i < a) → get_or (take a d ++ (ys ++ drop n (drop a d))) i 0 ≡ get_or (written f a n d) i 0
+    each i (yes p) =
+        get_or-append (take a d) (ys ++ drop n (drop a d)) 0 i (omega (arith, front)) ∙ get_or-take a d i 0 p ∙ sym (written_before f a n d i p)
+    each i (no p) =
+        let e : i ≡ length (take a d) + (i - a) = omega (arith, front) in
+        let here : a + (i - a) ≡ i = omega arith in
+        read_behind (take a d) (ys ++ drop n (drop a d)) i (i - a) e
+        ∙ behind (i - a) (dec_lt (i - a) n)
+        ∙ ap (λ j. get_or (written f a n d) j 0) here
+
+-- n bytes copied from a place of one list to a place of another
+pub copied : (s d ys : List ℕ) (from a k l n : ℕ) → from + n ≤ length s → a + n ≤ length d → k ≡ n → l ≡ n → ys ≡ take k (drop from s)
+    → take a d ++ (ys ++ drop l (drop a d)) ≡ written (λ j. get_or s (from + j) 0) a n d
+copied s d ys from a k l n read room p q e =
+    rw (q, e, p)
+    (put_written (λ j. get_or s (from + j) 0) a n d (take n (drop from s)) room
+    (length-take-le n (drop from s) (omega (arith, length-drop from s)))
+    (λ i h. get_or-take n (drop from s) i 0 h ∙ get_or-drop from s i 0))
+
+-- the first n bytes of a list copied
+pub copied_first : (s d ys : List ℕ) (a l n : ℕ) → n ≤ length s → a + n ≤ length d → l ≡ n → ys ≡ take n s
+    → take a d ++ (ys ++ drop l (drop a d)) ≡ written (λ j. get_or s j 0) a n d
+copied_first s d ys a l n read room q e =
+    rw (q, e) (put_written (λ j. get_or s j 0) a n d (take n s) room (length-take-le n s read) (λ i h. get_or-take n s i 0 h))
+
+-- one byte at n places
+pub filled : (x a k l n : ℕ) (d ys : List ℕ) → a + n ≤ length d → k ≡ n → l ≡ n → ys ≡ replicate (length (take k (drop a d))) x
+    → take a d ++ (ys ++ drop l (drop a d)) ≡ written (λ _. x) a n d
+filled x a k l n d ys room p q e =
+    let many : length (take n (drop a d)) ≡ n = length-take-le n (drop a d) (omega (arith, length-drop a d)) in
+    rw (q, e, p, many)
+    (put_written (λ _. x) a n d (replicate n x) room (length-replicate n x) (λ i h. get_or-replicate n i x 0 h))
+
+-- pixels of one channel are bytes
+pub pixels_one : (p : ℕ → ℕ → ℕ) (a n : ℕ) (d : List ℕ) → written (λ i. p i 0) a n d ≡ pixels p 1 a n d
+unfolding written pixels
+pixels_one p a zero d = refl
+pixels_one p a (suc n) d =
+    one_of (p n) a n (written (λ i. p i 0) a n d) refl ∙ ap (written (p n) (a + n * 1) 1) (pixels_one p a n d)
+
+-- n pixels of one channel, copied
+pub copied_pixels : (s d ys : List ℕ) (from a n : ℕ) → from + n ≤ length s → a + n ≤ length d → ys ≡ take (from + n - from) (drop from s)
+    → take a d ++ (ys ++ drop (a + n - a) (drop a d)) ≡ pixels (λ i c. get_or s (from + i) 0) 1 a n d
+copied_pixels s d ys from a n read room e =
+    copied s d ys from a (from + n - from) (a + n - a) n read room (omega arith) (omega arith) e ∙ pixels_one (λ i c. get_or s (from + i) 0) a n d

@@ -30,18 +30,12 @@ pub(crate) fn rows_of(frame: Frame, m: Mcu, y: usize) -> [usize; 4]
     requires { Sized frame × (m ≡ measured frame) × (y < frame.height) }
     ensures { RowsOf (shape_of frame) y frame.channels result }
 {
-    let across = frame.across;
-    let down = frame.down;
     let v = y % (8 * m.down);
     let mut blocks = blocks_above(frame, m, y);
     let mut places = [0usize; 4];
-    let mut c = 0usize;
-    while c < frame.channels {
-        let wide = across[c];
-        let high = down[c];
-        places[c] = row_in(blocks, v, wide, high, m.down);
-        blocks += wide * high;
-        c += 1;
+    for c in 0..frame.channels {
+        places[c] = row_in(blocks, v, frame.across[c], frame.down[c], m.down);
+        blocks += frame.across[c] * frame.down[c];
     }
     places
 }
@@ -51,7 +45,5 @@ pub(crate) fn all_samples(frame: Frame, m: Mcu) -> usize
     requires { Sized frame × (m ≡ measured frame) }
     ensures { result ≡ 64 * block_count (shape_of frame) }
 {
-    let across = reading::mcus(frame.width, m.across);
-    let down = reading::mcus(frame.height, m.down);
-    64 * (across * down * m.blocks)
+    64 * (reading::mcus(frame.width, m.across) * reading::mcus(frame.height, m.down) * m.blocks)
 }

@@ -17,13 +17,7 @@ fn framed(frame: Frame, m: Mcu) -> bool
     requires { m ≡ measured frame }
     ensures { result ≡ framed frame }
 {
-    if m.blocks == 0 {
-        return false;
-    }
-    if Limits::SIDE < frame.width {
-        return false;
-    }
-    frame.height <= Limits::SIDE
+    m.blocks != 0 && frame.width <= Limits::SIDE && frame.height <= Limits::SIDE
 }
 
 // Whether a frame can be drawn from so many samples into so many bytes.
@@ -32,13 +26,9 @@ fn fits(frame: Frame, m: Mcu, samples: usize, room: usize) -> bool
     requires { m ≡ measured frame }
     ensures { result ≡ fits frame samples room }
 {
-    if !framed(frame, m) {
-        return false;
-    }
-    if room < frame.width * frame.height * frame.channels {
-        return false;
-    }
-    layout::all_samples(frame, m) <= samples
+    framed(frame, m)
+        && frame.width * frame.height * frame.channels <= room
+        && layout::all_samples(frame, m) <= samples
 }
 
 // The picture over what stood in the buffer.

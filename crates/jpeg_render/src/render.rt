@@ -4,7 +4,7 @@
 // loop over pixels. Nearly all files have one channel, or luma and two chroma channels of one block across: these have functions of
 // their own. Of them nearly all have sampling 1 or 2 across: 1 is spread by a loop of its own, and with 2 in colour it is not the
 // chroma samples that are spread but what they add to luma.
-ghost use Rattle.std.specs.Prelude.{◌≡◌, true, false, [], ◌∷◌, ◌+◌, ◌*◌, ◌-◌, ◌/◌, ◌≤◌, ◌<◌, min, length, get_or};
+ghost use Rattle.std.specs.Prelude.{◌≡◌, true, false, [], ◌∷◌, ◌+◌, ◌*◌, ◌-◌, ◌/◌, ◌≤◌, ◌<◌, length, get_or};
 ghost use Rattle.reading.specs.Tests.{over};
 ghost use Rattle.reading.specs.Tables.{shape_of};
 ghost use Rattle.reading.specs.Reading.{picture};
@@ -16,26 +16,12 @@ ghost use Rattle.jpeg_render.specs.Rows.{Drawable, Usual, RunsFit, ColourFits, L
 use crate::layout;
 use reading::{Frame, Mcu};
 
-// The smaller of two numbers.
-fn least(a: usize, b: usize) -> usize
-    ensures { result ≡ min a b }
-{
-    if a < b {
-        return a;
-    }
-    b
-}
-
 // Each of 8 chroma samples once.
 fn spread_1(samples: &[u8], chroma: usize, spread: &mut [u8; 32])
     requires { (chroma + 8 ≤ length samples.now) × (length spread.old ≡ 32) }
     ensures { Widened samples.now chroma 1 spread.new }
 {
-    let mut j = 0usize;
-    while j < 8 {
-        spread[j] = samples[chroma + j];
-        j += 1;
-    }
+    spread[..8].copy_from_slice(&samples[chroma..chroma + 8]);
 }
 
 // Each of 8 chroma samples hs times. Four are written; the next sample writes over those that are too many.
@@ -43,15 +29,8 @@ fn spread_wide(samples: &[u8], chroma: usize, hs: usize, spread: &mut [u8; 32])
     requires { (chroma + 8 ≤ length samples.now) × (length spread.old ≡ 32) × (hs ≤ 4) }
     ensures { Widened samples.now chroma hs spread.new }
 {
-    let mut j = 0usize;
-    while j < 8 {
-        let sample = samples[chroma + j];
-        let at = hs * j;
-        spread[at] = sample;
-        spread[at + 1] = sample;
-        spread[at + 2] = sample;
-        spread[at + 3] = sample;
-        j += 1;
+    for j in 0..8 {
+        spread[hs * j..hs * j + 4].fill(samples[chroma + j]);
     }
 }
 
@@ -60,11 +39,7 @@ fn gather_8(samples: &[u8], from: usize, x: usize, gathered: &mut [u8; 32])
     requires { (from + 8 ≤ length samples.now) × (x + 8 ≤ 32) × (length gathered.old ≡ 32) }
     ensures { gathered.new ≡ written (λ j. get_or samples.now (from + j) 0) x 8 gathered.old }
 {
-    let mut j = 0usize;
-    while j < 8 {
-        gathered[x + j] = samples[from + j];
-        j += 1;
-    }
+    gathered[x..x + 8].copy_from_slice(&samples[from..from + 8]);
 }
 
 // The luma samples of an MCU in one row, block by block: each has 8 of them.
@@ -95,8 +70,7 @@ fn runs(
 {
     let mut gathered = [0u8; 32];
     gather(samples, luma, n, &mut gathered);
-    let e = at + n * 3;
-    jpeg_render_row::run(&gathered, cb, cr, n, colour, &mut out[at..e]);
+    jpeg_render_row::run(&gathered, cb, cr, n, colour, &mut out[at..at + n * 3]);
 }
 
 // An MCU of the usual three channels in one row, sampling 1 across. This and the next are two functions, and not one with a choice in
@@ -159,15 +133,12 @@ fn coloured_2(
 {
     let mut gathered = [0u8; 32];
     gather(samples, luma, n, &mut gathered);
-    let first_end = first + 8;
-    let second_end = second + 8;
-    let e = at + n * 3;
     jpeg_render_pairs::tinted(
         &gathered,
-        &samples[first..first_end],
-        &samples[second..second_end],
+        &samples[first..first + 8],
+        &samples[second..second + 8],
         n,
-        &mut out[at..e],
+        &mut out[at..at + n * 3],
     );
 }
 
@@ -201,11 +172,7 @@ fn gray(samples: &[u8], luma: usize, n: usize, out: &mut [u8], at: usize)
     requires { (luma + n ≤ length samples.now) × (at + n ≤ length out.old) }
     ensures { out.new ≡ pixels (λ i c. get_or samples.now (luma + i) 0) 1 at n out.old }
 {
-    let mut i = 0usize;
-    while i < n {
-        out[at + i] = samples[luma + i];
-        i += 1;
-    }
+    out[at..at + n].copy_from_slice(&samples[luma..luma + n]);
 }
 
 // The samples of a channel that has some blocks across, but fewer than the MCU: pixel i has sample i * own / largest.
@@ -213,12 +180,9 @@ fn spread_part(samples: &[u8], from: usize, own: usize, largest: usize, spread: 
     requires { LaneFits samples.now from own largest × (length spread.old ≡ 32) }
     ensures { Spread samples.now from own largest spread.new }
 {
-    let n = 8 * largest;
-    let mut i = 0usize;
-    while i < n {
+    for i in 0..8 * largest {
         let u = i * own / largest;
         spread[i] = samples[from + (64 * (u / 8) + u % 8)];
-        i += 1;
     }
 }
 
@@ -242,11 +206,7 @@ fn join_1(a: &[u8; 32], n: usize, out: &mut [u8], at: usize)
     requires { (n ≤ 32) × (at + n * 1 ≤ length out.old) }
     ensures { out.new ≡ pixels (in_lists (a.now ∷ [])) 1 at n out.old }
 {
-    let mut i = 0usize;
-    while i < n {
-        out[at + i] = a[i];
-        i += 1;
-    }
+    out[at..at + n].copy_from_slice(&a[..n]);
 }
 
 // The pixels of two lists of samples, interleaved.
@@ -254,12 +214,10 @@ fn join_2(a: &[u8; 32], b: &[u8; 32], n: usize, out: &mut [u8], at: usize)
     requires { (n ≤ 32) × (at + n * 2 ≤ length out.old) }
     ensures { out.new ≡ pixels (in_lists (a.now ∷ b.now ∷ [])) 2 at n out.old }
 {
-    let mut i = 0usize;
-    while i < n {
+    for i in 0..n {
         let to = at + i * 2;
         out[to] = a[i];
         out[to + 1] = b[i];
-        i += 1;
     }
 }
 
@@ -276,14 +234,12 @@ fn join_4(
     requires { (n ≤ 32) × (at + n * 4 ≤ length out.old) }
     ensures { out.new ≡ pixels (in_lists (a.now ∷ b.now ∷ c.now ∷ d.now ∷ [])) 4 at n out.old }
 {
-    let mut i = 0usize;
-    while i < n {
+    for i in 0..n {
         let to = at + i * 4;
         out[to] = a[i];
         out[to + 1] = b[i];
         out[to + 2] = c[i];
         out[to + 3] = d[i];
-        i += 1;
     }
 }
 
@@ -348,8 +304,7 @@ fn any_3(
     spread(samples, places[0] + offset, across[0], largest, &mut a);
     spread(samples, places[1] + offset, across[1], largest, &mut b);
     spread(samples, places[2] + offset, across[2], largest, &mut c);
-    let e = at + n * 3;
-    jpeg_render_row::run(&a, &b, &c, n, colour, &mut out[at..e]);
+    jpeg_render_row::run(&a, &b, &c, n, colour, &mut out[at..at + n * 3]);
 }
 
 // An MCU of four channels in one row.
@@ -439,16 +394,7 @@ fn mcu(
 fn is_usual(across: &[usize; 4], largest: usize, channels: usize) -> bool
     ensures { result ≡ true → Usual across.now largest channels }
 {
-    if channels != 3 {
-        return false;
-    }
-    if across[0] != largest {
-        return false;
-    }
-    if across[1] != 1 {
-        return false;
-    }
-    across[2] == 1
+    channels == 3 && across[0] == largest && across[1] == 1 && across[2] == 1
 }
 
 // Row y, MCU by MCU; the last MCU may reach past the picture's side.
@@ -456,20 +402,19 @@ fn row(frame: Frame, m: Mcu, colour: bool, y: usize, samples: &[u8], out: &mut [
     requires { Drawable frame samples.now out.old × (m ≡ measured frame) × (y < frame.height) }
     ensures { out.new ≡ row_drawn frame colour samples.now y out.old }
 {
-    let across = frame.across;
-    let usual = is_usual(&across, m.across, frame.channels);
+    let usual = is_usual(&frame.across, m.across, frame.channels);
     let places = layout::rows_of(frame, m, y);
     let start = y * (frame.width * frame.channels);
     let step = 64 * m.blocks;
     let mut offset = 0usize;
     let mut x = 0usize;
     while x < frame.width {
-        let n = least(frame.width - x, 8 * m.across);
+        let n = usize::min(frame.width - x, 8 * m.across);
         mcu(
             samples,
             &places,
             offset,
-            &across,
+            &frame.across,
             m.across,
             n,
             frame.channels,
@@ -488,9 +433,7 @@ pub(crate) fn picture(frame: Frame, m: Mcu, colour: bool, samples: &[u8], out: &
     requires { Drawable frame samples.now out.old × (m ≡ measured frame) }
     ensures { out.new ≡ over (picture (shape_of frame) colour samples.now) out.old }
 {
-    let mut y = 0usize;
-    while y < frame.height {
+    for y in 0..frame.height {
         row(frame, m, colour, y, samples, out);
-        y += 1;
     }
 }

@@ -35,8 +35,13 @@ module _ (luma cb cr : List ℕ) (n : ℕ) (d : List ℕ) where
         tinted_drawn h = rw (le-leb _ _ first, le-leb _ _ second, le-leb _ _ short, le-leb _ _ h)
 
 -- pixels tinted in the part of a buffer that they fill are drawn from that place on
-pub tinted_in_part : (luma cb cr : List ℕ) (n a e : ℕ) (d : List ℕ) {ys : List ℕ} → 8 ≤ length cb → 8 ≤ length cr → n ≤ 16
-    → e ≡ a + n * 3 → e ≤ length d → ys ≡ tinted luma cb cr n (take (e - a) (drop a d))
+pub tinted_in_part : (luma cb cr : List ℕ) (n a e : ℕ) (d : List ℕ) {ys : List ℕ}
+    → 8 ≤ length cb
+    → 8 ≤ length cr
+    → n ≤ 16
+    → e ≡ a + n * 3
+    → e ≤ length d
+    → ys ≡ tinted luma cb cr n (take (e - a) (drop a d))
     → take a d ++ (ys ++ drop (e - a) (drop a d)) ≡ pixels (in_pairs luma cb cr) 3 a n d
 tinted_in_part luma cb cr n a e d first second short end room is =
     ap (λ (l : List ℕ). take a d ++ (l ++ drop (e - a) (drop a d)))

@@ -22,7 +22,10 @@ length_written f a zero d = refl
 length_written f a (suc n) d = length-set (written f a n d) (a + n) (f n) ∙ length_written f a n d
 
 -- what is written is read
-pub written_in : (f : ℕ → ℕ) (a n : ℕ) (d : List ℕ) (i : ℕ) → i < n → a + n ≤ length d → get_or (written f a n d) (a + i) 0 ≡ f i
+pub written_in : (f : ℕ → ℕ) (a n : ℕ) (d : List ℕ) (i : ℕ)
+    → i < n
+    → a + n ≤ length d
+    → get_or (written f a n d) (a + i) 0 ≡ f i
 unfolding written
 written_in f a zero d i h l = let z : ⊥ = omega arith in absurd z
 written_in f a (suc n) d i h l = go (ℕ_discrete i n) (λ p. written_in f a n d i p (omega arith))
@@ -125,12 +128,19 @@ module _ {p : ℕ → ℕ → ℕ} {channels a n : ℕ} {d : List ℕ} {i : ℕ}
       before.here ∙ ap (λ k. pixels p channels a k d) same
 
 -- one pixel more, from the first place of a buffer on
-pub drawn_first : {p : ℕ → ℕ → ℕ} {channels n : ℕ} {d : List ℕ} {i : ℕ} {e f : List ℕ} → DrawnTo p channels 0 n d i e → i < n
-    → f ≡ written (p i) (i * channels) channels e → DrawnTo p channels 0 n d (i + 1) f
-drawn_first {p} {channels} {n} {d} {i} {e} before l h = drawn_next before l (h ∙ ap (λ k. written (p i) k channels e) (sym (zero-add (i * channels))))
+pub drawn_first : {p : ℕ → ℕ → ℕ} {channels n : ℕ} {d : List ℕ} {i : ℕ} {e f : List ℕ}
+    → DrawnTo p channels 0 n d i e
+    → i < n
+    → f ≡ written (p i) (i * channels) channels e
+    → DrawnTo p channels 0 n d (i + 1) f
+drawn_first {p} {channels} {n} {d} {i} {e} before l h =
+    drawn_next before l (h ∙ ap (λ k. written (p i) k channels e) (sym (zero-add (i * channels))))
 
 -- the stores of a pixel's three channels
-pub three_channels : (f : ℕ → ℕ) (a : ℕ) (d : List ℕ) {x y z : ℕ} → x ≡ f 0 → y ≡ f 1 → z ≡ f 2
+pub three_channels : (f : ℕ → ℕ) (a : ℕ) (d : List ℕ) {x y z : ℕ}
+    → x ≡ f 0
+    → y ≡ f 1
+    → z ≡ f 2
     → set (set (set d a x) (a + 1) y) (a + 2) z ≡ written f a 3 d
 unfolding written
 three_channels f a d p q r = rw (add-zero, p, q, r)
@@ -142,7 +152,9 @@ set_behind : (u v : List ℕ) (i x : ℕ) → set (u ++ v) (length u + i) x ≡ 
 set_behind [] v i x = rw zero-add
 set_behind (y ∷ u) v i x = rw suc-add (ap (λ (l : List ℕ). y ∷ l) (set_behind u v i x))
 
-written_inside : (f : ℕ → ℕ) (b n : ℕ) (u v w : List ℕ) → b + n ≤ length v → u ++ (written f b n v ++ w) ≡ written f (length u + b) n (u ++ (v ++ w))
+written_inside : (f : ℕ → ℕ) (b n : ℕ) (u v w : List ℕ)
+    → b + n ≤ length v
+    → u ++ (written f b n v ++ w) ≡ written f (length u + b) n (u ++ (v ++ w))
 unfolding written
 written_inside f b zero u v w h = refl
 written_inside f b (suc n) u v w h =

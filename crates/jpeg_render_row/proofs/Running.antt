@@ -18,7 +18,10 @@ module _ (y b r : ℕ) {colour : Bool} where
       → set (set (set d a k) (a + 1) l) (a + 2) m ≡ written (shown colour (three y b r)) a 3 d
   in_colour e a d p q s = three_channels (shown colour (three y b r)) a d (rw e p) (rw e q) (rw e s)
 
-  pub as_they_are : colour ≡ false → (a : ℕ) (d : List ℕ) → set (set (set d a y) (a + 1) b) (a + 2) r ≡ written (shown colour (three y b r)) a 3 d
+  pub as_they_are :
+      colour ≡ false
+      → (a : ℕ) (d : List ℕ)
+      → set (set (set d a y) (a + 1) b) (a + 2) r ≡ written (shown colour (three y b r)) a 3 d
   as_they_are e a d = three_channels (shown colour (three y b r)) a d (rw e) (rw e) (rw e)
 
 -- the buffer that is left
@@ -37,11 +40,15 @@ module _ (luma cb cr : List ℕ) (n : ℕ) (colour : Bool) (d : List ℕ) where
     run_drawn h = rw (le-leb _ _ short, le-leb _ _ h)
 
 -- a run drawn in the part of a buffer that it fills is drawn from that place on
-pub run_in_part : (luma cb cr : List ℕ) (n : ℕ) (colour : Bool) (a e : ℕ) (d : List ℕ) {ys : List ℕ} → n ≤ 32 → e ≡ a + n * 3 → e ≤ length d
+pub run_in_part : (luma cb cr : List ℕ) (n : ℕ) (colour : Bool) (a e : ℕ) (d : List ℕ) {ys : List ℕ}
+    → n ≤ 32
+    → e ≡ a + n * 3
+    → e ≤ length d
     → ys ≡ run luma cb cr n colour (take (e - a) (drop a d))
     → take a d ++ (ys ++ drop (e - a) (drop a d)) ≡ pixels (in_run luma cb cr colour) 3 a n d
 run_in_part luma cb cr n colour a e d short end room is =
-    ap (λ (l : List ℕ). take a d ++ (l ++ drop (e - a) (drop a d))) (is ∙ run_drawn luma cb cr n colour (take (e - a) (drop a d)) short (omega (arith, part)))
+    ap (λ (l : List ℕ). take a d ++ (l ++ drop (e - a) (drop a d)))
+    (is ∙ run_drawn luma cb cr n colour (take (e - a) (drop a d)) short (omega (arith, part)))
     ∙ pixels_in_part (in_run luma cb cr colour) 3 a (e - a) n d (omega arith) (omega arith)
   where
     part : length (take (e - a) (drop a d)) ≡ e - a

@@ -27,18 +27,10 @@ fn pixel(y: u8, b: u8, r: u8, colour: bool, out: &mut [u8], at: usize)
 pub fn run(luma: &[u8; 32], cb: &[u8; 32], cr: &[u8; 32], n: usize, colour: bool, out: &mut [u8])
     ensures { out.new ≡ run luma.now cb.now cr.now n colour out.old }
 {
-    if 32 < n {
+    if 32 < n || out.len() < n * 3 {
         return;
     }
-    if out.len() < n * 3 {
-        return;
-    }
-    let mut i = 0usize;
-    while i < n {
-        let y = luma[i];
-        let b = cb[i];
-        let r = cr[i];
-        pixel(y, b, r, colour, out, i * 3);
-        i += 1;
+    for i in 0..n {
+        pixel(luma[i], cb[i], cr[i], colour, out, i * 3);
     }
 }

@@ -1,6 +1,6 @@
--- The blocks of one MCU. Before its block j the levels of j blocks are read: put before what is still to be read they are what was to
--- be read at the start, and each block's samples stand at its own part of the scratch. One block more keeps this (`further`), a fault is
--- the scan's fault (`broken`), and behind the last block it is what the contract says (`whole`, `out`).
+-- One MCU. Before its block j the levels of j blocks are read: put before what is still to be read they are what was to be read at the
+-- start, and each block's samples stand at its own part of the scratch. One block more keeps this (`further`). A fault, of the restart or
+-- of a block, is the scan's fault (`halted`, `broken`), and behind the last block it is what the contract says (`whole`).
 use mathlib.Core.Path.{◌≡◌, refl, sym, ◌∙◌, ap, ap₂}
 use mathlib.Core.Bool.{Bool, true, false, cond}
 use mathlib.Core.List.{List, [], ◌∷◌, ◌++◌}
@@ -10,9 +10,9 @@ use lib.Dec.{ltb}
 use lib.ListN.{length, get_or, take, drop, length-append}
 use lib.IntN.{ℤ}
 use borrow.Author.Tests.{lt-ltb, ltb-true, ltb-false}
+use Rattle.std.specs.Prelude.{Result, Ok, Err, MatchResult}
 use Rattle.reading.specs.declared.Bits.{Bits}
 use Rattle.reading.specs.declared.BlockRead.{BlockRead}
-use Rattle.reading.specs.declared.BlockRead.TheVariants.{Got, Stop}
 use Rattle.reading.specs.declared.Fault.{Fault}
 use Rattle.reading.specs.declared.ScanCursor.{ScanCursor}
 use Rattle.reading.specs.Tests.{◌and◌}
@@ -24,10 +24,10 @@ use Rattle.reading.specs.Scan.{broke}
 use Rattle.reading.specs.Code.Scans.{broke_at}
 use Rattle.jpeg_scan_plan.specs.declared.Plan.{Plan}
 use Rattle.jpeg_scan_plan.specs.Plans.{chan, Stands, Quantizes}
-use Rattle.jpeg_scan_plan.specs.Marks.{broke_in}
-use Rattle.jpeg_scan.specs.Steps.{ahead, resumed, before, placed, inked, Passed}
-use Rattle.jpeg_scan_plan.proofs.Marks.{broke_first, broke_later}
-use Rattle.jpeg_scan.proofs.Onward.{before_none, before_before, before_broke, ahead_none, resumed_none, inside, channel_here, block_at, past, block_stop, block_next, block_reach}
+use Rattle.jpeg_scan_plan.specs.Marks.{restarted, broke_in}
+use Rattle.jpeg_scan.specs.Steps.{ahead, resumed, before, placed, inked, Passed, Went}
+use Rattle.jpeg_scan_plan.proofs.Marks.{restart_done, broke_first, broke_later}
+use Rattle.jpeg_scan.proofs.Onward.{before_none, before_before, before_broke, inside, channel_here, block_at, past, block_stop, block_next, block_reach, went, restart_next}
 use Rattle.jpeg_scan.proofs.Samples.{inked_not, inked_none, inked_more, inked_one, painted_room, painted_length}
 
 -- the bytes that have the tables
@@ -46,18 +46,18 @@ painted_at n s c i write l k old = painted_if (write and ltb i (length old / 64)
 -- ---- the place in an MCU
 
 -- the cursor q stands before block j of the MCU that begins at `from`
-pub record Along (n : Plan) (from q : ScanCursor) (j : ℕ) : Type 0 where
+pub record Along (n : Plan) (from q : ScanCursor Bits) (j : ℕ) : Type 0 where
   pub place : q.done ≡ from.done + j
   pub few : j ≤ n.per
   pub left : j ≤ n.blocks - from.done
 
-pub along_none : (n : Plan) (q : ScanCursor) → Along n q q 0
+pub along_none : (n : Plan) (q : ScanCursor Bits) → Along n q q 0
 along_none n q = record { place = omega arith; few = omega arith; left = omega arith }
 
 pub below : (order j : ℕ) {c : ℕ} → c ≡ chan order j → c < 4
 below order j {c} u = omega (arith, u)
 
-module _ {n : Plan} {from q : ScanCursor} {j : ℕ} (a : Along n from q j) where
+module _ {n : Plan} {from q : ScanCursor Bits} {j : ℕ} (a : Along n from q j) where
   pub along_at : (m : ℕ) → from.done ≡ m * n.per → q.done ≡ m * n.per + j
   along_at m e = a.place ∙ ap (λ (k : ℕ). k + j) e
 
@@ -87,10 +87,10 @@ module _ {A : Type 0} (j : ℕ) (x y : A) where
       go false = e
 
 -- the cursor before the turn of block j: where the block is to be read, and before the first block `turn`, which is before the restart
-abbrev pub turn_of : ℕ → ScanCursor → ScanCursor → ScanCursor
+abbrev pub turn_of : ℕ → ScanCursor Bits → ScanCursor Bits → ScanCursor Bits
 turn_of j turn q = entered j q turn
 
-module _ {A : Type 0} (j : ℕ) (x : A) (y : ScanCursor → A) (turn q : ScanCursor) where
+module _ {A : Type 0} (j : ℕ) (x : A) (y : ScanCursor Bits → A) (turn q : ScanCursor Bits) where
   pub entered_here : (0 < j → x ≡ y q) → entered j x (y turn) ≡ y (turn_of j turn q)
   entered_here f = go (ltb 0 j) refl
     where
@@ -100,9 +100,9 @@ module _ {A : Type 0} (j : ℕ) (x : A) (y : ScanCursor → A) (turn q : ScanCur
 
 -- what a fault in block j names
 pub turn_names :
-    {n : Plan} {from q : ScanCursor} {j : ℕ}
+    {n : Plan} {from q : ScanCursor Bits} {j : ℕ}
     → Along n from q j
-    → (turn : ScanCursor)
+    → (turn : ScanCursor Bits)
     → turn.done ≡ from.done
     → (f : Fault)
     → broke_at (turn_of j turn q) f ≡ broke_in turn q f
@@ -115,110 +115,208 @@ turn_names {n} {from} {q} {j} a turn d f = go (ltb 0 j) refl
 -- ---- the blocks and their samples
 
 -- what was read of the MCU before its block j, for a plan of the rules
-pub record On (s : List ℕ) (p : scan.Plan) (n : Plan) (write : Bool) (old : List ℕ) (from : ScanCursor) (new : List ℕ) (q : ScanCursor) (j : ℕ) : Type 0 where
+pub record On
+    (s : List ℕ) (p : scan.Plan) (n : Plan) (write : Bool) (old : List ℕ) (from : ScanCursor Bits)
+    (new : List ℕ) (q : ScanCursor Bits) (j : ℕ) : Type 0 where
   pub levels : List (List ℤ)
   pub count : length levels ≡ j
   pub same :
-      (turn : ScanCursor)
+      (turn : ScanCursor Bits)
       → turn.done ≡ from.done
       → resumed s p n.blocks turn from ≡ before levels (entered j (ahead s p n.blocks q) (resumed s p n.blocks turn q))
   pub here : (quant : ℕ → List ℕ) → Quantizes (head n s) n quant → new ≡ inked write p.shape quant from.done levels old
 
 -- before block j: `from` is the cursor and `old` the scratch at the start of the MCU, q and `new` are those now
-pub record Walk (s : List ℕ) (n : Plan) (write : Bool) (old : List ℕ) (from : ScanCursor) (new : List ℕ) (q : ScanCursor) (j : ℕ) : Type 0 where
+pub record Walk
+    (s : List ℕ) (n : Plan) (write : Bool) (old : List ℕ) (from : ScanCursor Bits)
+    (new : List ℕ) (q : ScanCursor Bits) (j : ℕ) : Type 0 where
   pub size : length new ≡ length old
   pub along : Along n from q j
   pub on : (p : scan.Plan) (m : ℕ) → Stands (head n s) n p → from.done ≡ m * n.per → On s p n write old from new q j
 
-pub begin : (s : List ℕ) (n : Plan) (write : Bool) (old : List ℕ) (q : ScanCursor) → Walk s n write old q old q 0
+pub begin : (s : List ℕ) (n : Plan) (write : Bool) (old : List ℕ) (q : ScanCursor Bits) → Walk s n write old q old q 0
 begin s n write old q =
     record {
       size = refl;
       along = along_none n q;
       on = λ p m st e.
-          record { levels = []; count = refl; same = λ turn d. sym (before_none (resumed s p n.blocks turn q)); here = λ quant h. sym (inked_none p.shape quant write q.done old) };
+          record {
+            levels = [];
+            count = refl;
+            same = λ turn d. sym (before_none (resumed s p n.blocks turn q));
+            here = λ quant h. sym (inked_none p.shape quant write q.done old);
+          };
     }
 
-module _ {s : List ℕ} {n : Plan} {write : Bool} {old : List ℕ} {from : ScanCursor} {new : List ℕ} {q : ScanCursor} {j : ℕ} (w : Walk s n write old from new q j) where
-  module _ (p : scan.Plan) (m : ℕ) (st : Stands (head n s) n p) (e : from.done ≡ m * n.per) where
-    o : On s p n write old from new q j
-    o = w.on p m st e
+module _
+    {s : List ℕ} {n : Plan} {write : Bool} {old : List ℕ} {from : ScanCursor Bits} {new : List ℕ} {q : ScanCursor Bits} {j : ℕ}
+    (w : Walk s n write old from new q j)
+  where
+    module _ (p : scan.Plan) (m : ℕ) (st : Stands (head n s) n p) (e : from.done ≡ m * n.per) where
+      o : On s p n write old from new q j
+      o = w.on p m st e
 
-    at : q.done ≡ m * n.per + j
-    at = along_at w.along m e
+      at : q.done ≡ m * n.per + j
+      at = along_at w.along m e
 
-    -- ---- the last block is read
+      -- ---- block j is read
 
-    finish :
-        ((turn : ScanCursor) → entered j (ahead s p n.blocks q) (resumed s p n.blocks turn q) ≡ ahead s p n.blocks q)
-        → j ≡ min n.per (n.blocks - from.done)
-        → Passed s p n from q write old new
-    finish a c =
+      behind :
+          (turn : ScanCursor Bits)
+          → j < n.per
+          → entered j (ahead s p n.blocks q) (resumed s p n.blocks turn q) ≡ resumed s p n.blocks (turn_of j turn q) q
+      behind turn h = entered_here j _ (λ (c : ScanCursor Bits). resumed s p n.blocks c q) turn q (λ (l : 0 < j). inside st s m j n.blocks q at l h)
+
+      module _
+          (h : j < n.per) (i : q.done < n.blocks) {c : ℕ} (u : c ≡ chan n.order j)
+          {x : Result (BlockRead Bits) Fault} (v : x ≡ said (block_at (head n s) n s c q))
+        where
+          few_c : c < 4
+          few_c = below n.order j u
+
+          abbrev own : ℕ → List ℕ
+          own c = take 64 (drop (get_or n.quants c 0) (head n s))
+
+          stops :
+              {f : Fault}
+              → x ≡ Err f
+              → (turn : ScanCursor Bits)
+              → turn.done ≡ from.done
+              → resumed s p n.blocks turn from ≡ broke (broke_in turn q f)
+          stops {f} g turn d =
+              o.same turn d
+              ∙ ap (before o.levels) (behind turn h
+              ∙ block_stop st s m j n.blocks (turn_of j turn q) q at h i c u few_c v g
+              ∙ ap broke (turn_names w.along turn d f))
+              ∙ before_broke o.levels (broke_in turn q f)
+
+          unwritten : write ≡ false → new ≡ old
+          unwritten t =
+              o.here own (λ c h. refl)
+              ∙ ap (λ (b : Bool). inked b p.shape own from.done o.levels old) t
+              ∙ inked_not p.shape own from.done o.levels old
+
+          more :
+              {b : BlockRead Bits}
+              → x ≡ Ok b
+              → {l : List ℤ}
+              → l ≡ levels_of (block_at (head n s) n s c q)
+              → {new' : List ℕ}
+              → new' ≡ painted_if write n s c q.done l b.reach new
+              → (write ≡ true → 64 * n.blocks ≤ length old)
+              → On s p n write old from new' (past q c b.first b.after) (j + 1)
+          more {b} g {l} y {new'} d room =
+              let q' : ScanCursor Bits = past q c b.first b.after in
+              let next : (turn : ScanCursor Bits) → resumed s p n.blocks turn q ≡ before (l ∷ []) (ahead s p n.blocks q') =
+              λ turn. block_next st s m j n.blocks turn q at h i c u few_c v g ∙ ap (λ (r : List ℤ). before (r ∷ []) (ahead s p n.blocks q')) (sym y) in
+              let reach : b.reach ≡ places l = block_reach st s m j n.blocks q q at h i c u few_c v g ∙ ap places (sym y) in
+              let place : q.done ≡ from.done + length o.levels = w.along.place ∙ ap (λ (a : ℕ). from.done + a) (sym o.count) in
+              record {
+                levels = o.levels ++ (l ∷ []);
+                count = length-append o.levels (l ∷ []) ∙ ap (λ (a : ℕ). a + 1) o.count;
+                same =
+                    λ turn d. o.same turn d
+                    ∙ ap (before o.levels) (behind turn h ∙ next (turn_of j turn q))
+                    ∙ before_before o.levels (l ∷ []) (ahead s p n.blocks q')
+                    ∙ ap (before (o.levels ++ (l ∷ []))) (sym (entered_later (j + 1) _ _ (omega arith)));
+                here = λ quant qs.
+                    d ∙ inked_one p.shape quant write q.done c (own c) l b.reach new (channel_here st s m j q.done at h ∙ sym u) (qs c few_c) reach
+                    ∙ ap₂ (λ (a : ℕ) (x : List ℕ). inked write p.shape quant a (l ∷ []) x) place (o.here quant qs)
+                    ∙ inked_more p.shape quant write from.done o.levels (l ∷ []) old (λ (t : write ≡ true). omega (arith, room t, w.along.place));
+              }
+
+    pub further :
+        j < n.per
+        → q.done < n.blocks
+        → {c : ℕ}
+        → c ≡ chan n.order j
+        → {x : Result (BlockRead Bits) Fault}
+        → x ≡ said (block_at (head n s) n s c q)
+        → {b : BlockRead Bits}
+        → x ≡ Ok b
+        → {l : List ℤ}
+        → l ≡ levels_of (block_at (head n s) n s c q)
+        → {new' : List ℕ}
+        → new' ≡ painted_at n s c q.done write l b.reach new
+        → (write ≡ true → 64 * n.blocks ≤ length old)
+        → Walk s n write old from new' (past q c b.first b.after) (j + 1)
+    further h i {c} u v {b} g {l} y {new'} d room =
+        let fits : write ≡ true → 64 * q.done + 64 ≤ length new = λ t. omega (arith, room t, w.size) in
+        let there : new' ≡ painted_if write n s c q.done l b.reach new = d ∙ painted_room write q.done (length new) _ _ fits in
         record {
-          levels = o.levels;
-          count = o.count ∙ c;
-          place = w.along.place ∙ ap (λ (k : ℕ). from.done + k) (sym o.count);
-          same = λ turn d. o.same turn d ∙ ap (before o.levels) (a turn);
-          here = o.here;
+          size = ap length there ∙ painted_length write q.done (take 64 (drop (get_or n.quants c 0) (head n s))) l b.reach new fits ∙ w.size;
+          along = along_more w.along h i c _ _;
+          on = λ p m st e. more p m st e h i u v g y there room;
         }
 
-    -- of the MCU
-    pub whole : n.per ≤ j → Passed s p n from q write old new
-    whole h = finish (λ turn. entered_later j _ _ (omega (arith, st.some))) (along_whole w.along h)
+    -- ---- the MCU to whose blocks its restart led from `turn`
 
-    -- of the scan
-    pub out : n.blocks ≤ q.done → Passed s p n from q write old new
-    out h = finish (λ turn. entered_out j _ _ (resumed_none s p n.blocks turn q h ∙ sym (ahead_none s p n.blocks q h))) (along_out w.along h)
+    module _ (m : ℕ) (turn : ScanCursor Bits) (r : Ok from ≡ restarted s n.interval m turn) where
+      same_done : turn.done ≡ from.done
+      same_done = sym (restart_done s n.interval m turn r)
 
-    -- ---- block j is read
+      module _ (p : scan.Plan) (st : Stands (head n s) n p) (e : turn.done ≡ m * n.per) (i : turn.done < n.blocks) where
+        to_blocks : ahead s p n.blocks turn ≡ resumed s p n.blocks turn from
+        to_blocks = restart_next st s m n.blocks turn e i ∙ ap (λ (z : Result (ScanCursor Bits) Fault). went turn z (resumed s p n.blocks turn)) (sym r)
 
-    behind : (turn : ScanCursor) → j < n.per → entered j (ahead s p n.blocks q) (resumed s p n.blocks turn q) ≡ resumed s p n.blocks (turn_of j turn q) q
-    behind turn h = entered_here j _ (λ (c : ScanCursor). resumed s p n.blocks c q) turn q (λ (l : 0 < j). inside st s m j n.blocks q at l h)
+        at_from : from.done ≡ m * n.per
+        at_from = sym same_done ∙ e
 
-    module _ (h : j < n.per) (i : q.done < n.blocks) {c : ℕ} (u : c ≡ chan n.order j) {x : BlockRead} (v : x ≡ said (block_at (head n s) n s c q)) where
-      few_c : c < 4
-      few_c = below n.order j u
+        passed : j ≡ min n.per (n.blocks - from.done) → Passed s p n turn q write old new
+        passed c =
+            let x : On s p n write old from new q j = w.on p m st at_from in
+            record {
+              levels = x.levels;
+              count = x.count ∙ c ∙ ap (λ (k : ℕ). min n.per (n.blocks - k)) (sym same_done);
+              place = omega (arith, w.along.place, x.count, same_done);
+              same = to_blocks ∙ x.same turn same_done ∙ ap (before x.levels) (entered_later j _ _ (omega (arith, c, st.some, i, same_done)));
+              here = λ quant qs. x.here quant qs ∙ ap (λ (k : ℕ). inked write p.shape quant k x.levels old) (sym same_done);
+            }
 
-      abbrev own : ℕ → List ℕ
-      own c = take 64 (drop (get_or n.quants c 0) (head n s))
+      -- its last block, or the scan's, is read
+      pub whole : j ≡ min n.per (n.blocks - from.done) → Went s n m turn write old (Ok q) new
+      whole c = record { size = w.size; each = λ p st e i. passed p st e i c }
 
-      pub broken : {f : Fault} → x ≡ Stop f
-          → ((turn : ScanCursor) → turn.done ≡ from.done → resumed s p n.blocks turn from ≡ broke (broke_in turn q f)) × (write ≡ false → new ≡ old)
-      broken {f} g = (
-        λ turn d. o.same turn d
-            ∙ ap (before o.levels) (behind turn h ∙ block_stop st s m j n.blocks (turn_of j turn q) q at h i c u few_c v g ∙ ap broke (turn_names w.along turn d f))
-            ∙ before_broke o.levels (broke_in turn q f),
-        λ (t : write ≡ false). o.here own (λ c h. refl) ∙ ap (λ (b : Bool). inked b p.shape own from.done o.levels old) t
-            ∙ inked_not p.shape own from.done o.levels old,
-      )
-
-      more : {b : Bits} {z : ℤ} {k : ℕ} → x ≡ Got b z k → {l : List ℤ} → l ≡ levels_of (block_at (head n s) n s c q) → {new' : List ℕ} → new' ≡ painted_if write n s c q.done l k new
-          → (write ≡ true → 64 * n.blocks ≤ length old) → On s p n write old from new' (past q c z b) (j + 1)
-      more {b} {z} {k} g {l} y {new'} d room =
-          let next : (turn : ScanCursor) → resumed s p n.blocks turn q ≡ before (l ∷ []) (ahead s p n.blocks (past q c z b)) =
-          λ turn. block_next st s m j n.blocks turn q at h i c u few_c v g ∙ ap (λ (r : List ℤ). before (r ∷ []) (ahead s p n.blocks (past q c z b))) (sym y) in
-          let reach : k ≡ places l = block_reach st s m j n.blocks q q at h i c u few_c v g ∙ ap places (sym y) in
-          let place : q.done ≡ from.done + length o.levels = w.along.place ∙ ap (λ (a : ℕ). from.done + a) (sym o.count) in
+      -- block j breaks
+      pub broken :
+          j < n.per
+          → q.done < n.blocks
+          → {c : ℕ}
+          → c ≡ chan n.order j
+          → {x : Result (BlockRead Bits) Fault}
+          → x ≡ said (block_at (head n s) n s c q)
+          → {f : Fault}
+          → x ≡ Err f
+          → Went s n m turn write old (Err (broke_in turn q f)) new
+      broken h i u v g =
           record {
-            levels = o.levels ++ (l ∷ []);
-            count = length-append o.levels (l ∷ []) ∙ ap (λ (a : ℕ). a + 1) o.count;
-            same =
-                λ turn d. o.same turn d ∙ ap (before o.levels) (behind turn h ∙ next (turn_of j turn q)) ∙ before_before o.levels (l ∷ []) (ahead s p n.blocks (past q c z b))
-                ∙ ap (before (o.levels ++ (l ∷ []))) (sym (entered_later (j + 1) _ _ (omega arith)));
-            here = λ quant qs.
-                d ∙ inked_one p.shape quant write q.done c (own c) l k new (channel_here st s m j q.done at h ∙ sym u) (qs c few_c) reach
-                ∙ ap₂ (λ (a : ℕ) (x : List ℕ). inked write p.shape quant a (l ∷ []) x) place (o.here quant qs)
-                ∙ inked_more p.shape quant write from.done o.levels (l ∷ []) old (λ (t : write ≡ true). omega (arith, room t, w.along.place));
+            size = w.size;
+            each = λ p st e l. (
+              to_blocks p st e l ∙ stops p m st (at_from p st e l) h i u v g turn same_done,
+              unwritten p m st (at_from p st e l) h i u v,
+            );
           }
 
-  pub further : j < n.per → q.done < n.blocks → {c : ℕ} → c ≡ chan n.order j → {x : BlockRead} → x ≡ said (block_at (head n s) n s c q)
-      → {b : Bits} {z : ℤ} {k : ℕ} → x ≡ Got b z k → {l : List ℤ} → l ≡ levels_of (block_at (head n s) n s c q) → {new' : List ℕ} → new' ≡ painted_at n s c q.done write l k new
-      → (write ≡ true → 64 * n.blocks ≤ length old) → Walk s n write old from new' (past q c z b) (j + 1)
-  further h i {c} u v {k = k} g {l} y {new'} d room =
-      let fits : write ≡ true → 64 * q.done + 64 ≤ length new = λ t. omega (arith, room t, w.size) in
-      let there : new' ≡ painted_if write n s c q.done l k new = d ∙ painted_room write q.done (length new) _ _ fits in
-      record {
-        size = ap length there ∙ painted_length write q.done (take 64 (drop (get_or n.quants c 0) (head n s))) l k new fits ∙ w.size;
-        along = along_more w.along h i c _ _;
-        on = λ p m st e. more p m st e h i u v g y there room;
-      }
+-- the restart of an MCU breaks
+pub halted :
+    (s : List ℕ) (n : Plan) (m : ℕ) (turn : ScanCursor Bits) (write : Bool) (old : List ℕ) {f : Fault}
+    → Err f ≡ restarted s n.interval m turn
+    → Went s n m turn write old (Err (broke_at turn f)) old
+halted s n m turn write old r =
+    record {
+      size = refl;
+      each = λ p st e i. (
+        restart_next st s m n.blocks turn e i ∙ ap (λ (z : Result (ScanCursor Bits) Fault). went turn z (resumed s p n.blocks turn)) (sym r),
+        λ t. refl,
+      );
+    }
+
+-- ---- a fault that was told in other words
+
+pub err_from_match :
+    {A E : Type 0} {P : A → Type 0} {Q : E → Type 0} (r : Result A E)
+    → MatchResult r P Q
+    → ((x : A) → P x → ⊥)
+    → (f : E) × (r ≡ Err f) × Q f
+err_from_match (Ok x) h n = absurd (n x h)
+err_from_match (Err f) h n = (f, refl, h)

@@ -11,10 +11,10 @@ use lib.Dec.{eqb}
 use lib.ListN.{get_or, set}
 use lib.IntN.{ℤ, pos}
 use borrow.Author.Tests.{ne_eqb}
+use Rattle.std.specs.Prelude.{Result, Ok, Err}
 use Rattle.reading.specs.declared.Bits.{Bits}
 use Rattle.reading.specs.declared.Break.{Break}
 use Rattle.reading.specs.declared.BlockRead.{BlockRead}
-use Rattle.reading.specs.declared.BlockRead.TheVariants as answer
 use Rattle.reading.specs.declared.Fault.{Fault}
 use Rattle.reading.specs.declared.ScanCursor.{ScanCursor}
 use Rattle.reading.specs.Tests.{◌and◌}
@@ -30,12 +30,9 @@ use Rattle.reading.specs.Scan.{Cursor, Scanned, whole, broke, here, onwards}
 use Rattle.reading.specs.Code.Scans.{cursor_of, broke_at}
 use Rattle.reading.proofs.BlockAnswers.{Taken, told}
 use Rattle.jpeg_scan_plan.specs.declared.Plan.{Plan}
-use Rattle.jpeg_scan_plan.specs.declared.Halt.{Halt}
-use Rattle.jpeg_scan_plan.specs.declared.Halt.TheVariants.{No, Yes}
-use Rattle.jpeg_scan_plan.specs.declared.CursorRead.{CursorRead}
 use Rattle.reading.proofs.Restarts.{ahead_is}
 use Rattle.jpeg_scan_plan.specs.Plans.{chan, Stands}
-use Rattle.jpeg_scan_plan.specs.Marks.{on_to, behind_marker, restarted}
+use Rattle.jpeg_scan_plan.specs.Marks.{behind_marker, restarted}
 use Rattle.jpeg_scan.specs.Steps.{begun, ahead, resumed, before}
 
 -- ---- blocks put before a reading
@@ -65,32 +62,24 @@ before_one l (broke w) = refl
 
 -- ---- no blocks are left
 
-pub ahead_none : (s : List ℕ) (p : scan.Plan) (n : ℕ) (q : ScanCursor) → n ≤ q.done → ahead s p n q ≡ whole [] (cursor_of q)
+pub ahead_none : (s : List ℕ) (p : scan.Plan) (n : ℕ) (q : ScanCursor Bits) → n ≤ q.done → ahead s p n q ≡ whole [] (cursor_of q)
 unfolding ahead
 ahead_none s p n q h = let z : n - q.done ≡ 0 = omega arith in rw z
 
-pub resumed_none : (s : List ℕ) (p : scan.Plan) (n : ℕ) (turn q : ScanCursor) → n ≤ q.done → resumed s p n turn q ≡ whole [] (cursor_of q)
+pub resumed_none : (s : List ℕ) (p : scan.Plan) (n : ℕ) (turn q : ScanCursor Bits) → n ≤ q.done → resumed s p n turn q ≡ whole [] (cursor_of q)
 unfolding resumed
 resumed_none s p n turn q h = let z : n - q.done ≡ 0 = omega arith in rw z
 
 -- ---- behind a restart
 
-abbrev pub went_by : ScanCursor → Halt → ScanCursor → (ScanCursor → Scanned (Cursor Bits) (List (List ℤ))) → Scanned (Cursor Bits) (List (List ℤ))
-went_by turn No q f = f q
-went_by turn (Yes e) q f = broke (broke_at turn e)
-
--- on from where a part of a scan has led
-abbrev pub went : ScanCursor → CursorRead → (ScanCursor → Scanned (Cursor Bits) (List (List ℤ))) → Scanned (Cursor Bits) (List (List ℤ))
-went turn x f = went_by turn x.halt x.cursor f
-
-pub went_by_lem :
-    (turn : ScanCursor) {x y : CursorRead}
-    → y ≡ x
-    → {h : Halt}
-    → x.halt ≡ h
-    → (f : ScanCursor → Scanned (Cursor Bits) (List (List ℤ)))
-    → went turn y f ≡ went_by turn h x.cursor f
-went_by_lem turn {x} {y} e {h} g f = ap (λ (z : CursorRead). went turn z f) e ∙ ap (λ (k : Halt). went_by turn k x.cursor f) g
+-- on from where a restart has led, with the cursor before it
+abbrev pub went :
+    ScanCursor Bits
+    → Result (ScanCursor Bits) Fault
+    → (ScanCursor Bits → Scanned (Cursor Bits) (List (List ℤ)))
+    → Scanned (Cursor Bits) (List (List ℤ))
+went turn (Ok q) f = f q
+went turn (Err e) f = broke (broke_at turn e)
 
 -- ---- one block
 
@@ -99,11 +88,11 @@ abbrev pub block_by : List ℕ → Plan → List ℕ → ℕ → ℤ → Bits �
 block_by t n s c z b = block (one s) (table_at t (get_or n.dcs c 0)) (table_at t (get_or n.acs c 0)) z b
 
 -- the block at a cursor, where it is one of channel c
-abbrev pub block_at : List ℕ → Plan → List ℕ → ℕ → ScanCursor → Read Bits (List ℤ)
+abbrev pub block_at : List ℕ → Plan → List ℕ → ℕ → ScanCursor Bits → Read Bits (List ℤ)
 block_at t n s c q = block_by t n s c (get_or q.predictors c (pos 0)) q.bits
 
 -- the cursor behind a block of channel c: its first level predicts the channel's next one
-abbrev pub past : ScanCursor → ℕ → ℤ → Bits → ScanCursor
+abbrev pub past : ScanCursor Bits → ℕ → ℤ → Bits → ScanCursor Bits
 past q c z b = record { bits = b; predictors = set q.predictors c z; done = q.done + 1 }
 
 -- what was read at a turn, then what comes behind it
@@ -112,7 +101,7 @@ onwards_same : {A : Type 0} (turn : Cursor Bits) (src : Source Bits) (o : Read B
 onwards_same turn src (got a b) f g h = h a b
 onwards_same turn src (fault e) f g h = refl
 
-pub resumed_block : (s : List ℕ) (p : scan.Plan) (N : ℕ) (turn q : ScanCursor) → q.done < N → (c : ℕ) → channel_of p.shape q.done ≡ c
+pub resumed_block : (s : List ℕ) (p : scan.Plan) (N : ℕ) (turn q : ScanCursor Bits) → q.done < N → (c : ℕ) → channel_of p.shape q.done ≡ c
     → resumed s p N turn q
     ≡ onwards (here (file s) (cursor_of turn) (block (one s) (p.channels c).dc (p.channels c).ac (get_or q.predictors c (pos 0)) q.bits))
     (λ l b. before (l ∷ []) (ahead s p N (past q c (get_or l 0 (pos 0)) b)))
@@ -145,7 +134,7 @@ module _ (src : Source Bits) (p : scan.Plan) (k : ℕ) (q : Cursor Bits) where
   turn_restart (got qs b) f g h = h qs b
   turn_restart (fault e) f g h = refl
 
-ahead_restart : (s : List ℕ) (p : scan.Plan) (N : ℕ) (q : ScanCursor) → q.done < N
+ahead_restart : (s : List ℕ) (p : scan.Plan) (N : ℕ) (q : ScanCursor Bits) → q.done < N
     → ahead s p N q
     ≡ onwards (here (file s) (cursor_of q) (scan.ahead (file s) p q.done q.predictors q.bits)) (λ qs b. resumed s p N q (record { bits = b; predictors = qs; done = q.done }))
 unfolding ahead resumed file
@@ -175,7 +164,7 @@ module _ {t : List ℕ} {n : Plan} {p : scan.Plan} (st : Stands t n p) (s : List
     unfolding restart_due
     not_due i = ap (λ (x : Bool). x and due_before p.interval (mcu_of p.shape k)) (not_open i)
 
-  pub inside : (m j : ℕ) (N : ℕ) (q : ScanCursor) → q.done ≡ m * n.per + j → 0 < j → j < n.per → ahead s p N q ≡ resumed s p N q q
+  pub inside : (m j : ℕ) (N : ℕ) (q : ScanCursor Bits) → q.done ≡ m * n.per + j → 0 < j → j < n.per → ahead s p N q ≡ resumed s p N q q
   unfolding ahead resumed
   inside m j N q e i h = go (N - q.done)
     where
@@ -187,36 +176,39 @@ module _ {t : List ℕ} {n : Plan} {p : scan.Plan} (st : Stands t n p) (s : List
           (turn_block (file s) p k (cursor_of q) q.predictors c (block (file s).next (p.channels c).dc (p.channels c).ac (get_or q.predictors c (pos 0)) q.bits))
 
   -- the block at a cursor
-  module _ (m j N : ℕ) (turn q : ScanCursor) (e : q.done ≡ m * n.per + j) (h : j < n.per) (i : q.done < N) (c : ℕ) (u : c ≡ chan n.order j) (few : c < 4) where
-    abbrev B : Read Bits (List ℤ)
-    B = block_at t n s c q
+  module _
+      (m j N : ℕ) (turn q : ScanCursor Bits) (e : q.done ≡ m * n.per + j) (h : j < n.per) (i : q.done < N)
+      (c : ℕ) (u : c ≡ chan n.order j) (few : c < 4)
+    where
+      abbrev B : Read Bits (List ℤ)
+      B = block_at t n s c q
 
-    first : resumed s p N turn q ≡ onwards (here (file s) (cursor_of turn) B) (λ l b. before (l ∷ []) (ahead s p N (past q c (get_or l 0 (pos 0)) b)))
-    first = resumed_block s p N turn q i c (channel_here m j q.done e h ∙ sym u) ∙ ap₂ (λ (dc ac : Table). after dc ac) (st.dc_is c few) (st.ac_is c few)
-      where
-        after : Table → Table → Scanned (Cursor Bits) (List (List ℤ))
-        after dc ac = onwards (here (file s) (cursor_of turn) (block (one s) dc ac (get_or q.predictors c (pos 0)) q.bits)) (λ l b. before (l ∷ []) (ahead s p N (past q c (get_or l 0 (pos 0)) b)))
+      first : resumed s p N turn q ≡ onwards (here (file s) (cursor_of turn) B) (λ l b. before (l ∷ []) (ahead s p N (past q c (get_or l 0 (pos 0)) b)))
+      first = resumed_block s p N turn q i c (channel_here m j q.done e h ∙ sym u) ∙ ap₂ (λ (dc ac : Table). after dc ac) (st.dc_is c few) (st.ac_is c few)
+        where
+          after : Table → Table → Scanned (Cursor Bits) (List (List ℤ))
+          after dc ac = onwards (here (file s) (cursor_of turn) (block (one s) dc ac (get_or q.predictors c (pos 0)) q.bits)) (λ l b. before (l ∷ []) (ahead s p N (past q c (get_or l 0 (pos 0)) b)))
 
-    module _ {x : BlockRead} (said-so : x ≡ said B) where
-      behind : Read Bits (List ℤ) → Scanned (Cursor Bits) (List (List ℤ))
-      behind o = onwards (here (file s) (cursor_of turn) o) (λ l b. before (l ∷ []) (ahead s p N (past q c (get_or l 0 (pos 0)) b)))
+      module _ {x : Result (BlockRead Bits) Fault} (said-so : x ≡ said B) where
+        behind : Read Bits (List ℤ) → Scanned (Cursor Bits) (List (List ℤ))
+        behind o = onwards (here (file s) (cursor_of turn) o) (λ l b. before (l ∷ []) (ahead s p N (past q c (get_or l 0 (pos 0)) b)))
 
-      pub block_stop : {f : Fault} → x ≡ answer.Stop f → resumed s p N turn q ≡ broke (broke_at turn f)
-      unfolding behind file
-      block_stop {f} g = first ∙ ap behind (told B said-so g).read
+        pub block_stop : {f : Fault} → x ≡ Err f → resumed s p N turn q ≡ broke (broke_at turn f)
+        unfolding behind file
+        block_stop {f} g = first ∙ ap behind (told B said-so g).read
 
-      pub block_next : {b : Bits} {z : ℤ} {k : ℕ} → x ≡ answer.Got b z k → resumed s p N turn q ≡ before (levels_of B ∷ []) (ahead s p N (past q c z b))
-      unfolding behind
-      block_next {b} {z} {k} g =
-          let y : Taken B b z k = told B said-so g in
-          first ∙ ap behind y.read
-          ∙ ap₂ (λ (l : List ℤ) (w : ℤ). before (l ∷ []) (ahead s p N (past q c w b))) (sym y.left) (sym y.first)
+        pub block_next : {b : BlockRead Bits} → x ≡ Ok b → resumed s p N turn q ≡ before (levels_of B ∷ []) (ahead s p N (past q c b.first b.after))
+        unfolding behind
+        block_next {b} g =
+            let y : Taken B b.after b.first b.reach = told B said-so g in
+            first ∙ ap behind y.read
+            ∙ ap₂ (λ (l : List ℤ) (w : ℤ). before (l ∷ []) (ahead s p N (past q c w b.after))) (sym y.left) (sym y.first)
 
-      pub block_reach : {b : Bits} {z : ℤ} {k : ℕ} → x ≡ answer.Got b z k → k ≡ places (levels_of B)
-      block_reach {b} {z} {k} g = let y : Taken B b z k = told B said-so g in y.reach ∙ ap places (sym y.left)
+        pub block_reach : {b : BlockRead Bits} → x ≡ Ok b → b.reach ≡ places (levels_of B)
+        block_reach {b} g = let y : Taken B b.after b.first b.reach = told B said-so g in y.reach ∙ ap places (sym y.left)
 
   -- the restart before MCU m
-  module _ (m N : ℕ) (q : ScanCursor) (e : q.done ≡ m * n.per) (i : q.done < N) where
+  module _ (m N : ℕ) (q : ScanCursor Bits) (e : q.done ≡ m * n.per) (i : q.done < N) where
     mcu_is : mcu_of p.shape q.done ≡ m
     mcu_is = ap₂ (λ (a b : ℕ). a / b) e st.per_is ∙ mul-div_cancel m st.some
 
@@ -250,6 +242,6 @@ module _ {t : List ℕ} {n : Plan} {p : scan.Plan} (st : Stands t n p) (s : List
 
         go : (t : Bool)
             → onwards (here (file s) (cursor_of q) (cond t (mark s code >> give scan.no_predictors) (give q.predictors) q.bits)) after
-            ≡ went q (cond t (behind_marker q (mark s code q.bits)) (on_to q)) (resumed s p N q)
+            ≡ went q (cond t (behind_marker q (mark s code q.bits)) (Ok q)) (resumed s p N q)
         go true = looked (mark s code q.bits)
         go false = refl

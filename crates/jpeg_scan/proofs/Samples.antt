@@ -2,7 +2,7 @@
 use mathlib.Core.List.{List, [], ◌∷◌, ◌++◌, append_assoc, append-nil}
 use mathlib.Core.Path.{◌≡◌, refl, sym, ◌∙◌, ap, ap₂}
 use mathlib.Core.Bool.{Bool, true, false, cond}
-use Prim.Native.Nat.{ℕ, ◌+◌, ◌*◌, ◌/◌, ◌≤◌}
+use Prim.Native.Nat.{ℕ, ◌+◌, ◌*◌, ◌/◌, ◌<◌, ◌≤◌}
 use native.Mathlib.Omega.{arith}
 use lib.Dec.{ltb}
 use lib.ListN.{length, take, drop, length-append, length-take, length-drop, take-append-drop, drop_of_length-le}
@@ -69,6 +69,14 @@ pub painted_room :
     → cond (write and ltb k (n / 64)) x y ≡ cond write x y
 painted_room true k n x y h = rw (lt-ltb k (n / 64) (omega (arith, h refl))) refl
 painted_room false k n x y h = refl
+
+pub painted_there :
+    {A : Type 0} (write : Bool) (k n : ℕ) (y : A) {new x : A}
+    → write ≡ true
+    → k < n / 64
+    → new ≡ x
+    → (new ≡ cond (write and ltb k (n / 64)) x y) × ((write ≡ true → 64 * k + 64 ≤ n) → new ≡ cond write x y)
+painted_there write k n y u l e = (rw (u, lt-ltb k (n / 64) l) e, λ h. rw u e)
 
 pub painted_length : (write : Bool) (k : ℕ) (q : List ℕ) (l : List ℤ) (n : ℕ) (old : List ℕ) → (write ≡ true → 64 * k + 64 ≤ length old)
     → length (cond write (placed (64 * k) (samples_to q l n) old) old) ≡ length old

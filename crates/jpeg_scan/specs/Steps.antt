@@ -1,6 +1,7 @@
 -- The steps in which a scan is read: the blocks from a cursor on, the blocks of an MCU; and what is left in the scratch.
-use Rattle.std.specs.Prelude.{◌≡◌, List, [], ◌∷◌, ◌++◌, Bool, true, false, ℕ, zero, suc, ◌+◌, ◌*◌, ◌-◌, min, length, get_or, set, take, drop, ℤ, pos}
+use Rattle.std.specs.Prelude.{◌≡◌, List, [], ◌∷◌, ◌++◌, Bool, true, false, ℕ, zero, suc, ◌+◌, ◌*◌, ◌-◌, ◌<◌, min, length, get_or, set, take, drop, ℤ, pos, Result, Ok, Err}
 use Rattle.reading.specs.declared.Bits.{Bits}
+use Rattle.reading.specs.declared.Break.{Break}
 use Rattle.reading.specs.declared.Record.{Record}
 use Rattle.reading.specs.declared.ScanCursor.{ScanCursor}
 use Rattle.reading.specs.Tests.{over}
@@ -14,11 +15,7 @@ use Rattle.reading.specs.Tables.{shape_of, quantizers_of}
 use Rattle.reading.specs.Code.Painted.{drawn}
 use Rattle.reading.specs.Reading.{dequantized, block_samples, samples_of}
 use Rattle.jpeg_scan_plan.specs.declared.Plan.{Plan}
-use Rattle.jpeg_scan_plan.specs.declared.Halt.{Halt}
-use Rattle.jpeg_scan_plan.specs.declared.Halt.TheVariants.{No, Yes}
-use Rattle.jpeg_scan_plan.specs.declared.CursorRead.{CursorRead}
 use Rattle.jpeg_scan_plan.specs.Plans.{Stands, Quantizes}
-use Rattle.jpeg_scan_plan.specs.Marks.{broke_in}
 
 -- ---- the blocks from a cursor on
 
@@ -33,12 +30,12 @@ begun src p (suc n) turn q =
     onwards (scan.read_on src p n (record { bits = s; predictors = set q.predictors c (get_or l 0 (pos 0)); done = suc q.done })) (λ ls e. whole (l ∷ ls) e))
 
 -- the blocks from a cursor on, of n blocks in all
-unfoldable pub ahead : List ℕ → scan.Plan → ℕ → ScanCursor → Scanned (Cursor Bits) (List (List ℤ))
+unfoldable pub ahead : List ℕ → scan.Plan → ℕ → ScanCursor Bits → Scanned (Cursor Bits) (List (List ℤ))
 unfolding file
 ahead s p n q = scan.read_on (file s) p (n - q.done) (cursor_of q)
 
 -- the same, the restart before the first of them done
-unfoldable pub resumed : List ℕ → scan.Plan → ℕ → ScanCursor → ScanCursor → Scanned (Cursor Bits) (List (List ℤ))
+unfoldable pub resumed : List ℕ → scan.Plan → ℕ → ScanCursor Bits → ScanCursor Bits → Scanned (Cursor Bits) (List (List ℤ))
 unfolding file
 resumed s p n turn q = begun (file s) p (n - q.done) (cursor_of turn) (cursor_of q)
 
@@ -59,25 +56,32 @@ unfolding placed
 inked false p quant k ls old = old
 inked true p quant k ls old = placed (64 * k) (block_samples (dequantized p quant k ls)) old
 
--- ---- what the blocks of one MCU leave
+-- ---- what an MCU leaves
 
--- they were read: as many as an MCU has, or as are left; whatever cursor stood before the restart
-pub record Passed (s : List ℕ) (p : scan.Plan) (n : Plan) (from q : ScanCursor) (write : Bool) (old new : List ℕ) : Type 0 where
+-- it was read, from the cursor before its restart on: as many blocks as an MCU has, or as are left
+pub record Passed (s : List ℕ) (p : scan.Plan) (n : Plan) (from q : ScanCursor Bits) (write : Bool) (old new : List ℕ) : Type 0 where
   pub levels : List (List ℤ)
   pub count : length levels ≡ min n.per (n.blocks - from.done)
   pub place : q.done ≡ from.done + length levels
-  pub same : (turn : ScanCursor) → turn.done ≡ from.done → resumed s p n.blocks turn from ≡ before levels (ahead s p n.blocks q)
+  pub same : ahead s p n.blocks from ≡ before levels (ahead s p n.blocks q)
   pub here : (quant : ℕ → List ℕ) → Quantizes (take n.start s) n quant → new ≡ inked write p.shape quant from.done levels old
 
-abbrev pub Behind : List ℕ → scan.Plan → Plan → ScanCursor → Bool → List ℕ → Halt → ScanCursor → List ℕ → Type 0
-Behind s p n from write old No q new = Passed s p n from q write old new
-Behind s p n from write old (Yes f) q new =
-    ((turn : ScanCursor) → turn.done ≡ from.done → resumed s p n.blocks turn from ≡ broke (broke_in turn q f)) × (write ≡ false → new ≡ old)
+-- or the scan broke in it
+abbrev pub Behind : List ℕ → scan.Plan → Plan → ScanCursor Bits → Bool → List ℕ → Result (ScanCursor Bits) Break → List ℕ → Type 0
+Behind s p n from write old (Ok q) new = Passed s p n from q write old new
+Behind s p n from write old (Err w) new = (ahead s p n.blocks from ≡ broke w) × (write ≡ false → new ≡ old)
 
--- for every plan of the rules that the numbers stand for, where an MCU starts at the cursor
-pub record Went (s : List ℕ) (n : Plan) (from : ScanCursor) (write : Bool) (old : List ℕ) (r : CursorRead) (new : List ℕ) : Type 0 where
+-- for every plan of the rules that the numbers stand for, where MCU m starts at the cursor and blocks are left
+pub record Went
+    (s : List ℕ) (n : Plan) (m : ℕ) (from : ScanCursor Bits) (write : Bool) (old : List ℕ)
+    (r : Result (ScanCursor Bits) Break) (new : List ℕ) : Type 0 where
   pub size : length new ≡ length old
-  pub each : (p : scan.Plan) (m : ℕ) → Stands (take n.start s) n p → from.done ≡ m * n.per → Behind s p n from write old r.halt r.cursor new
+  pub each :
+      (p : scan.Plan)
+      → Stands (take n.start s) n p
+      → from.done ≡ m * n.per
+      → from.done < n.blocks
+      → Behind s p n from write old r new
 
 -- what a whole scan leaves in the scratch: without samples the scratch as it was; with them, of an accepted scan, its samples
 -- and then the old tail

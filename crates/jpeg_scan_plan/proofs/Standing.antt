@@ -3,11 +3,13 @@ use mathlib.Core.List.{List}
 use mathlib.Core.Path.{◌≡◌, refl, sym, ◌∙◌, ap, subst⁻¹}
 use mathlib.Core.Bool.{Bool, true, false, not, cond}
 use Prim.Native.Nat.{ℕ, zero, suc, ◌+◌, ◌-◌, ◌*◌, ◌/◌, ◌%◌, ◌^◌, ◌<◌, ◌≤◌}
-use native.Mathlib.Nat.{not-suc-le-zero, le_of_suc-le-suc, pow-suc, pow-succ', div-one, div-div-eq-div-mul}
+use native.Mathlib.Nat.{pow-le-pow_right, mul-le-mul, not-suc-le-zero, le_of_suc-le-suc, pow-suc, pow-succ', div-one, div-div-eq-div-mul}
 use native.Mathlib.Omega.{arith}
 use lib.Dec.{T, leb, ltb, eqb, leb→le}
 use lib.ListN.{length, get_or, take, drop}
 use borrow.Author.Tests.{le-leb, lt-leb, lt-ltb, le-ltb, eqb-true, eqb-false}
+use Rattle.reading.specs.declared.Frame.{Frame}
+use Rattle.reading.specs.declared.Mcu.{Mcu}
 use Rattle.reading.specs.declared.Record.{Record}
 use Rattle.reading.specs.Tests.{◌and◌}
 use Rattle.reading.specs.Huffman.{table_at}
@@ -17,7 +19,7 @@ use Rattle.reading.specs.Scan.{plan_of, broke}
 use Rattle.reading.specs.Code.Mcus.{sampled, measured}
 use Rattle.reading.specs.Code.Scans.{nowhere, readable, scan_of}
 use Rattle.reading.proofs.Plain.{and_left, and_right}
-use Rattle.reading.proofs.Sampling.{Sampling, sampled_says, measured_none, measured_some, blocks_least, channel_below, channels_are}
+use Rattle.reading.proofs.Sampling.{Sampling, sampled_says, measured_is, measured_none, measured_some, blocks_least, channel_below, channels_are}
 use Rattle.jpeg_scan_plan.specs.declared.Plan.{Plan}
 use Rattle.jpeg_scan_plan.specs.Plans.{four, digits, no_plan, plan_in, plan_for, chan, Stands, Quantizes}
 
@@ -41,9 +43,12 @@ readable_says s r e = go (sampled r.frame) refl (subst⁻¹ T e tt)
         }
     go false p all = absurd (and_right (leb r.start (length s)) false all)
 
+pub sampled_where_readable : (s : List ℕ) (r : Record) → readable s r ≡ true → sampled r.frame ≡ true
+sampled_where_readable s r e = (readable_says s r e).fine
+
 -- the tests of the code
 module _ (s : List ℕ) (r : Record) where
-  pub unreadable_long : length s < r.start → false ≡ readable s r
+  pub unreadable_long : length s < r.start → leb r.start (length s) ≡ readable s r
   unfolding readable
   unreadable_long h = rw (lt-leb r.start (length s) h)
 
@@ -55,17 +60,21 @@ module _ (s : List ℕ) (r : Record) where
       go true p = sym (measured_none r.frame (sym e ∙ eqb-true n 0 p))
       go false p = sym (measured_some r.frame (λ z. eqb-false n 0 p (e ∙ z)))
 
+pub ruleset reads = (unreadable_long, readable_is)
+
 -- ---- the channel of a block
+
+-- a frame has at most four channels, and a channel has at most 16 blocks in an MCU
+pub channels_few : (f : Frame) → sampled f ≡ true → f.channels ≤ 4
+channels_few f e = (sampled_says f e).few
+
+pub area_small : (f : Frame) (c : ℕ) → sampled f ≡ true → c < f.channels → get_or f.across c 0 * get_or f.down c 0 ≤ 16
+area_small f c e h = let ok = sampled_says f e in mul-le-mul (ok.across c h).1 (ok.down c h).1
 
 -- what was passed of the channels before c, and what is left of the place
 module _ (ch : ℕ) (across down : List ℕ) (j : ℕ) where
   abbrev pub Passing : ℕ → ℕ → Type 0
   Passing left c = channel_in (factors_from across down 0 ch) j ≡ c + channel_in (factors_from across down c (ch - c)) left
-
-  pub passing_begin : Passing j 0
-  passing_begin =
-      let z : ch - 0 ≡ ch = omega arith in
-      ap (λ n. channel_in (factors_from across down 0 n) j) (sym z) ∙ omega arith
 
   module _ (left c : ℕ) (w : Passing left c) where
     abbrev here : ℕ
@@ -95,6 +104,8 @@ module _ (ch : ℕ) (across down : List ℕ) (j : ℕ) where
         let last : channel_in (factors_from across down c (ch - c)) left ≡ 0 = ap (λ n. channel_in (factors_from across down c n) left) none in
         omega (arith, w, last)
 
+pub ruleset passing = (channels_few, area_small, passing_here, passing_on, passing_out)
+
 -- behind a digit stand the others
 pub next_digit : (order j : ℕ) → order / 4 ^ suc j ≡ order / 4 / 4 ^ j
 next_digit order j = ap (λ k. order / k) (pow-succ' 4 j) ∙ sym (div-div-eq-div-mul order 4 (4 ^ j))
@@ -120,6 +131,12 @@ four_at f (suc (suc (suc (suc c)))) h = absurd (not-suc-le-zero (le_of_suc-le-su
 pub digits_below : (f : ℕ → ℕ) (j n : ℕ) → digits f j n < 4 ^ n
 digits_below f j zero = omega arith
 digits_below f j (suc n) = omega (arith, digits_below f (suc j) n, pow-suc 4 n)
+
+-- those of an MCU fit 20 bits
+pub digits_few : (f : ℕ → ℕ) (j n : ℕ) → n ≤ 10 → digits f j n < 1048576
+digits_few f j n h =
+    let most : 4 ^ n ≤ 4 ^ 10 = pow-le-pow_right {n = 4} (omega arith) h in
+    omega (arith, digits_below f j n, most)
 
 digit_at : (f : ℕ → ℕ) (i n j : ℕ) → j < n → digits f i n / 4 ^ j % 4 ≡ f (i + j) % 4
 digit_at f i zero j h = absurd (not-suc-le-zero h)
@@ -170,9 +187,32 @@ module _ (s : List ℕ) (r : Record) where
   unfolding plan_for
   plan_read e = rw e
 
-  plan_none : readable s r ≡ false → plan_for s r ≡ no_plan
+  pub plan_none : readable s r ≡ false → no_plan ≡ plan_for s r
   unfolding plan_for
   plan_none e = rw e
+
+  pub plan_gathered :
+      readable s r ≡ true
+      → {dcs acs quants : List ℕ} {order : ℕ} {m : Mcu}
+      → dcs ≡ four (dc_at r)
+      → acs ≡ four (ac_at r)
+      → quants ≡ four (quant_at r)
+      → order ≡ digits (channel_in (shape_of r.frame).factors) 0 10
+      → m ≡ measured r.frame
+      → record {
+        start = r.start;
+        dcs = dcs;
+        acs = acs;
+        quants = quants;
+        order = order;
+        per = m.blocks;
+        interval = r.interval;
+        blocks = r.blocks;
+      }
+      ≡ plan_for s r
+  plan_gathered e d a q o m =
+      let per = ap (λ (k : Mcu). k.blocks) (m ∙ measured_is r.frame (readable_says s r e).sampling) in
+      rw (d, a, q, o, per) (sym (plan_read e))
 
   pub ready : {n : Plan} → n ≡ plan_for s r → (n.per ≡ 0 → ⊥) → Ready s r n
   ready {n} e h = go (readable s r) refl
@@ -188,7 +228,7 @@ module _ (s : List ℕ) (r : Record) where
             numbers = subst⁻¹ (λ (k : Plan). Stands (take k.start s) k (plan_of s r)) same (stands_in s r a);
             quantizers = subst⁻¹ (λ (k : Plan). Quantizes (take k.start s) k (quantizers_of s r)) same (quantizes_in s r);
           }
-      go false x = absurd (h (ap (λ (k : Plan). k.per) (e ∙ plan_none x)))
+      go false x = absurd (h (ap (λ (k : Plan). k.per) (e ∙ sym (plan_none x))))
 
   pub unready : {n : Plan} → n ≡ plan_for s r → n.per ≡ 0 → scan_of s r ≡ broke nowhere
   unfolding scan_of
@@ -201,3 +241,5 @@ module _ (s : List ℕ) (r : Record) where
           let z : areas (shape_of r.frame).factors ≡ 0 = sym (ap (λ (k : Plan). k.per) (e ∙ plan_read x)) ∙ h in
           let y : ⊥ = omega (arith, z, blocks_least r.frame a, a.some) in
           absurd y
+
+pub ruleset gathered = (plan_none, sampled_where_readable, plan_gathered)

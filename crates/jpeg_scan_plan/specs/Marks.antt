@@ -1,6 +1,6 @@
 -- The rules' markers as the code answers them: one that is looked for, the end of a scan, the restart before an MCU; and what a fault in an
 -- MCU names.
-use Rattle.std.specs.Prelude.{List, Bool, true, false, cond, ℕ, eqb}
+use Rattle.std.specs.Prelude.{List, Bool, true, false, cond, ℕ, eqb, Option, Some, None, Result, Ok, Err}
 use Rattle.reading.specs.declared.Bits.{Bits}
 use Rattle.reading.specs.declared.Break.{Break}
 use Rattle.reading.specs.declared.Fault.{Fault}
@@ -11,15 +11,11 @@ use Rattle.reading.specs.Bits.{mark, file, first_bit}
 use Rattle.reading.specs.Layout.{due_before, restart_before}
 use Rattle.reading.specs.Scan as scan
 use Rattle.reading.specs.Code.Scans.{broke_at}
-use Rattle.jpeg_scan_plan.specs.declared.Halt.TheVariants.{No, Yes}
-use Rattle.jpeg_scan_plan.specs.declared.Mark.{Mark}
-use Rattle.jpeg_scan_plan.specs.declared.Mark.TheVariants.{Missing, Behind}
-use Rattle.jpeg_scan_plan.specs.declared.CursorRead.{CursorRead}
 
--- what was found, as the rules say it
-abbrev pub looked : Mark → Read Bits (Unit {0})
-looked Missing = fault Broken
-looked (Behind at) = got tt (first_bit at)
+-- what was found, as the rules say it: the place behind a marker, or none
+abbrev pub looked : Option ℕ → Read Bits (Unit {0})
+looked None = fault Broken
+looked (Some at) = got tt (first_bit at)
 
 -- whether reading passes
 abbrev pub passes : Read Bits (Unit {0}) → Bool
@@ -31,22 +27,19 @@ unfoldable pub closes : List ℕ → Bits → Bool
 unfolding file
 closes s b = passes (scan.closed (file s) b)
 
-abbrev pub on_to : ScanCursor → CursorRead
-on_to q = record { halt = No; cursor = q }
-
 -- on behind the marker before an MCU: the predictors become 0
-abbrev pub behind_marker : ScanCursor → Read Bits (Unit {0}) → CursorRead
-behind_marker q (got _ b) = on_to (record { bits = b; predictors = scan.no_predictors; done = q.done })
-behind_marker q (fault f) = record { halt = Yes f; cursor = q }
+abbrev pub behind_marker : ScanCursor Bits → Read Bits (Unit {0}) → Result (ScanCursor Bits) Fault
+behind_marker q (got _ b) = Ok (record { bits = b; predictors = scan.no_predictors; done = q.done })
+behind_marker q (fault f) = Err f
 
 -- before MCU m: where a restart is due, its marker
-unfoldable pub restarted : List ℕ → ℕ → ℕ → ScanCursor → CursorRead
+unfoldable pub restarted : List ℕ → ℕ → ℕ → ScanCursor Bits → Result (ScanCursor Bits) Fault
 unfolding mark
 restarted s interval m q =
     cond (due_before interval m)
     (behind_marker q (mark s (restart_before interval m) q.bits))
-    (on_to q)
+    (Ok q)
 
 -- a fault in the MCU before which a scan stood at `before`, where the block that broke was to be read at `here`
-unfoldable pub broke_in : ScanCursor → ScanCursor → Fault → Break
+unfoldable pub broke_in : ScanCursor Bits → ScanCursor Bits → Fault → Break
 broke_in before here f = cond (eqb here.done before.done) (broke_at before f) (broke_at here f)

@@ -14,7 +14,8 @@ ghost use Rattle.jpeg_scan_plan.specs.Marks.{looked, closes, restarted, broke_in
 use reading::{Bits, Break, Fault, Frame, Mcu, Record, ScanCursor};
 
 // The numbers that a scan is read by, gathered once from the record: the first coded byte, where each channel's tables stand, the
-// channels of the blocks of an MCU as the digits of a number of base 4, the first block's last, how many blocks an MCU has, the restart interval, and how many blocks there are.
+// channels of the blocks of an MCU as the digits of a number of base 4, the first block's last, how many blocks an MCU has, the restart
+// interval, and how many blocks there are.
 #[derive(Clone, Copy)]
 pub struct Plan {
     pub start: usize,
@@ -27,80 +28,46 @@ pub struct Plan {
     pub blocks: usize,
 }
 
-// Whether a scan can be read on.
-#[derive(Clone, Copy)]
-pub enum Halt {
-    No,
-    Yes(Fault),
-}
-
-// What reading on in a scan answers: the cursor behind what was read, or a fault.
-#[derive(Clone, Copy)]
-pub struct CursorRead {
-    pub halt: Halt,
-    pub cursor: ScanCursor,
-}
-
-// What is found where a marker is looked for: none, or one, and the place behind it.
-#[derive(Clone, Copy)]
-enum Mark {
-    Missing,
-    Behind(usize),
-}
-
 // Whether a record has numbers by which a scan can be read: every record that a header gives has.
+#[tactic(auto, using(crate::proofs::Standing::reads))]
 fn readable(s: &[u8], found: Record) -> bool
     ensures { result ≡ readable s.now found }
 {
-    if s.len() < found.start {
-        return false;
-    }
-    let frame = found.frame;
-    let m = Mcu::of(frame);
-    m.blocks != 0
+    found.start <= s.len() && Mcu::of(found.frame).blocks != 0
 }
 
 // The place of each channel's table; 0 where there is none.
 fn chosen(places: [usize; 4], ids: [usize; 4]) -> [usize; 4]
     ensures { result ≡ four (chosen places ids) }
 {
-    let a = reading::entry_at(&places, ids[0]);
-    let b = reading::entry_at(&places, ids[1]);
-    let c = reading::entry_at(&places, ids[2]);
-    let d = reading::entry_at(&places, ids[3]);
-    [a, b, c, d]
+    ids.map(|id| reading::at_or(&places, id, 0))
 }
 
 // The channel of block j of an MCU: the blocks of each channel stand behind those of the channels before it.
+#[tactic(auto, using(crate::proofs::Standing::passing))]
 fn channel_in(frame: Frame, j: usize) -> usize
     requires { sampled frame ≡ true }
     ensures { result ≡ channel_in (shape_of frame).factors j }
 {
-    let channels = frame.channels;
-    let across = frame.across;
-    let down = frame.down;
     let mut left = j;
-    let mut c = 0usize;
-    while c < channels {
-        let blocks = across[c] * down[c];
+    for c in 0..frame.channels {
+        let blocks = frame.across[c] * frame.down[c];
         if left < blocks {
             return c;
         }
         left -= blocks;
-        c += 1;
     }
-    c
+    frame.channels
 }
 
 // The channel of each block of an MCU, found once for each scan: ten digits of base 4.
+#[tactic(auto, using(crate::proofs::Standing::digits_few))]
 fn order(frame: Frame) -> usize
     requires { sampled frame ≡ true }
     ensures { result ≡ digits (channel_in (shape_of frame).factors) 0 10 }
 {
-    let mut list = 0usize;
-    let mut j = 10usize;
-    while 0 < j {
-        j -= 1;
+    let mut list = 0;
+    for j in (0..10).rev() {
         list = 4 * list + channel_in(frame, j) % 4;
     }
     list
@@ -124,33 +91,20 @@ impl Plan {
     }
 
     // the plan of a record's scan; where the record has numbers by which no scan can be read, the plan of none
+    #[tactic(auto, using(crate::proofs::Standing::gathered))]
     pub fn of(s: &[u8], found: Record) -> Self
         ensures { result ≡ plan_for s.now found }
     {
         if !readable(s, found) {
             return Self::none();
         }
-        let frame = found.frame;
-        let tables = found.tables;
-        let dc_places = tables.dcs;
-        let dc_ids = found.dcids;
-        let ac_places = tables.acs;
-        let ac_ids = found.acids;
-        let places = tables.quants;
-        let ids = frame.qids;
-        let dcs = chosen(dc_places, dc_ids);
-        let acs = chosen(ac_places, ac_ids);
-        let quants = chosen(places, ids);
-        let order = order(frame);
-        let m = Mcu::of(frame);
-        let per = m.blocks;
         Self {
             start: found.start,
-            dcs: dcs,
-            acs: acs,
-            quants: quants,
-            order: order,
-            per: per,
+            dcs: chosen(found.tables.dcs, found.dcids),
+            acs: chosen(found.tables.acs, found.acids),
+            quants: chosen(found.tables.quants, found.frame.qids),
+            order: order(found.frame),
+            per: Mcu::of(found.frame).blocks,
             interval: found.interval,
             blocks: found.blocks,
         }
@@ -165,121 +119,91 @@ pub fn channel(order: usize) -> usize
 }
 
 // The unread bits of the current byte are all ones.
+#[tactic(auto, using(crate::proofs::Marks::full_over))]
 fn full(byte: u8, left: u8) -> bool
     ensures { result ≡ padded (record { at = 0; byte = byte; left = left }) }
 {
-    if 8 < left {
-        return false;
-    }
-    let p = 1usize << (left as usize);
-    byte as usize % p == p - 1
+    left <= 8 && byte as usize % (1 << left) == (1 << left) - 1
 }
 
 // The first place from `at` on that does not hold 255: behind fill bytes and a marker's own 255 (the rules' 'Fill bytes inside scans').
+#[tactic(auto, using(crate::proofs::Marks::runs))]
 fn past_full(s: &[u8], at: usize) -> usize
     ensures { result ≡ at + fulls (drop at s.now) }
 {
-    let mut i = at;
-    while i < s.len() {
+    for i in at..s.len() {
         if s[i] != 255 {
             return i;
         }
-        i += 1;
     }
-    i
+    at.max(s.len())
 }
 
 // A marker: padding, any number of fill bytes, then 255 and a code.
-#[tactic(auto, using(crate::proofs::Marks::mark_bare, crate::proofs::Marks::mark_none, crate::proofs::Marks::mark_out, crate::proofs::Marks::mark_wrong, crate::proofs::Marks::mark_found))]
-fn marker(s: &[u8], b: Bits, code: usize) -> Mark
+#[tactic(auto, using(crate::proofs::Marks::marks))]
+fn marker(s: &[u8], b: Bits, code: usize) -> Option<usize>
     ensures { looked result ≡ mark s.now code b }
 {
-    let at = b.at;
     if !full(b.byte, b.left) {
-        return Mark::Missing;
+        return None;
     }
-    let place = past_full(s, at);
-    if place == at {
-        return Mark::Missing;
+    let place = past_full(s, b.at);
+    if place == b.at || s.len() <= place || s[place] as usize != code {
+        return None;
     }
-    if s.len() <= place {
-        return Mark::Missing;
-    }
-    if s[place] as usize != code {
-        return Mark::Missing;
-    }
-    Mark::Behind(place + 1)
+    Some(place + 1)
 }
 
 // After the last block: the marker 217, and no byte behind it.
+#[tactic(auto, using(crate::proofs::Marks::end_missing, crate::proofs::Marks::end_found))]
 pub fn at_end(s: &[u8], b: Bits) -> bool
     ensures { result ≡ closes s.now b }
 {
-    match marker(s, b, 217) {
-        Mark::Missing => false,
-        Mark::Behind(at) => at == s.len(),
-    }
+    marker(s, b, 217) == Some(s.len())
 }
 
 // A restart is due before MCU m > 0 with m a multiple of the interval; 0 is none.
 pub fn restart_due(m: usize, interval: usize) -> bool
     ensures { result ≡ due_before interval m }
 {
-    if m == 0 {
-        return false;
-    }
-    if interval == 0 {
-        return false;
-    }
-    m % interval == 0
+    m != 0 && interval != 0 && m % interval == 0
 }
 
 // The code of the restart marker before MCU m.
 pub fn restart_code(m: usize, interval: usize) -> usize
     ensures { result ≡ restart_before interval m }
 {
-    if m < interval {
-        return 208;
-    }
-    if interval == 0 {
+    if m < interval || interval == 0 {
         return 208;
     }
     208 + (m / interval - 1) % 8
 }
 
 // Before MCU m: where a restart is due, its marker, and the predictors become 0.
-pub fn restart(s: &[u8], from: ScanCursor, m: usize, interval: usize) -> CursorRead
+#[tactic(auto, using(crate::proofs::Marks::restarts))]
+pub fn restart(
+    s: &[u8],
+    from: ScanCursor<Bits>,
+    m: usize,
+    interval: usize,
+) -> Result<ScanCursor<Bits>, Fault>
     ensures { result ≡ restarted s.now interval m from }
 {
     if !restart_due(m, interval) {
-        return CursorRead {
-            halt: Halt::No,
-            cursor: from,
-        };
+        return Ok(from);
     }
-    match marker(s, from.bits, restart_code(m, interval)) {
-        Mark::Missing => CursorRead {
-            halt: Halt::Yes(Fault::Broken),
-            cursor: from,
-        },
-        Mark::Behind(at) => CursorRead {
-            halt: Halt::No,
-            cursor: ScanCursor {
-                bits: Bits {
-                    at: at,
-                    byte: 0,
-                    left: 0,
-                },
-                predictors: [0; 4],
-                done: from.done,
-            },
-        },
-    }
+    let at = marker(s, from.bits, restart_code(m, interval)).ok_or(Fault::Broken)?;
+    Ok(ScanCursor {
+        bits: Bits::first(at),
+        predictors: [0; 4],
+        ..from
+    })
 }
 
 // A fault in the MCU before which a scan stood at `before`, once its restart was done: `here` is where the block that broke was to be
 // read. The turn of an MCU's first block begins before the restart, that of a later one where the block before it ended.
-pub fn broke_in(before: ScanCursor, here: ScanCursor, f: Fault) -> Break
+#[tactic(auto, using(crate::proofs::Marks::broke_first, crate::proofs::Marks::broke_later))]
+pub fn broke_in(before: ScanCursor<Bits>, here: ScanCursor<Bits>, f: Fault) -> Break
     ensures { result ≡ broke_in before here f }
 {
     if here.done == before.done {
@@ -292,12 +216,6 @@ pub fn broke_in(before: ScanCursor, here: ScanCursor, f: Fault) -> Break
 pub fn quantizer(t: &[u8], at: usize) -> &[u8]
     ensures { result.now ≡ take 64 (drop at t.now) }
 {
-    if t.len() <= at {
-        return &t[..0];
-    }
-    if t.len() - at < 64 {
-        return &t[at..];
-    }
-    let end = at + 64;
-    &t[at..end]
+    let rest = &t[at.min(t.len())..];
+    &rest[..rest.len().min(64)]
 }

@@ -8,7 +8,9 @@ use native.Mathlib.Omega.{arith}
 use lib.Dec.{lit<, ltb}
 use lib.ListN.{length, drop, length-append}
 use borrow.Author.Tests.{le-ltb, ltb-true, ltb-false}
+use Rattle.std.specs.Prelude.{Result, Ok, Err}
 use Rattle.reading.specs.declared.Bits.{Bits}
+use Rattle.reading.specs.declared.Fault.{Fault}
 use Rattle.reading.specs.declared.Fault.TheVariants.{Broken}
 use Rattle.reading.specs.declared.ScanCursor.{ScanCursor}
 use Rattle.reading.specs.Reader.{Read, got, fault}
@@ -20,16 +22,11 @@ use Rattle.reading.specs.Huffman.{bits_of}
 use Rattle.reading.proofs.Same.{Alike}
 use Rattle.reading.proofs.Marks.{Looked, found, missed, mark_looked}
 use Rattle.reading.proofs.Unstuffed.{Pending, plain_mark, mark_alike, length_bits_of}
-use Rattle.jpeg_scan_plan.specs.declared.Halt.{Halt}
-use Rattle.jpeg_scan_plan.specs.declared.Halt.TheVariants.{No, Yes}
-use Rattle.jpeg_scan_plan.specs.declared.CursorRead.{CursorRead}
 use Rattle.jpeg_scan_plan.proofs.Marks.{restart_not}
 use Rattle.jpeg_scan_plan.specs.Marks.{passes, closes, behind_marker, restarted}
 use Rattle.jpeg_bits_wide.specs.declared.Wide.{Wide}
 use Rattle.jpeg_bits_wide.specs.Cursor.{to_come, Meets, narrowed}
 use Rattle.jpeg_bits_wide.proofs.Meeting.{alike_fault, pending_there, narrow_meets, fresh_meets, Peers, peers, peers_meets, peers_mark, peers_closed}
-use Rattle.jpeg_scan_wide.specs.declared.WideCursor.{WideCursor}
-use Rattle.jpeg_scan_wide.specs.declared.WideCursorRead.{WideCursorRead}
 use Rattle.jpeg_scan_wide.specs.Steps.{narrowed_at, led_to, restarted_wide, ends_wide, Follows, Restarted, Restarts, Ends}
 
 -- ---- eight bits or more are left
@@ -72,33 +69,28 @@ end_narrow {s} {b} {w} m h = passes_alike s (closed (file s) b) (closed (file s)
 
 -- ---- the restart before MCU m
 
-module _ {s : List ℕ} {q : ScanCursor} {from : WideCursor} (f : Follows s q from) (interval m : ℕ) where
-  pub restart_none : due_before interval m ≡ false → Restarted s interval m q (record { halt = No; cursor = from })
+module _ {s : List ℕ} {q : ScanCursor Bits} {from : ScanCursor Wide} (f : Follows s q from) (interval m : ℕ) where
+  restart_none : due_before interval m ≡ false → Restarted s interval m q (Ok from)
   restart_none e = record { behind = q; follows = f; same = restart_not s interval m q e }
 
   module _ (due : due_before interval m ≡ true) where
     abbrev code : ℕ
     code = restart_before interval m
 
-    sought : (x : ScanCursor) → restarted s interval m x ≡ behind_marker x (mark s code x.bits)
+    sought : (x : ScanCursor Bits) → restarted s interval m x ≡ behind_marker x (mark s code x.bits)
     unfolding restarted
     sought x = rw due refl
 
-    pub restart_early : 8 ≤ from.wide.left → Restarted s interval m q (record { halt = Yes Broken; cursor = from })
-    restart_early many =
-        record {
-          behind = q;
-          follows = f;
-          same = sym (sought q ∙ ap (behind_marker q) (mark_none f.meets many code (omega arith)));
-        }
+    restart_early : 8 ≤ from.bits.left → Restarted s interval m q (Err Broken)
+    restart_early many = sym (sought q ∙ ap (behind_marker q) (mark_none f.meets many code (omega arith)))
 
     -- what was answered at the bit place, and at the scan's cursor
     beside :
         (x y : Read Bits (Unit {0}))
         → Alike (Peers s) x y
-        → Looked s (narrowed from.wide) y
+        → Looked s (narrowed from.bits) y
         → restarted s interval m q ≡ behind_marker q x
-        → (let a = behind_marker (narrowed_at from) y in Restarted s interval m q (led_to from a.halt a.cursor.bits.at))
+        → Restarted s interval m q (led_to from (behind_marker (narrowed_at from) y))
     beside (got _ b) _ h (found on a i) e =
         record {
           behind = record { bits = b; predictors = no_predictors; done = q.done };
@@ -107,42 +99,33 @@ module _ {s : List ℕ} {q : ScanCursor} {from : WideCursor} (f : Follows s q fr
         }
     beside (got _ b) _ h missed e = absurd h
     beside (fault g) _ h (found on a i) e = absurd h
-    beside (fault g) _ h missed e = record { behind = q; follows = f; same = ap (λ k. record { halt = Yes k; cursor = q }) (sym h) ∙ sym e }
+    beside (fault g) _ h missed e = ap Err (sym h) ∙ sym e
 
-    pub restart_narrow :
-        from.wide.left < 8
-        → {a : CursorRead}
-        → a ≡ restarted s interval m (narrowed_at from)
-        → {h : Halt}
-        → a.halt ≡ h
-        → Restarted s interval m q (led_to from h a.cursor.bits.at)
-    restart_narrow few {a} e {h} g =
-        subst (λ k. Restarted s interval m q (led_to from k a.cursor.bits.at)) g
-        (subst⁻¹ (λ x. Restarted s interval m q (led_to from x.halt x.cursor.bits.at)) (e ∙ sought (narrowed_at from))
-        (beside (mark s code q.bits) (mark s code (narrowed from.wide))
+    restart_narrow : from.bits.left < 8 → Restarted s interval m q (led_to from (restarted s interval m (narrowed_at from)))
+    restart_narrow few =
+        subst⁻¹ (λ x. Restarted s interval m q (led_to from x)) (sought (narrowed_at from))
+        (beside (mark s code q.bits) (mark s code (narrowed from.bits))
         (peers_mark (peers f.meets (narrow_meets s f.meets.proper few)) code (omega arith))
-        (mark_looked s code (narrowed from.wide)) (sought q)))
+        (mark_looked s code (narrowed from.bits)) (sought q))
 
 -- ---- what is promised, at a cursor that follows one of the scan
 
 pub restarts :
-    {s : List ℕ} {interval m : ℕ} {from : WideCursor} {a : WideCursorRead}
+    {s : List ℕ} (interval m : ℕ) {from : ScanCursor Wide} {a : Result (ScanCursor Wide) Fault}
     → a ≡ restarted_wide s interval m from
     → Restarts s interval m from a
 unfolding restarted_wide
-restarts {s} {interval} {m} {from} e q f = subst⁻¹ (Restarted s interval m q) e (go (due_before interval m) refl)
+restarts {s} interval m {from} e q f = subst⁻¹ (Restarted s interval m q) e (go (due_before interval m) refl)
   where
-    few : due_before interval m ≡ true → (b : Bool) → ltb 7 from.wide.left ≡ b
-        → (let a = restarted s interval m (narrowed_at from) in
-        Restarted s interval m q (cond b (record { halt = Yes Broken; cursor = from }) (led_to from a.halt a.cursor.bits.at)))
-    few due true g = restart_early f interval m due (omega (arith, ltb-true 7 from.wide.left g))
-    few due false g = restart_narrow f interval m due (omega (arith, ltb-false 7 from.wide.left g)) refl refl
+    there : Bool → Result (ScanCursor Wide) Fault
+    there b = cond b (Err Broken) (led_to from (restarted s interval m (narrowed_at from)))
 
-    go : (b : Bool) → due_before interval m ≡ b
-        → (let a = restarted s interval m (narrowed_at from) in
-        let there : WideCursorRead = cond (ltb 7 from.wide.left) (record { halt = Yes Broken; cursor = from }) (led_to from a.halt a.cursor.bits.at) in
-        Restarted s interval m q (cond b there (record { halt = No; cursor = from })))
-    go true due = few due (ltb 7 from.wide.left) refl
+    few : due_before interval m ≡ true → (b : Bool) → ltb 7 from.bits.left ≡ b → Restarted s interval m q (there b)
+    few due true g = restart_early f interval m due (omega (arith, ltb-true 7 from.bits.left g))
+    few due false g = restart_narrow f interval m due (omega (arith, ltb-false 7 from.bits.left g))
+
+    go : (b : Bool) → due_before interval m ≡ b → Restarted s interval m q (cond b (there (ltb 7 from.bits.left)) (Ok from))
+    go true due = few due (ltb 7 from.bits.left) refl
     go false due = restart_none f interval m due
 
 pub ends_there : {s : List ℕ} {w : Wide} {t : Bool} → t ≡ ends_wide s w → Ends s w t

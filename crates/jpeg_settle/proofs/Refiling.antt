@@ -3,7 +3,7 @@ use mathlib.Core.Path.{◌≡◌, refl, sym, ap, ap₂, ◌∙◌, subst, subst�
 use mathlib.Core.Bool.{Bool, true, false, cond}
 use mathlib.Core.List.{List, [], ◌∷◌, ◌++◌, append_assoc, append-nil}
 use mathlib.Core.Option.{Option, none, some}
-use Prim.Native.Nat.{ℕ, suc, ◌+◌, ◌-◌, ◌^◌, ◌<◌, ◌≤◌}
+use Prim.Native.Nat.{ℕ, suc, min, ◌+◌, ◌-◌, ◌^◌, ◌<◌, ◌≤◌}
 use native.Mathlib.Omega.{arith}
 use borrow.Author.Tests.{lt-ltb, le-ltb, ltb-true, ltb-false, le-leb, lt-leb}
 use lib.Dec.{T, ltb, leb, leb→le}
@@ -15,39 +15,20 @@ use Rattle.reading.specs.declared.Budget.{Budget}
 use Rattle.reading.specs.declared.Break.{Break}
 use Rattle.reading.specs.declared.Record.{Record}
 use Rattle.reading.specs.declared.Refusal.TheVariants.{TooLong, ShortRoom, NoEndCode, Scan}
-use Rattle.reading.specs.declared.ScanSettled.{ScanSettled}
-use Rattle.reading.specs.declared.ScanSettled.TheVariants.{Done, Lacking, Stop}
-use Rattle.reading.specs.declared.Settling.{Settling}
-use Rattle.reading.specs.declared.Verdict.TheVariants.{Accepted, Refused}
+use Rattle.reading.specs.declared.Unsettled.{Unsettled}
+use Rattle.reading.specs.declared.Unsettled.TheVariants.{Lacking, Broke}
+use Rattle.std.specs.declared.result.Result.{Result}
+use Rattle.std.specs.declared.result.Result.TheVariants.{Ok, Err}
 use Rattle.reading.specs.Tests.{over}
 use Rattle.reading.specs.Scan.{Scanned, whole, broke}
 use Rattle.reading.specs.Scan.{levels, plan_of}
-use Rattle.reading.specs.Code.Scans.{nowhere, readable, scan_of, settled_read, settled_of, scan_settled, laid_over}
+use Rattle.reading.specs.Code.Scans.{nowhere, readable, scan_of, settled_read, settled_of, scan_settled, laid_over, refusal_of}
 use Rattle.reading.specs.Settled.{settled_scan}
 use Rattle.reading.specs.Calls.{Rewritten, unsettled}
 use Rattle.reading.proofs.Counted.{scan_levels}
 use Rattle.reading.proofs.Plain.{and_left}
 use Rattle.jpeg_write_scan.proofs.Lengths.{settled_length}
-use Rattle.jpeg_settle.specs.Refiled.{remade, scan_laid, joined, settled_into, refiled_by, refiled}
-
--- ---- the head copied
-
-module _ (s out : List ℕ) (i : ℕ) where
-  pub copied_length : i ≤ length s → i ≤ length out → {out' : List ℕ} → out' ≡ take i s ++ drop i out → length out' ≡ length out
-  copied_length h k e = ap length e ∙ length-append (take i s) (drop i out) ∙ whole (length-take-le i s h) (length-drop i out)
-    where
-      whole : {m n : ℕ} → m ≡ i → n ≡ length out - i → m + n ≡ length out
-      whole p q = omega (arith, p, q, k)
-
-  pub copied_next : i < length s → i < length out → {out' : List ℕ} → out' ≡ take i s ++ drop i out → set out' i (get_or s i 0) ≡ take (i + 1) s ++ drop (i + 1) out
-  copied_next h k e =
-      ap (λ l. set l i (get_or s i 0)) (e ∙ ap (λ l. take i s ++ l) (drop-cons out i 0 k))
-      ∙ set_at (take i s) (get_or out i 0) (drop (suc i) out) (get_or s i 0) i (length-take-le i s (omega (arith, h)))
-      ∙ sym (ap (λ l. l ++ drop (suc i) out) (take-suc s i 0 h) ∙ append_assoc (take i s) (get_or s i 0 ∷ []) (drop (suc i) out))
-      ∙ ap (λ k. take k s ++ drop k out) next
-    where
-      next : suc i ≡ i + 1
-      next = omega arith
+use Rattle.jpeg_settle.specs.Refiled.{answered, remade, scan_laid, joined, settled_into, refiled_by, refiled}
 
 -- ---- the scan's place
 
@@ -59,29 +40,32 @@ none_laid (whole (some []) b) = refl
 none_laid (whole (some (x ∷ t)) b) = ap (λ q. cond q [] (over (x ∷ t) [])) (lt-ltb 0 (suc (length t)) (omega arith))
 none_laid (broke f) = refl
 
-pub laid_short : (start : ℕ) (t : Scanned Bits (Option (List ℕ))) (out part : List ℕ) → length out < start → part ≡ laid_over t [] → part ++ out ≡ scan_laid start t out
+-- the part that is lent is all that lies behind the start, and nothing where the buffer ends before it
+pub laid_at :
+    (start m : ℕ) (t : Scanned Bits (Option (List ℕ))) (out part : List ℕ)
+    → m ≡ min start (length out)
+    → part ≡ laid_over t (take (length out - m) (drop m out))
+    → take m out ++ (part ++ drop (length out - m) (drop m out)) ≡ scan_laid start t out
 unfolding scan_laid
-laid_short start t out part h e = ap (λ l. l ++ out) (e ∙ none_laid t) ∙ sym short
+laid_at start m t out part least e = go (ltb (length out) start) refl
   where
-    short : scan_laid start t out ≡ out
-    short = rw (lt-ltb (length out) start h) refl
-
--- (the part that is lent is all that lies behind the start)
-pub laid_long :
-    (start : ℕ) (t : Scanned Bits (Option (List ℕ))) (out part : List ℕ)
-    → start ≤ length out
-    → part ≡ laid_over t (take (length out - start) (drop start out))
-    → take start out ++ (part ++ drop (length out - start) (drop start out)) ≡ scan_laid start t out
-unfolding scan_laid
-laid_long start t out part h e =
-    ap (λ l. take start out ++ (part ++ l)) (drop_of_length-le (drop start out) {i = length out - start} few)
-    ∙ ap (λ l. take start out ++ l) (append-nil part ∙ e ∙ ap (laid_over t) (take_all (length out - start) (drop start out) few)) ∙ sym long
-  where
-    few : length (drop start out) ≤ length out - start
-    few = omega (arith, length-drop start out)
-
-    long : scan_laid start t out ≡ take start out ++ laid_over t (drop start out)
-    long = rw (le-ltb (length out) start h) refl
+    go :
+        (q : Bool)
+        → ltb (length out) start ≡ q
+        → take m out ++ (part ++ drop (length out - m) (drop m out)) ≡ cond q out (take start out ++ laid_over t (drop start out))
+    go true q =
+        let short : length out < start = ltb-true (length out) start q in
+        let nothing : drop m out ≡ [] = drop_of_length-le out {i = m} (omega arith) in
+        let empty : part ≡ [] = e ∙ ap (λ l. laid_over t (take (length out - m) l)) nothing ∙ ap (laid_over t) (take_all (length out - m) [] (omega arith)) ∙ none_laid t in
+        let tail : drop (length out - m) (drop m out) ≡ [] = ap (drop (length out - m)) nothing ∙ drop_of_length-le [] {i = length out - m} (omega arith) in
+        rw (empty, tail) (append-nil (take m out) ∙ take_all m out (omega arith))
+    go false q =
+        let within : start ≤ length out = ltb-false (length out) start q in
+        let here : m ≡ start = omega arith in
+        let few : length (drop m out) ≤ length out - m = omega (arith, length-drop m out) in
+        let whole : part ≡ laid_over t (drop m out) = e ∙ ap (laid_over t) (take_all (length out - m) (drop m out) few) in
+        let tail : drop (length out - m) (drop m out) ≡ [] = drop_of_length-le (drop m out) {i = length out - m} few in
+        rw (tail, whole) (ap (λ l. take m out ++ l) (append-nil (laid_over t (drop m out))) ∙ ap (λ k. take k out ++ laid_over t (drop k out)) here)
 
 kept : (start : ℕ) (out : List ℕ) (q : Bool) → cond q out (take start out ++ drop start out) ≡ out
 kept start out true = refl
@@ -115,15 +99,6 @@ laid_all start t b out h = rw (le-ltb (length out) start (omega (arith, h)), le-
 
 -- ---- the head before it
 
-module _ (s : List ℕ) (start n : ℕ) (rest : Budget) (out : List ℕ) where
-  pub joined_short : length out < start + n → {answer : Settling} → answer ≡ record { verdict = Refused ShortRoom; budget = rest; length = start + n } → remade answer out ≡ joined s start n rest out
-  unfolding joined
-  joined_short h a = ap (λ x. remade x out) a ∙ sym (rw (lt-ltb (length out) (start + n) h) refl)
-
-  pub joined_all : start + n ≤ length out → {out' : List ℕ} → out' ≡ take start s ++ drop start out → remade (record { verdict = Accepted; budget = rest; length = start + n }) out' ≡ joined s start n rest out
-  unfolding joined
-  joined_all h e = ap (remade (record { verdict = Accepted; budget = rest; length = start + n })) e ∙ sym (rw (le-ltb (length out) (start + n) h) refl)
-
 -- both are what the settled file makes of the buffer
 join_is :
     (s : List ℕ) (start : ℕ) (t : List ℕ) (b : Bits) (rest : Budget) (out : List ℕ)
@@ -136,7 +111,7 @@ join_is s start t b rest out h = go (ltb (length out) (start + length t)) refl
     into : ℕ → Rewritten
     into m =
         cond (ltb (length out) m) (unsettled ShortRoom rest m out)
-        (remade (record { verdict = Accepted; budget = rest; length = m }) ((take start s ++ t) ++ drop m out))
+        (remade (record { verdict = Ok tt; budget = rest; length = m }) ((take start s ++ t) ++ drop m out))
 
     counted : settled_into out rest (some (take start s ++ t)) ≡ into (start + length t)
     counted = ap into (length-append (take start s) t ∙ ap (λ k. k + length t) (length-take-le start s h))
@@ -152,7 +127,7 @@ join_is s start t b rest out h = go (ltb (length out) (start + length t)) refl
 
         there : into (start + length t) ≡ unsettled ShortRoom rest (start + length t) out
         there = rw e refl
-    go false e = ap (joined s start (length t) rest) (laid_all start t b out room) ∙ here ∙ ap (remade (record { verdict = Accepted; budget = rest; length = start + length t })) bytes ∙ sym (counted ∙ there)
+    go false e = ap (joined s start (length t) rest) (laid_all start t b out room) ∙ here ∙ ap (remade (record { verdict = Ok tt; budget = rest; length = start + length t })) bytes ∙ sym (counted ∙ there)
       where
         room : start + length t ≤ length out
         room = ltb-false (length out) (start + length t) e
@@ -163,10 +138,10 @@ join_is s start t b rest out h = go (ltb (length out) (start + length t)) refl
         whole : start + length t ≤ length laid
         whole = omega (arith, front, length-append (take start out) (t ++ drop (length t) (drop start out)), length-append t (drop (length t) (drop start out)))
 
-        here : joined s start (length t) rest laid ≡ remade (record { verdict = Accepted; budget = rest; length = start + length t }) (take start s ++ drop start laid)
+        here : joined s start (length t) rest laid ≡ remade (record { verdict = Ok tt; budget = rest; length = start + length t }) (take start s ++ drop start laid)
         here = rw (le-ltb (length laid) (start + length t) whole) refl
 
-        there : into (start + length t) ≡ remade (record { verdict = Accepted; budget = rest; length = start + length t }) ((take start s ++ t) ++ drop (start + length t) out)
+        there : into (start + length t) ≡ remade (record { verdict = Ok tt; budget = rest; length = start + length t }) ((take start s ++ t) ++ drop (start + length t) out)
         there = rw e refl
 
         bytes : take start s ++ drop start laid ≡ (take start s ++ t) ++ drop (start + length t) out
@@ -177,16 +152,6 @@ join_is s start t b rest out h = go (ltb (length out) (start + length t)) refl
 
 -- ---- what is answered of a scan
 
-abbrev IsDone : ScanSettled → Type 0
-IsDone (Done n) = Unit {0}
-IsDone Lacking = ⊥
-IsDone (Stop f) = ⊥
-
-abbrev IsStop : ScanSettled → Type 0
-IsStop (Done n) = ⊥
-IsStop Lacking = ⊥
-IsStop (Stop f) = Unit {0}
-
 -- a scan that was settled to n bytes
 record Laid (o : Scanned Bits (Option (List ℕ))) (n : ℕ) : Type 0 where
   bytes : List ℕ
@@ -194,28 +159,11 @@ record Laid (o : Scanned Bits (Option (List ℕ))) (n : ℕ) : Type 0 where
   is : o ≡ whole (some bytes) place
   long : n ≡ length bytes
 
-done_laid : (o : Scanned Bits (Option (List ℕ))) (n : ℕ) → Done n ≡ scan_settled o → Laid o n
+done_laid : (o : Scanned Bits (Option (List ℕ))) (n : ℕ) → Ok n ≡ scan_settled o → Laid o n
 unfolding scan_settled
-done_laid (whole none b) n e = absurd (subst IsDone e tt)
+done_laid (whole none b) n e = cc
 done_laid (whole (some t) b) n e = let same : n ≡ length t = cc in record { bytes = t; place = b; is = refl; long = same }
-done_laid (broke f) n e = absurd (subst IsDone e tt)
-
-stop_laid : (o : Scanned Bits (Option (List ℕ))) (g : Break) → Stop g ≡ scan_settled o → o ≡ broke g
-unfolding scan_settled
-stop_laid (whole none b) g e = absurd (subst IsStop e tt)
-stop_laid (whole (some t) b) g e = absurd (subst IsStop e tt)
-stop_laid (broke h) g e = let same : g ≡ h = cc in ap broke (sym same)
-
-abbrev IsNone : ScanSettled → Type 0
-IsNone (Done n) = ⊥
-IsNone Lacking = Unit {0}
-IsNone (Stop f) = ⊥
-
-none_laid_of : (o : Scanned Bits (Option (List ℕ))) → Lacking ≡ scan_settled o → (b : Bits) × (o ≡ whole none b)
-unfolding scan_settled
-none_laid_of (whole none b) e = (b, refl)
-none_laid_of (whole (some t) b) e = absurd (subst IsNone e tt)
-none_laid_of (broke h) e = absurd (subst IsNone e tt)
+done_laid (broke f) n e = cc
 
 -- ---- the file
 
@@ -241,43 +189,44 @@ module _ (s : List ℕ) (r : Record) where
       go true p (broke g) q e = let z : ◌≡◌ {A = ℕ} 0 1 = cc in let n : ⊥ = omega arith in absurd n
       go false p x q e = let z : ◌≡◌ {A = ℕ} 0 1 = cc in let n : ⊥ = omega arith in absurd n
 
-module _ (s : List ℕ) (r : Record) (rest : Budget) (out : List ℕ) where
-  pub refiled_long : 2 ^ 63 ≤ length s → {answer : Settling} → answer ≡ record { verdict = Refused TooLong; budget = rest; length = 0 } → remade answer out ≡ refiled s r rest out
-  unfolding refiled
-  refiled_long h a = ap (λ x. remade x out) a ∙ sym (rw (le-leb (2 ^ 63) (length s) h) refl)
-
-  pub refiled_is : length s < 2 ^ 63 → refiled s r rest out ≡ refiled_by s r rest out (settled_of s r)
-  unfolding refiled
-  refiled_is h = rw (lt-leb (2 ^ 63) (length s) h) refl
-
 module _ (s : List ℕ) (r : Record) (few : length s < 2 ^ 63) where
-  module _ (rest : Budget) (out : List ℕ) {v : ScanSettled} {out' : List ℕ} (e : v ≡ scan_settled (settled_of s r)) (w : out' ≡ scan_laid r.start (settled_of s r) out) where
-    by_scan : {x : Scanned Bits (Option (List ℕ))} → settled_of s r ≡ x → refiled s r rest out ≡ refiled_by s r rest out x
-    by_scan q = refiled_is s r rest out few ∙ ap (refiled_by s r rest out) q
+  pub refiled_is : (rest : Budget) (out : List ℕ) → refiled s r rest out ≡ refiled_by s r rest out (settled_of s r)
+  unfolding refiled
+  refiled_is rest out = rw (lt-leb (2 ^ 63) (length s) few) refl
 
-    pub file_stop :
-        {g : Break}
-        → v ≡ Stop g
-        → {answer : Settling}
-        → answer ≡ record { verdict = Refused (Scan g); budget = rest; length = 0 }
-        → remade answer out' ≡ refiled s r rest out
-    file_stop {g} p {answer} a =
-        let o = stop_laid (settled_of s r) g (sym p ∙ e) in
-        ap₂ remade a (w ∙ ap (λ x. scan_laid r.start x out) o ∙ laid_stop r.start g out) ∙ sym (by_scan o)
+  -- a scan that is not settled
+  pub file_unsettled :
+      (rest : Budget) (out out' : List ℕ) (u : Unsettled)
+      → Err u ≡ scan_settled (settled_of s r)
+      → out' ≡ scan_laid r.start (settled_of s r) out
+      → remade (record { verdict = Err (refusal_of u); budget = rest; length = 0 }) out' ≡ refiled s r rest out
+  unfolding scan_settled
+  file_unsettled rest out out' u e w = go (settled_of s r) refl u e
+    where
+      go :
+          (o : Scanned Bits (Option (List ℕ)))
+          → settled_of s r ≡ o
+          → (u : Unsettled)
+          → Err u ≡ scan_settled o
+          → remade (record { verdict = Err (refusal_of u); budget = rest; length = 0 }) out' ≡ refiled s r rest out
+      go (whole none b) p u e =
+          let same : u ≡ Lacking = cc in
+          ap₂ (λ u o. remade (record { verdict = Err (refusal_of u); budget = rest; length = 0 }) o) same (w ∙ ap (λ x. scan_laid r.start x out) p ∙ laid_none r.start b out)
+          ∙ sym (refiled_is rest out ∙ ap (refiled_by s r rest out) p)
+      go (whole (some t) b) p u e = cc
+      go (broke f) p u e =
+          let same : u ≡ Broke f = cc in
+          ap₂ (λ u o. remade (record { verdict = Err (refusal_of u); budget = rest; length = 0 }) o) same (w ∙ ap (λ x. scan_laid r.start x out) p ∙ laid_stop r.start f out)
+          ∙ sym (refiled_is rest out ∙ ap (refiled_by s r rest out) p)
 
-    pub file_none : v ≡ Lacking → {answer : Settling} → answer ≡ record { verdict = Refused NoEndCode; budget = rest; length = 0 } → remade answer out' ≡ refiled s r rest out
-    file_none p {answer} a =
-        let o = none_laid_of (settled_of s r) (sym p ∙ e) in
-        ap₂ remade a (w ∙ ap (λ x. scan_laid r.start x out) o.1 ∙ laid_none r.start o.0 out) ∙ sym (by_scan o.1)
+  module _ {n : ℕ} (e : Ok n ≡ scan_settled (settled_of s r)) where
+    laid : Laid (settled_of s r) n
+    laid = done_laid (settled_of s r) n e
 
-    module _ {n : ℕ} (p : v ≡ Done n) where
-      laid : Laid (settled_of s r) n
-      laid = done_laid (settled_of s r) n (sym p ∙ e)
+    pub file_within : (r.start ≤ length s) × (r.start + n < 2 ^ 64)
+    file_within = let w = laid_within s r laid.bytes laid.place laid.is in (w.0, omega (arith, w, few, laid.long))
 
-      pub file_within : (r.start ≤ length s) × (r.start + n < 2 ^ 64)
-      file_within = let w = laid_within s r laid.bytes laid.place laid.is in (w.0, omega (arith, w, few, laid.long))
-
-      pub file_done : joined s r.start n rest out' ≡ refiled s r rest out
-      file_done =
-          ap (λ k. joined s r.start k rest out') laid.long ∙ ap (joined s r.start (length laid.bytes) rest) (w ∙ ap (λ x. scan_laid r.start x out) laid.is)
-          ∙ join_is s r.start laid.bytes laid.place rest out file_within.0 ∙ sym (by_scan laid.is)
+    pub file_done : (rest : Budget) (out : List ℕ) → joined s r.start n rest (scan_laid r.start (settled_of s r) out) ≡ refiled s r rest out
+    file_done rest out =
+        ap (λ k. joined s r.start k rest (scan_laid r.start (settled_of s r) out)) laid.long ∙ ap (λ x. joined s r.start (length laid.bytes) rest (scan_laid r.start x out)) laid.is
+        ∙ join_is s r.start laid.bytes laid.place rest out file_within.0 ∙ sym (refiled_is rest out ∙ ap (refiled_by s r rest out) laid.is)

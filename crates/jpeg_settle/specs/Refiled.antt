@@ -1,17 +1,22 @@
 -- A scan that is settled before its head is copied.
-use Rattle.std.specs.Prelude.{cond, List, ◌++◌, ℕ, ◌+◌, ◌^◌, leb, ltb, length, take, drop}
+use Rattle.std.specs.Prelude.{cond, List, Result, Ok, Err, ◌++◌, ℕ, ◌+◌, ◌^◌, leb, ltb, length, take, drop}
 use Rattle.std.proofs.Math.Option.{Option}
 use Rattle.reading.specs.declared.Bits.{Bits}
 use Rattle.reading.specs.declared.Budget.{Budget}
 use Rattle.reading.specs.declared.Record.{Record}
 use Rattle.reading.specs.declared.Refusal.TheVariants.{TooLong, ShortRoom, NoEndCode, Scan}
 use Rattle.reading.specs.declared.Settling.{Settling}
-use Rattle.reading.specs.declared.Verdict.TheVariants.{Accepted}
+use Rattle.jpeg_settle.specs.declared.Unfiled.{Unfiled}
 use Rattle.reading.specs.Scan.{Scanned, whole, broke}
 use Rattle.reading.specs.Settled.{behind}
 use Rattle.reading.specs.Code.Scans.{settled_of, laid_over}
 use Rattle.reading.specs.Judging.{give_or}
 use Rattle.reading.specs.Calls.{Rewritten, unsettled, rewritten}
+
+-- the length of the settled file, or why there is none, as settle answers it with what is left of the budget
+abbrev pub answered : Result ℕ Unfiled → Budget → Settling
+answered (Ok n) rest = record { verdict = Ok tt; budget = rest; length = n }
+answered (Err u) rest = record { verdict = Err u.refusal; budget = rest; length = u.length }
 
 -- an answer and the buffer as it is left
 abbrev pub remade : Settling → List ℕ → Rewritten
@@ -26,7 +31,7 @@ scan_laid start t out = cond (ltb (length out) start) out (take start out ++ lai
 unfoldable pub joined : List ℕ → ℕ → ℕ → Budget → List ℕ → Rewritten
 joined s start n rest out =
     cond (ltb (length out) (start + n)) (unsettled ShortRoom rest (start + n) out)
-    (remade (record { verdict = Accepted; budget = rest; length = start + n }) (take start s ++ drop start out))
+    (remade (record { verdict = Ok tt; budget = rest; length = start + n }) (take start s ++ drop start out))
 
 -- 9 where there is no settled file, then 7
 abbrev pub settled_into : List ℕ → Budget → Option (List ℕ) → Rewritten

@@ -2,13 +2,13 @@
 -- sample at all its places. Assumes nothing.
 use mathlib.Core.Path.{◌≡◌, refl, sym, ◌∙◌, ap, ap₂, subst}
 use mathlib.Core.Bool.{Bool, true, false}
-use mathlib.Core.List.{List, [], ◌∷◌}
+use mathlib.Core.List.{List, [], ◌∷◌, ◌++◌}
 use Prim.Native.Nat.{ℕ, zero, suc, ◌+◌, ◌*◌, ◌/◌, ◌%◌, ◌≤◌, ◌<◌, zero-le}
 use native.Mathlib.Decide.{ℕ_discrete}
 use native.Mathlib.Omega.{arith}
 use borrow.Author.Tests.{ltb-true, ltb-false, lt-ltb, le-ltb}
 use lib.Dec.{ltb}
-use lib.ListN.{get_or, length, set, take, replicate, length-set, length-replicate, get_or-replicate, get_or-map, get_or-eq_default}
+use lib.ListN.{get_or, length, set, take, drop, replicate, length-set, length-replicate, get_or-replicate, get_or-map, get_or-eq_default}
 use lib.Seq.{get_or-set_same, get_or-set_other, ext_get_or, get_or-take}
 use lib.IntN.{ℤ, pos, nat_abs, ◌+ℤ◌, ◌*ℤ◌, +ℤ_idr, zero-*ℤ}
 use Rattle.whole.specs.Ring.{*ℤ_assoc}
@@ -20,6 +20,7 @@ use Rattle.reading.specs.Code.Painted.{samples_to, painted}
 use Rattle.reading.proofs.Zigzag.{zigzag_place_lem, place_zigzag, place_below}
 pub use Rattle.reading.proofs.Zigzag.{zigzag_below}
 use Rattle.reading.proofs.Zigzag as zig
+use Rattle.jpeg_transform.proofs.Stores.{filled}
 use Rattle.reading.proofs.DoubleSum.{sum_of, sum_zero, basis_at, double_sum, double_sum_lem}
 
 -- ---- one level more
@@ -193,3 +194,11 @@ module _ (q : List ℕ) (l : List ℤ) (n : ℕ) (out : List ℕ) where
   pub painted_long : 64 ≤ length out → over (samples (coefficients q (take n l))) out ≡ painted q l n out
   unfolding painted samples_to
   painted_long h = simp (le-ltb (length out) 64 h)
+
+-- a block of which the first level alone counts: z is its coefficient, b the sample
+pub flat_painted : (q : List ℕ) (l : List ℤ) (out : List ℕ) {xs : List ℕ} {z : ℤ} {b : ℕ} → 64 ≤ length out → z ≡ dequantized_at q l 0
+    → b ≡ sample_of (z *ℤ pos 134212225) → xs ≡ replicate 64 b → xs ++ drop 64 out ≡ painted q l 1 out
+flat_painted q l out long e h g =
+    let c = coefficients q (take 1 l) in
+    filled out g (h ∙ ap (λ w. sample_of (w *ℤ pos 134212225)) (e ∙ sym (first_is q l))) ∙ ap (λ xs. over xs out) (flat_samples c (rest_zero q l))
+    ∙ painted_long q l 1 out long

@@ -8,19 +8,19 @@ use native.Mathlib.Omega.{arith}
 use lib.Bits.{bit_or, or_add_and, and_le_l, and_le_r}
 use lib.Dec.{T, leb, leb→le}
 use lib.IntN.{ℤ, pos, nat_abs, ◌+ℤ◌, ◌*ℤ◌, +ℤ_idr, zero-*ℤ}
-use lib.ListN.{length, get_or, drop, replicate}
+use lib.ListN.{length, get_or, drop, replicate, get_or-replicate}
 use mir.Syntax.{w64}
 use mir.Val.{SFits, to_z, of_z}
 use mir.Facts.{and_yes, to_z-of_z}
 use Rattle.whole.specs.Expressions.{Exp, at, value, machine_bits, Within, within_nil, within_cons, safe, all_safe, size, bounded, Fine, fine, exact, fits_abs, dot, coeffs, Pure, weighted}
-use Rattle.whole.specs.Lists.{from, get_d_from}
+use Rattle.whole.specs.Lists.{from, list_of, get_d_from}
 use Rattle.whole.specs.Signs.{zero_bits}
 use Rattle.reading.specs.Tests.{all}
 use Rattle.reading.specs.Transform.{basis}
 use Rattle.reading.proofs.Plain.{and_left, and_right}
 use Rattle.jpeg_transform.specs.declared.Four.{Four}
 use Rattle.jpeg_transform.specs.Halves.{even0, even1, even2, even3, even_of, odds0, odds1, odds2, odds3, odd_by, weighed, odd_of, sums, of_even, of_odd, outputs, halves, joined}
-use Rattle.jpeg_transform.specs.Passes.{lines}
+use Rattle.jpeg_transform.specs.Passes.{spaced, lines}
 
 -- ---- bits of several numbers together
 
@@ -76,7 +76,7 @@ module _ {l : List ℤ} (small : Within (2 ^ 40) l) where
 
 module _ (f : ℕ → ℤ) (small : (i : ℕ) → nat_abs (f i) ≤ 2 ^ 40) where
   -- an input as the machine reads it back
-  abbrev lent : ℕ → ℤ
+  abbrev pub lent : ℕ → ℤ
   lent i = to_z w64 (of_z w64 (f i))
 
   input_fits : (i : ℕ) → SFits w64 (f i)
@@ -111,16 +111,6 @@ module _ (f : ℕ → ℤ) (small : (i : ℕ) → nat_abs (f i) ≤ 2 ^ 40) wher
       zero_bits w64 (input_fits (4 + j)).sfits
       (sym (get_d_from (λ i. of_z w64 (f i)) 4 4 j 0 h) ∙ or_each (of_z w64 (f 4)) (from (λ i. of_z w64 (f i)) 5 3) e j)
 
-  -- two inputs and two zeros, as a half is given them
-  pub upper_small : (i j : ℕ) → Within (2 ^ 40) (lent i ∷ lent j ∷ pos 0 ∷ pos 0 ∷ [])
-  upper_small i j = one i (one j (within_cons (pos 0) (leb→le 0 (2 ^ 40) tt) (within_cons (pos 0) (leb→le 0 (2 ^ 40) tt) within_nil)))
-    where
-      one : (i : ℕ) {l : List ℤ} → Within (2 ^ 40) l → Within (2 ^ 40) (lent i ∷ l)
-      one i h = within_cons (lent i) (rw (lent_is i) (small i)) h
-
-  pub upper_is : (g : ℤ → ℤ → ℤ → ℤ → Four) (i j k m : ℕ) → f k ≡ pos 0 → f m ≡ pos 0 → {r : Four} → r ≡ g (lent i) (lent j) (pos 0) (pos 0) → r ≡ g (f i) (f j) (f k) (f m)
-  upper_is g i j k m p q e = e ∙ rw (lent_is i, lent_is j, p, q) refl
-
 -- ---- a line whose first input alone is not 0
 
 dot_none : (f : ℕ → ℤ) → ((j : ℕ) → j < 7 → f (suc j) ≡ pos 0) → (ks : List ℤ) (i : ℕ) → i + length ks ≤ 7 → dot ks f (suc i) ≡ pos 0
@@ -138,6 +128,53 @@ firsts f h k (r ∷ rs) t =
 pub lines_flat : (f : ℕ → ℤ) → ((j : ℕ) → j < 7 → f (suc j) ≡ pos 0) → lines f ≡ replicate 8 (f 0 *ℤ pos 11585)
 unfolding lines basis
 lines_flat f h = firsts f h (pos 11585) (map (drop 1) basis) tt
+
+-- ---- a line's inputs in a list
+
+pub lines_cong : (f g : ℕ → ℤ) → ((j : ℕ) → j < 8 → f j ≡ g j) → lines f ≡ lines g
+unfolding lines basis
+lines_cong f g h =
+    rw (h 0 (omega arith), h 1 (omega arith), h 2 (omega arith), h 3 (omega arith), h 4 (omega arith), h 5 (omega arith), h 6 (omega arith), h 7 (omega arith))
+    refl
+
+module _ (l : List ℤ) (i s : ℕ) {xs : List ℤ} (are : xs ≡ list_of 8 (spaced l i s)) where
+  pub inputs_small : {B : ℕ} → Within B l → Within B xs
+  unfolding from
+  inputs_small h = rw are
+      (within_cons _ (h.each i) (within_cons _ (h.each _) (within_cons _ (h.each _) (within_cons _ (h.each _)
+      (within_cons _ (h.each _) (within_cons _ (h.each _) (within_cons _ (h.each _) (within_cons _ (h.each _) within_nil))))))))
+
+  pub inputs_lines : lines (at xs) ≡ lines (spaced l i s)
+  inputs_lines = lines_cong (at xs) (spaced l i s) (λ j h. ap (λ ys. at ys j) are ∙ get_d_from (spaced l i s) 0 8 j (pos 0) h ∙ ap (spaced l i s) (zero-add j))
+
+-- a line whose lower inputs are 0: the upper ones as the machine reads them back, and zeros
+module _ (f : ℕ → ℤ) (small : (i : ℕ) → nat_abs (f i) ≤ 2 ^ 40) where
+  abbrev pub upper : List ℤ
+  upper = lent f small 0 ∷ lent f small 1 ∷ lent f small 2 ∷ lent f small 3 ∷ pos 0 ∷ pos 0 ∷ pos 0 ∷ pos 0 ∷ []
+
+  pub upper_small : Within (2 ^ 40) upper
+  upper_small = one 0 (one 1 (one 2 (one 3 (none (none (none (none within_nil)))))))
+    where
+      one : (i : ℕ) {l : List ℤ} → Within (2 ^ 40) l → Within (2 ^ 40) (lent f small i ∷ l)
+      one i h = within_cons (lent f small i) (rw (lent_is f small i) (small i)) h
+
+      none : {l : List ℤ} → Within (2 ^ 40) l → Within (2 ^ 40) (pos 0 ∷ l)
+      none h = within_cons (pos 0) (leb→le 0 (2 ^ 40) tt) h
+
+  pub upper_lines : ((j : ℕ) → j < 4 → f (4 + j) ≡ pos 0) → lines (at upper) ≡ lines f
+  upper_lines h = lines_cong (at upper) f go
+    where
+      go : (j : ℕ) → j < 8 → at upper j ≡ f j
+      go zero p = lent_is f small 0
+      go (suc zero) p = lent_is f small 1
+      go (suc (suc zero)) p = lent_is f small 2
+      go (suc (suc (suc zero))) p = lent_is f small 3
+      go (suc (suc (suc (suc j)))) p = none j (omega arith)
+        where
+          none : (j : ℕ) → j < 4 → at (pos 0 ∷ pos 0 ∷ pos 0 ∷ pos 0 ∷ []) j ≡ f (suc (suc (suc (suc j))))
+          none j p =
+              let place : suc (suc (suc (suc j))) ≡ 4 + j = omega arith in
+              get_or-replicate 4 j (pos 0) (pos 0) p ∙ sym (ap f place ∙ h j p)
 
 -- ---- both halves
 

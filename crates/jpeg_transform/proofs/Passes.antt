@@ -3,7 +3,7 @@
 use mathlib.Core.Path.{◌≡◌, refl, sym, ◌∙◌, ap, ap₂}
 use mathlib.Core.Bool.{Bool, true, false, cond}
 use mathlib.Core.List.{List, []}
-use Prim.Native.Nat.{ℕ, zero, suc, ◌+◌, ◌-◌, ◌*◌, ◌/◌, ◌%◌, ◌≤◌, ◌<◌, zero-le}
+use Prim.Native.Nat.{ℕ, zero, suc, ◌+◌, ◌-◌, ◌*◌, ◌/◌, ◌%◌, ◌^◌, ◌≤◌, ◌<◌, zero-le}
 use native.Mathlib.Decide.{ℕ_discrete}
 use native.Mathlib.Omega.{arith}
 use borrow.Author.Tests.{ltb-true, ltb-false, leb-true, leb-false}
@@ -28,6 +28,14 @@ line_cong f g x h = dot_cong f g (weights x) 0 (λ j p q. h j (omega (arith, wei
 lines_at : (f : ℕ → ℤ) (x : ℕ) → at (lines f) x ≡ line f x
 unfolding lines
 lines_at f x = get_or-map (λ ks. dot ks f 0) basis x []
+
+pub length_lines : (f : ℕ → ℤ) → length (lines f) ≡ 8
+unfolding lines basis
+length_lines f = refl
+
+-- of small inputs
+pub lines_small : (f : ℕ → ℤ) {xs : List ℤ} → ((i : ℕ) → nat_abs (f i) ≤ 2 ^ 40) → xs ≡ lines f → Within (2 ^ 57) xs
+lines_small f small e = record { each = λ i. rw (e, lines_at f i) (line_small f (2 ^ 40) small i) }
 
 pub rows_small : {B : ℕ} {c : List ℤ} → Within B c → Within (B * 131072) (rows_of c)
 unfolding rows_of from

@@ -4,15 +4,15 @@
 // input.
 #![tactic(auto)]
 
-ghost use Rattle.std.specs.Prelude.{◌≡◌, [], ◌∷◌, ◌+◌, ◌≤◌, ◌<◌, ◌^◌, pos, nat_abs, ◌*ℤ◌, length, take, replicate};
+ghost use Rattle.std.specs.Prelude.{◌≡◌, [], ◌∷◌, ◌+◌, ◌*◌, ◌≤◌, ◌<◌, ◌^◌, pos, nat_abs, ◌*ℤ◌, length, take, replicate};
 ghost use Rattle.whole.specs.Expressions.{at, Within};
 ghost use Rattle.whole.specs.Lists.{list_of};
 ghost use Rattle.reading.specs.Tests.{over};
 ghost use Rattle.reading.specs.Colour.{to_byte};
-ghost use Rattle.reading.specs.Transform.{coefficients, sample_of};
+ghost use Rattle.reading.specs.Transform.{coefficients};
 ghost use Rattle.reading.specs.Code.Painted.{painted};
 ghost use Rattle.jpeg_transform.specs.Halves.{even_of, listed, weighed, odd_of, halves, joined};
-ghost use Rattle.jpeg_transform.specs.Passes.{place, puts, rowed, rows_of, in_steps, columned, columns_of};
+ghost use Rattle.jpeg_transform.specs.Passes.{place, spaced, lines, puts, rowed, rows_of, in_steps, columned, columns_of};
 
 use reading::Sample;
 
@@ -85,44 +85,56 @@ fn dequantize(levels: &[i16; 64], quantizer: &[u8], places: usize, block: &mut [
 {
     // A copy for the whole loop: an array constant is built anew wherever it is indexed.
     let order = ZIGZAG;
-    let mut k = 0usize;
-    while k < 64 {
-        if places <= k {
-            return;
-        }
+    for k in 0..places.min(64) {
         let place = order[k] as usize;
-        block[place] = coefficient(levels[k], reading::byte_at(quantizer, k));
-        k += 1;
+        block[place] = coefficient(levels[k], reading::at_or(quantizer, k, 0));
     }
 }
 
-// The eight places from i on all hold v.
-fn spread(block: &mut [i64; 64], i: usize, v: i64)
-    requires { i + 7 < 64 }
-    ensures { block.new ≡ puts block.old (place i 1) (λ u. v) 8 }
-{
-    let mut u = 0usize;
-    while u < 8 {
-        block[i + u] = v;
-        u += 1;
-    }
-}
-
-// A row's outputs from its halves, stored from place i on.
-fn join_row(block: &mut [i64; 64], i: usize, e: Four, o: Four)
-    requires { (i + 7 < 64) × (Within (2 ^ 56) (halves e o)) }
-    ensures { block.new ≡ puts block.old (place i 1) (at (joined e o)) 8 }
+// The eight outputs of a line from its halves.
+fn joined(e: Four, o: Four) -> [i64; 8]
+    requires { Within (2 ^ 56) (halves e o) }
+    ensures { result ≡ joined e o }
 {
     let Four(e0, e1, e2, e3) = e;
     let Four(o0, o1, o2, o3) = o;
-    block[i] = e0 + o0;
-    block[i + 1] = e1 + o1;
-    block[i + 2] = e2 + o2;
-    block[i + 3] = e3 + o3;
-    block[i + 4] = e3 - o3;
-    block[i + 5] = e2 - o2;
-    block[i + 6] = e1 - o1;
-    block[i + 7] = e0 - o0;
+    [
+        e0 + o0,
+        e1 + o1,
+        e2 + o2,
+        e3 + o3,
+        e3 - o3,
+        e2 - o2,
+        e1 - o1,
+        e0 - o0,
+    ]
+}
+
+// The eight outputs of a line.
+fn outputs(c: [i64; 8]) -> [i64; 8]
+    requires { Within (2 ^ 40) c }
+    ensures { result ≡ lines (at c) }
+{
+    let [c0, c1, c2, c3, c4, c5, c6, c7] = c;
+    joined(even(c0, c2, c4, c6), odd(c1, c3, c5, c7))
+}
+
+// The eight inputs of the line that stands s apart from place i on.
+#[tactic(auto, unfolding(whole::specs::Lists::from))]
+fn line(block: &[i64; 64], i: usize, s: usize) -> [i64; 8]
+    requires { (i + 7 * s < 64) × (s ≤ 8) }
+    ensures { result ≡ list_of 8 (spaced block.now i s) }
+{
+    [
+        block[i],
+        block[i + s],
+        block[i + 2 * s],
+        block[i + 3 * s],
+        block[i + 4 * s],
+        block[i + 5 * s],
+        block[i + 6 * s],
+        block[i + 7 * s],
+    ]
 }
 
 // The row that starts at place i, each of its eight inputs replaced by the output at its place.
@@ -130,22 +142,14 @@ fn row(block: &mut [i64; 64], i: usize)
     requires { (Within (2 ^ 40) block.old) × (i + 7 < 64) }
     ensures { block.new ≡ rowed block.old i }
 {
-    let c0 = block[i];
-    let c1 = block[i + 1];
-    let c2 = block[i + 2];
-    let c3 = block[i + 3];
-    let c4 = block[i + 4];
-    let c5 = block[i + 5];
-    let c6 = block[i + 6];
-    let c7 = block[i + 7];
+    let c = line(block, i, 1);
+    let [c0, c1, c2, c3, c4, c5, c6, c7] = c;
     // Where all inputs but the first are 0, as in most rows of most blocks, the eight outputs are one.
     if (c1 | c2 | c3 | c4 | c5 | c6 | c7) == 0 {
-        spread(block, i, c0 * 11585);
-        return;
+        block[i..i + 8].fill(c0 * 11585);
+    } else {
+        block[i..i + 8].copy_from_slice(&outputs(c));
     }
-    let e = even(c0, c2, c4, c6);
-    let o = odd(c1, c3, c5, c7);
-    join_row(block, i, e, o);
 }
 
 // The first pass: the rows of coefficients, each in its place.
@@ -153,28 +157,19 @@ fn rows(block: &mut [i64; 64])
     requires { (length block.old ≡ 64) × (Within (2 ^ 23) block.old) }
     ensures { block.new ≡ rows_of block.old }
 {
-    let mut i = 0usize;
-    while i < 64 {
-        row(block, i);
-        i += 8;
+    for y in 0..8 {
+        row(block, 8 * y);
     }
 }
 
-// A column's outputs from its halves, in steps of a sample, stored eight apart from place x on.
-fn join_column(steps: &mut [i32; 64], x: usize, e: Four, o: Four)
-    requires { (x < 8) × (Within (2 ^ 56) (halves e o)) }
-    ensures { steps.new ≡ puts steps.old (place x 8) (λ y. in_steps (at (joined e o) y)) 8 }
+// Column x's outputs, in steps of a sample.
+fn store(steps: &mut [i32; 64], x: usize, sums: [i64; 8])
+    requires { (x < 8) × (Within (2 ^ 57) sums) }
+    ensures { steps.new ≡ puts steps.old (place x 8) (λ y. in_steps (at sums y)) 8 }
 {
-    let Four(e0, e1, e2, e3) = e;
-    let Four(o0, o1, o2, o3) = o;
-    steps[x] = in_steps(e0 + o0);
-    steps[x + 8] = in_steps(e1 + o1);
-    steps[x + 16] = in_steps(e2 + o2);
-    steps[x + 24] = in_steps(e3 + o3);
-    steps[x + 32] = in_steps(e3 - o3);
-    steps[x + 40] = in_steps(e2 - o2);
-    steps[x + 48] = in_steps(e1 - o1);
-    steps[x + 56] = in_steps(e0 - o0);
+    for (y, sum) in sums.iter().enumerate() {
+        steps[x + 8 * y] = in_steps(*sum);
+    }
 }
 
 // Column x.
@@ -182,24 +177,14 @@ fn column(block: &[i64; 64], x: usize, steps: &mut [i32; 64])
     requires { (Within (2 ^ 40) block.now) × (x < 8) }
     ensures { steps.new ≡ columned block.now x steps.old }
 {
-    let c0 = block[x];
-    let c1 = block[x + 8];
-    let c2 = block[x + 16];
-    let c3 = block[x + 24];
-    let c4 = block[x + 32];
-    let c5 = block[x + 40];
-    let c6 = block[x + 48];
-    let c7 = block[x + 56];
+    let c = line(block, x, 8);
+    let [c0, c1, c2, c3, c4, c5, c6, c7] = c;
     // Where the lower four inputs are 0, as in most blocks, half of the products fall away.
     if (c4 | c5 | c6 | c7) == 0 {
-        let e = even(c0, c2, 0, 0);
-        let o = odd(c1, c3, 0, 0);
-        join_column(steps, x, e, o);
-        return;
+        store(steps, x, outputs([c0, c1, c2, c3, 0, 0, 0, 0]));
+    } else {
+        store(steps, x, outputs(c));
     }
-    let e = even(c0, c2, c4, c6);
-    let o = odd(c1, c3, c5, c7);
-    join_column(steps, x, e, o);
 }
 
 // The second pass: the columns of what the first pass left, in steps of a sample. They are clamped by a loop of their own, which is
@@ -208,10 +193,8 @@ fn columns(block: &[i64; 64], steps: &mut [i32; 64])
     requires { (Within (2 ^ 40) block.now) × (length steps.old ≡ 64) }
     ensures { steps.new ≡ columns_of block.now }
 {
-    let mut x = 0usize;
-    while x < 8 {
+    for x in 0..8 {
         column(block, x, steps);
-        x += 1;
     }
 }
 
@@ -220,28 +203,36 @@ fn clamp(steps: &[i32; 64], out: &mut [u8])
     requires { 64 ≤ length out.old }
     ensures { out.new ≡ over (list_of 64 (λ k. to_byte (at steps.now k))) out.old }
 {
-    let mut k = 0usize;
-    while k < 64 {
-        out[k] = jpeg_color::to_byte(steps[k]);
-        k += 1;
+    for (k, step) in steps.iter().enumerate() {
+        out[k] = jpeg_color::to_byte(*step);
     }
 }
 
-// The samples where the first coefficient alone counts: all 64 are one, as its weight in each double sum is 11585^2.
-fn flat(first: i64, out: &mut [u8])
-    requires { (nat_abs first ≤ 2 ^ 23) × (64 ≤ length out.old) }
-    ensures { out.new ≡ over (list_of 64 (λ k. sample_of (first *ℤ pos 134212225))) out.old }
+// The samples where the first level alone counts: all 64 are one, as its coefficient's weight in each double sum is 11585^2.
+fn flat(levels: &[i16; 64], quantizer: &[u8], out: &mut [u8])
+    requires { 64 ≤ length out.old }
+    ensures { out.new ≡ painted quantizer.now levels.now 1 out.old }
 {
-    let b = jpeg_color::to_byte(in_steps(first * 134212225));
-    let mut k = 0usize;
-    while k < 64 {
-        out[k] = b;
-        k += 1;
-    }
+    let first = coefficient(levels[0], reading::at_or(quantizer, 0, 0));
+    out[..64].fill(jpeg_color::to_byte(in_steps(first * 134212225)));
+}
+
+// The samples by the two passes.
+fn transformed(levels: &[i16; 64], quantizer: &[u8], places: usize, out: &mut [u8])
+    requires { 64 ≤ length out.old }
+    ensures { out.new ≡ painted quantizer.now levels.now places out.old }
+{
+    let mut block = [0i64; 64];
+    dequantize(levels, quantizer, places, &mut block);
+    rows(&mut block);
+    let mut steps = [0i32; 64];
+    columns(&block, &mut steps);
+    clamp(&steps, out);
 }
 
 // The 64 samples of a block of which the first `places` levels, in zigzag order, count and the others are taken as 0. They are
 // written at the start of `out`; where it has fewer than 64 bytes it stays as it was.
+#[tactic(auto, using(crate::proofs::Coefficients::painted_short))]
 pub fn samples(levels: &[i16; 64], quantizer: &[u8], places: usize, out: &mut [u8])
     ensures { out.new ≡ painted quantizer.now levels.now places out.old }
 {
@@ -249,13 +240,8 @@ pub fn samples(levels: &[i16; 64], quantizer: &[u8], places: usize, out: &mut [u
         return;
     }
     if places == 1 {
-        flat(coefficient(levels[0], reading::byte_at(quantizer, 0)), out);
-        return;
+        flat(levels, quantizer, out);
+    } else {
+        transformed(levels, quantizer, places, out);
     }
-    let mut block = [0i64; 64];
-    dequantize(levels, quantizer, places, &mut block);
-    rows(&mut block);
-    let mut steps = [0i32; 64];
-    columns(&block, &mut steps);
-    clamp(&steps, out);
 }

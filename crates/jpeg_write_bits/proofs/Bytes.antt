@@ -1,34 +1,30 @@
 -- Bits put into bytes: as many at once as a byte still wants, and what a byte then is.
-use Prim.Native.Nat.{ℕ, zero, suc, ◌+◌, ◌*◌, ◌-◌, ◌/◌, ◌%◌, ◌^◌, ◌<◌, ◌≤◌}
+use Prim.Native.Nat.{ℕ, zero, suc, ◌+◌, ◌*◌, ◌-◌, ◌/◌, ◌%◌, ◌^◌, ◌<◌, ◌≤◌, min}
 use mathlib.Core.Path.{◌≡◌, refl, sym, ap, ap₂, ◌∙◌}
-use mathlib.Core.Bool.{Bool, true, false}
+use mathlib.Core.Bool.{Bool, true, false, cond}
 use mathlib.Core.List.{List, [], ◌∷◌, ◌++◌}
 use native.Mathlib.Omega.{arith}
 use native.Mathlib.Nat.{not-suc-le-zero, add-zero, add-suc, mod-lt}
-use lib.Dec.{eqb}
+use lib.Dec.{eqb, ltb}
 use lib.Pow.{pow_pos, pow_mono, shr-shr}
-use lib.ListN.{length, set}
-use lib.Seq.{set_out}
-use borrow.Author.Tests.{eq-eqb, ne_eqb, lt-ltb, le-ltb}
+use lib.ListN.{set}
+use borrow.Author.Tests.{eq-eqb, ne_eqb, ltb-true, ltb-false}
 use Rattle.reading.specs.Huffman.{bits_of}
 use Rattle.whole.specs.Powers.{one_more, grown_by}
 use Rattle.jpeg_write_bits.specs.declared.Pen.{Pen}
-use Rattle.jpeg_write_bits.specs.Page.{Spot, spot, byte_at, stuffed_at, Page, page, paged, spot_of, put_next, put_from, put_all}
+use Rattle.jpeg_write_bits.specs.Page.{Spot, spot, byte_at, stuffed_at, Page, page, fresh, paged, spot_of, put_next, put_from, put_all}
 
 -- ---- a byte
 
-module _ (out : List ℕ) (at x : ℕ) where
-  pub byte_in : at < length out → length out < 18446744073709551616 → spot (set out at x) (at + 1) ≡ byte_at (spot out at) x
-  unfolding byte_at
-  byte_in h l = rw (lt-ltb at 18446744073709551615 (omega arith))
-
-  pub byte_past : length out ≤ at → at < 18446744073709551615 → spot out (at + 1) ≡ byte_at (spot out at) x
-  unfolding byte_at
-  byte_past h l = rw (lt-ltb at 18446744073709551615 l, set_out out at x h)
-
-  pub byte_last : length out ≤ at → 18446744073709551615 ≤ at → spot out at ≡ byte_at (spot out at) x
-  unfolding byte_at
-  byte_last h l = rw (le-ltb at 18446744073709551615 l, set_out out at x h)
+-- stored where there is room, and counted up to the last place
+pub byte_is : (out : List ℕ) (at x : ℕ) {stored : List ℕ} {next : ℕ} → at < 18446744073709551616 → stored ≡ set out at x → next ≡ min (at + 1) 18446744073709551615
+    → spot stored next ≡ byte_at (spot out at) x
+unfolding byte_at
+byte_is out at x h e f = rw (e, f) (ap (spot (set out at x)) (go (ltb at 18446744073709551615) refl))
+  where
+    go : (b : Bool) → ltb at 18446744073709551615 ≡ b → min (at + 1) 18446744073709551615 ≡ cond b (at + 1) at
+    go true e = omega (arith, ltb-true at 18446744073709551615 e)
+    go false e = omega (arith, ltb-false at 18446744073709551615 e)
 
 pub stuffed_full : (s : Spot) (x : ℕ) → x ≡ 255 → stuffed_at s x ≡ byte_at (byte_at s x) 0
 unfolding stuffed_at
@@ -121,13 +117,16 @@ module _ {v m : ℕ} (b : Begun v m) (k : ℕ) (h : k ≤ m) {q : ℕ} (e : q �
 
 -- ---- the loop over the bytes of x
 
-module _ {t : Page} (k x : ℕ) (s : Spot) (v m : ℕ) (same : t ≡ put_from (bits_of k x) s v m) where
-  pub put_more : {q r : ℕ} {s' : Spot} → 0 < m → m ≤ k → q ≡ 2 ^ m → r ≡ 2 ^ (k - m) → s' ≡ stuffed_at s (v * q + x / r % q) → t ≡ put_from (bits_of (k - m) x) s' 0 8
-  put_more h l e f g = same ∙ from_byte m k x s v h l ∙ rw (g, e, f)
+-- behind a pen k bits of x are still to come
+module _ {t : Page} (k x : ℕ) (out : List ℕ) (p : Pen) (same : t ≡ put_all (page out p) (bits_of k x)) where
+  -- as many as its byte wants
+  pub put_more : {q r : ℕ} {next : List ℕ} {at : ℕ} {pen : Pen} → 0 < p.missing → p.missing ≤ k → q ≡ 2 ^ p.missing → r ≡ 2 ^ (k - p.missing)
+      → spot next at ≡ stuffed_at (spot out p.at) (p.value * q + x / r % q) → pen ≡ fresh at → t ≡ put_all (page next pen) (bits_of (k - p.missing) x)
+  unfolding put_all
+  put_more {next = next} {at} h l e f g i =
+      rw i (same ∙ from_byte p.missing k x (spot out p.at) p.value h l ∙ ap (λ (s : Spot). put_from (bits_of (k - p.missing) x) s 0 8) (rw (← e, ← f) (sym g)))
 
-  pub put_last : {q : ℕ} → k < m → q ≡ 2 ^ k → paged s (v * q + x % q) (m - k) ≡ t
-  put_last l e = rw e (sym (same ∙ from_part k x s v m l))
-
-pub put_all_lem : (out : List ℕ) (p : Pen) (bs : List ℕ) {q : Page} → q ≡ put_from bs (spot out p.at) p.value p.missing → q ≡ put_all (page out p) bs
-unfolding put_all
-put_all_lem out p bs e = e
+  -- the last of them
+  pub put_last : {q : ℕ} → k < p.missing → q ≡ 2 ^ k → page out (record { at = p.at; value = p.value * q + x % q; missing = p.missing - k }) ≡ t
+  unfolding put_all
+  put_last l e = rw e (sym (same ∙ from_part k x (spot out p.at) p.value p.missing l))

@@ -1,13 +1,13 @@
 -- A proper pen has begun a byte, and stays proper: whatever bits of a number are put, and behind a restart.
-use Prim.Native.Nat.{ℕ, zero, suc, ◌+◌, ◌*◌, ◌-◌, ◌/◌, ◌%◌, ◌^◌, ◌<◌, ◌≤◌}
+use Prim.Native.Nat.{ℕ, zero, suc, ◌+◌, ◌*◌, ◌-◌, ◌/◌, ◌%◌, ◌^◌, ◌<◌}
 use mathlib.Core.Path.{◌≡◌, refl, sym}
 use mathlib.Core.Bool.{Bool, true, false, true≢false}
 use native.Mathlib.Omega.{arith}
 use native.Mathlib.Nat.{mod-lt}
 use lib.Dec.{eqb, ltb, leb, lit<}
-use borrow.Author.Tests.{ltb-true, leb-true, eqb-false, lt-ltb, le-leb, lt-leb}
+use borrow.Author.Tests.{ltb-true, leb-true, eqb-false, lt-ltb, le-leb}
 use Rattle.reading.specs.Huffman.{bits_of}
-use Rattle.reading.specs.Tests.{◌and◌}
+use Rattle.reading.specs.Tests.{◌and◌, within}
 use Rattle.whole.specs.Powers.{grown}
 use Rattle.jpeg_write_bits.specs.declared.Pen.{Pen}
 use Rattle.jpeg_write_bits.specs.Page.{Spot, stuffed_at, Page, fresh, spot_of, put_next, put_from, put_all, proper, Proper}
@@ -16,18 +16,13 @@ use Rattle.jpeg_write_bits.proofs.Bytes.{Begun, begun_none}
 -- ---- the test
 
 module _ (p : Pen) where
-  pub none_missing : p.missing ≡ 0 → false ≡ proper p
+  pub byte_wants : within 1 8 p.missing ≡ false → false ≡ proper p
   unfolding proper
-  none_missing e = rw (lt-leb 1 p.missing (omega arith))
+  byte_wants h = rw h
 
-  module _ (a : p.missing ≡ 0 → ⊥) where
-    pub many_missing : 8 < p.missing → false ≡ proper p
-    unfolding proper
-    many_missing h = rw (le-leb 1 p.missing (omega arith), lt-leb p.missing 8 h)
-
-    pub by_value : {q : ℕ} → p.missing ≤ 8 → q ≡ 2 ^ (8 - p.missing) → ltb p.value q ≡ proper p
-    unfolding proper
-    by_value h e = rw (le-leb 1 p.missing (omega arith), le-leb p.missing 8 h, e)
+  pub by_value : {q : ℕ} → within 1 8 p.missing ≡ true → q ≡ 2 ^ (8 - p.missing) → ltb p.value q ≡ proper p
+  unfolding proper
+  by_value h e = rw (h, e)
 
 pub proper_begun : (p : Pen) → Proper p → Begun p.value p.missing
 unfolding proper
@@ -42,6 +37,9 @@ proper_begun p h = go (leb 1 p.missing) refl (leb p.missing 8) refl (ltb p.value
 pub begun_proper : (p : Pen) → Begun p.value p.missing → Proper p
 unfolding proper
 begun_proper p b = rw (le-leb 1 p.missing b.some, le-leb p.missing 8 b.few, lt-ltb p.value (2 ^ (8 - p.missing)) b.low)
+
+pub begun_fresh : {p : Pen} {at : ℕ} → p ≡ fresh at → Begun p.value p.missing
+begun_fresh e = rw e begun_none
 
 pub fresh_proper : (at : ℕ) → Proper (fresh at)
 fresh_proper at = begun_proper (fresh at) begun_none

@@ -1,12 +1,10 @@
 -- Bits put into bytes, forwards: a page is a lent list of bytes and a pen.
-use Rattle.std.specs.Prelude.{ℕ, ◌+◌, ◌*◌, ◌-◌, ◌^◌, ◌≡◌, Bool, true, false, cond, List, [], ◌∷◌, eqb, ltb, leb, set}
+use Rattle.std.specs.Prelude.{ℕ, ◌+◌, ◌*◌, ◌-◌, ◌^◌, ◌≡◌, Bool, true, false, cond, List, [], ◌∷◌, eqb, ltb, leb, set, Option, Some, None}
 use Rattle.std.proofs.Math.Option.{none, some}
 use Rattle.reading.specs.Settled.{Written, pack_from}
 use Rattle.reading.specs.Tests.{◌and◌, within}
 use Rattle.jpeg_write_codes.specs.Words.{word_code}
 use Rattle.jpeg_write_bits.specs.declared.Pen.{Pen}
-use Rattle.jpeg_write_bits.specs.declared.Outcome.{Outcome}
-use Rattle.jpeg_write_bits.specs.declared.Outcome.TheVariants.{Done, Uncoded}
 
 -- the bytes, and where the next one goes
 pub record Spot : Type 0 where
@@ -92,13 +90,13 @@ symbol_bits p word field size = cond (proper p and leb size 12) (word_code word 
 
 -- what a writer answers, and the bytes as it leaves them
 pub record Stroke : Type 0 where
-  pub ink : Outcome
+  pub ink : Option Pen
   pub out : List ℕ
 
-abbrev pub stroke : Outcome → List ℕ → Stroke
+abbrev pub stroke : Option Pen → List ℕ → Stroke
 stroke r out = record { ink = r; out = out }
 
 -- bits put to a page; for want of a code it stays as it was
 unfoldable pub stroke_of : Written → Page → Stroke
-stroke_of none q = stroke Uncoded q.out
-stroke_of (some bs) q = stroke (Done (put_all q bs).pen) (put_all q bs).out
+stroke_of none q = stroke None q.out
+stroke_of (some bs) q = stroke (Some (put_all q bs).pen) (put_all q bs).out

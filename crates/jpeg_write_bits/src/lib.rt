@@ -7,6 +7,8 @@ ghost use Rattle.std.specs.Prelude.{◌≡◌, [], ◌∷◌, ◌≤◌, ◌^◌
 ghost use Rattle.reading.specs.Huffman.{bits_of};
 ghost use Rattle.jpeg_write_bits.specs.Page.{spot, byte_at, stuffed_at, bytes_at, page, fresh, put_all, closed_at, proper, Proper, restarted, end_at, symbol_bits, stroke, stroke_of};
 
+use reading::within;
+
 // Where the next byte goes, the value of the bits that wait for it, and how many bits it still wants, 1 to 8.
 #[derive(Clone, Copy)]
 pub struct Pen {
@@ -21,18 +23,11 @@ impl Pen {
         ensures { result ≡ fresh at }
     {
         Self {
-            at: at,
+            at,
             value: 0,
             missing: 8,
         }
     }
-}
-
-// The pen behind what was written; or a code was wanting.
-#[derive(Clone, Copy)]
-pub enum Outcome {
-    Done(Pen),
-    Uncoded,
 }
 
 // A byte, stored where there is room, and counted in any case.
@@ -41,12 +36,8 @@ fn put_byte(out: &mut [u8], at: usize, x: u8) -> usize
 {
     if at < out.len() {
         out[at] = x;
-        return at + 1;
     }
-    if at < 18446744073709551615 {
-        return at + 1;
-    }
-    at
+    at.saturating_add(1)
 }
 
 // A data byte: 0 follows 255.
@@ -73,14 +64,7 @@ fn power(n: usize) -> usize
 fn proper(p: Pen) -> bool
     ensures { result ≡ proper p }
 {
-    let missing = p.missing;
-    if missing == 0 {
-        return false;
-    }
-    if 8 < missing {
-        return false;
-    }
-    p.value < power(8 - missing)
+    within(1, 8, p.missing) && p.value < power(8 - p.missing)
 }
 
 // The low n bits of x, highest first. Each turn fills a byte: there are at most four.
@@ -88,23 +72,19 @@ fn put(out: &mut [u8], p: Pen, x: usize, n: usize) -> Pen
     requires { Proper p × (n ≤ 32) }
     ensures { page out.new result ≡ put_all (page out.old p) (bits_of n x) }
 {
-    let mut at = p.at;
-    let mut value = p.value;
-    let mut missing = p.missing;
+    let mut pen = p;
     let mut left = n;
-    while missing <= left {
-        left = left - missing;
-        let full = power(missing);
-        let byte = value * full + (x / power(left)) % full;
-        at = put_data(out, at, byte as u8);
-        value = 0;
-        missing = 8;
+    while pen.missing <= left {
+        left -= pen.missing;
+        let full = power(pen.missing);
+        let byte = pen.value * full + (x / power(left)) % full;
+        pen = Pen::fresh(put_data(out, pen.at, byte as u8));
     }
     let full = power(left);
     Pen {
-        at: at,
-        value: value * full + x % full,
-        missing: missing - left,
+        value: pen.value * full + x % full,
+        missing: pen.missing - left,
+        ..pen
     }
 }
 
@@ -113,16 +93,16 @@ fn finish(out: &mut [u8], p: Pen) -> usize
     requires { Proper p }
     ensures { spot out.new result ≡ closed_at (page out.old p) }
 {
-    let missing = p.missing;
-    if missing == 8 {
+    if p.missing == 8 {
         return p.at;
     }
-    let full = power(missing);
+    let full = power(p.missing);
     let byte = p.value * full + (full - 1);
     put_data(out, p.at, byte as u8)
 }
 
 // 255 and a code.
+#[tactic(auto, using(crate::proofs::Closings::two_bytes))]
 fn put_marker(out: &mut [u8], at: usize, code: u8) -> usize
     ensures { spot out.new result ≡ bytes_at (spot out.old at) (255 ∷ code ∷ []) }
 {
@@ -138,8 +118,7 @@ pub fn restart(out: &mut [u8], p: Pen, code: u8) -> Pen
         return p;
     }
     let at = finish(out, p);
-    let next = put_marker(out, at, code);
-    Pen::fresh(next)
+    Pen::fresh(put_marker(out, at, code))
 }
 
 // Padding and the last marker: the place behind it. A pen that is not proper writes nothing and stays where it is.
@@ -153,25 +132,16 @@ pub fn put_end(out: &mut [u8], p: Pen) -> usize
     put_marker(out, at, 217)
 }
 
-// The code of a word, and the low `size` bits of a field behind it. Where the word means no code, `size` is above 12 or the pen is
-// not proper, nothing is written.
-pub fn put_symbol(out: &mut [u8], p: Pen, word: usize, field: usize, size: usize) -> Outcome
+// The code of a word, and the low `size` bits of a field behind it: the pen behind them. Where the word means no code, `size` is above
+// 12 or the pen is not proper, nothing is written and there is none.
+pub fn put_symbol(out: &mut [u8], p: Pen, word: usize, field: usize, size: usize) -> Option<Pen>
     ensures { stroke result out.new ≡ stroke_of (symbol_bits p word field size) (page out.old p) }
 {
-    if !proper(p) {
-        return Outcome::Uncoded;
-    }
-    if 12 < size {
-        return Outcome::Uncoded;
-    }
     let bits = word / 65536;
-    if bits == 0 {
-        return Outcome::Uncoded;
+    if proper(p) && size <= 12 && within(1, 16, bits) {
+        let full = power(size);
+        let x = (word % 65536) * full + field % full;
+        return Some(put(out, p, x, bits + size));
     }
-    if 16 < bits {
-        return Outcome::Uncoded;
-    }
-    let full = power(size);
-    let x = (word % 65536) * full + field % full;
-    Outcome::Done(put(out, p, x, bits + size))
+    None
 }

@@ -11,9 +11,10 @@ use native.Mathlib.Nat.{not-suc-le-zero, pow-suc, mod-lt, zero-add, add-zero, su
 use lib.Dec.{eqb, ltb}
 use lib.Pow.{pow_mono, pow_pos}
 use lib.ListN.{length, get_or, take, drop, set, replicate, length-set, length-replicate, get_or-replicate, drop_of_length-le, get_or-eq_default}
-use lib.Seq.{drop-cons, take-nil, set_out, get_or-set_same, get_or-set_other, ext_get_or}
+use lib.Seq.{drop-cons, take-nil, set_out, get_or-set_same, get_or-set_other}
 use borrow.Author.Tests.{eq-eqb, ne_eqb, lt-ltb, le-ltb, ltb-true, ltb-false, eqb-true, eqb-false}
-use Rattle.whole.specs.Lists.{stored, is_list_of}
+use Rattle.std.proofs.lemmas.List.{nil_from_length}
+use Rattle.whole.specs.Lists.{is_list_of}
 use Rattle.reading.specs.Huffman.{Table, bits_of, sum, table_at, code_at, code_at_place, code_of}
 use Rattle.reading.specs.Settled.{Written}
 use Rattle.reading.specs.Tests.{place_of, place_from}
@@ -22,17 +23,6 @@ use Rattle.jpeg_write_codes.specs.Words.{word_of, code_words, kept}
 use Rattle.jpeg_write_codes.proofs.Digits.{number_bits}
 
 -- ---- no symbol has a word yet
-
-pub clear_more : (l : List ℕ) (i : ℕ) → i < length l → ((j : ℕ) → j < i → get_or l j 0 ≡ 0) → (j : ℕ) → j < i + 1 → get_or (set l i 0) j 0 ≡ 0
-clear_more l i h old = stored (λ j. j < i) (λ j. j < i + 1) (λ j x. x ≡ 0) l i 0 0 h (λ j q n. less j q n) old refl
-  where
-    less : (j : ℕ) → j < i + 1 → (j ≡ i → ⊥) → j < i
-    less j q n = omega arith
-
-pub cleared : (l : List ℕ) (n : ℕ) → length l ≡ n → ((j : ℕ) → j < n → get_or l j 0 ≡ 0) → l ≡ replicate n 0
-cleared l n e all =
-    ext_get_or 0 l (replicate n 0) (e ∙ sym (length-replicate n 0))
-    (λ j h. all j (subst (λ k. j < k) e h) ∙ sym (get_or-replicate n j 0 0 (subst (λ k. j < k) e h)))
 
 -- a list of zeros says how many it has
 pub cleared_length : (l : List ℕ) (n : ℕ) → l ≡ replicate n 0 → length l ≡ n
@@ -214,61 +204,66 @@ part_past k at s l = rw (drop_of_length-le s l) (take-nil k)
 unfoldable pub counts_from : List ℕ → ℕ → ℕ → List ℕ
 counts_from t base len = take (16 - len) (drop (base + len) t)
 
--- a symbol's word by what is to come: `left` more codes of `len` bits, the next of them `code`, its symbol at `at`
-unfoldable pub rest : List ℕ → ℕ → ℕ → ℕ → ℕ → ℕ → ℕ → ℕ
-rest t base at len left code x =
-    later left (counts_from t base len) len code (take (left + sum (counts_from t base len)) (drop at t)) x
+-- a symbol's word by what is to come: `left` more codes of `len` bits, the next of them `code`, for the symbols ys in turn
+unfoldable pub rest : List ℕ → ℕ → List ℕ → ℕ → ℕ → ℕ → ℕ → ℕ
+rest t base ys len left code x =
+    later left (counts_from t base len) len code (take (left + sum (counts_from t base len)) ys) x
 
 -- the words so far, and what is to come, give each symbol below n its word
-pub record Filling (t : List ℕ) (base n : ℕ) (words : List ℕ) (at len left code : ℕ) : Type 0 where
+pub record Filling (t : List ℕ) (base n : ℕ) (words ys : List ℕ) (len left code : ℕ) : Type 0 where
   pub few : len ≤ 16
   pub some_bits : 0 < left → 0 < len
   pub low : code + left + 256 ≤ 256 * 2 ^ len
   pub long : length words ≡ n
-  pub each : (x : ℕ) → x < n → word_of (code_of (table_at t base) x) ≡ either (get_or words x 0) (rest t base at len left code x)
+  pub each : (x : ℕ) → x < n → word_of (code_of (table_at t base) x) ≡ either (get_or words x 0) (rest t base ys len left code x)
 
 module _ (t : List ℕ) (base n : ℕ) (words : List ℕ) where
-  pub filling_start : length words ≡ n → words ≡ replicate n 0 → Filling t base n words (base + 16) 0 0 0
+  pub filling_start : length words ≡ n → words ≡ replicate n 0 → Filling t base n words (drop (base + 16) t) 0 0 0
   unfolding either rest counts_from
   filling_start l e = record { few = omega arith; some_bits = λ h. absurd (not-suc-le-zero h); low = omega arith; long = l; each = each }
     where
-      each : (x : ℕ) → x < n → word_of (code_of (table_at t base) x) ≡ either (get_or words x 0) (rest t base (base + 16) 0 0 0 x)
+      each : (x : ℕ) → x < n → word_of (code_of (table_at t base) x) ≡ either (get_or words x 0) (rest t base (drop (base + 16) t) 0 0 0 x)
       each x h =
           later_all (table_at t base) x
           ∙ ap (λ (k : ℕ). later 0 (take 16 (drop base t)) 0 0 (take k (drop (base + 16) t)) x) (sym (zero-add (sum (take 16 (drop base t)))))
           ∙ ap (λ (b : ℕ). later 0 (take 16 (drop b t)) 0 0 (take (0 + sum (take 16 (drop b t))) (drop (base + 16) t)) x) (sym (add-zero base))
-          ∙ ap (λ (w : ℕ). either w (rest t base (base + 16) 0 0 0 x)) (sym (ap (λ (l : List ℕ). get_or l x 0) e ∙ get_or-replicate n x 0 0 h))
+          ∙ ap (λ (w : ℕ). either w (rest t base (drop (base + 16) t) 0 0 0 x)) (sym (ap (λ (l : List ℕ). get_or l x 0) e ∙ get_or-replicate n x 0 0 h))
+
+  pub filling_same : (ys : List ℕ) (len left code len' left' : ℕ) → Filling t base n words ys len left code → len ≡ len' → left ≡ left' → Filling t base n words ys len' left' code
+  filling_same ys len left code len' left' f e g =
+      subst (λ (j : ℕ). Filling t base n words ys len' j code) g (subst (λ (i : ℕ). Filling t base n words ys i left code) e f)
 
   -- with nothing to come the words are those of the table
-  filling_done : (at len left code : ℕ) → Filling t base n words at len left code → ((x : ℕ) → rest t base at len left code x ≡ 0) → words ≡ code_words (table_at t base) n
+  filling_done : (ys : List ℕ) (len left code : ℕ) → Filling t base n words ys len left code → ((x : ℕ) → rest t base ys len left code x ≡ 0) → words ≡ code_words (table_at t base) n
   unfolding code_words
-  filling_done at len left code f e =
+  filling_done ys len left code f e =
       is_list_of 0 words n (λ x. word_of (code_of (table_at t base) x)) f.long
       (λ x h. sym (f.each x h ∙ ap (either (get_or words x 0)) (e x) ∙ either_none (get_or words x 0)))
 
-  pub filling_end : (at len left code : ℕ) → Filling t base n words at len left code → left ≡ 0 → len ≡ 16 → words ≡ code_words (table_at t base) n
+  pub filling_end : (ys : List ℕ) (len code : ℕ) → Filling t base n words ys len 0 code → len ≡ 16 → words ≡ code_words (table_at t base) n
   unfolding rest counts_from
-  filling_end at len left code f e g =
-      filling_done at len left code f
-      (λ x. ap₂ (λ (i j : ℕ). later i (take (16 - j) (drop (base + j) t)) j code (take (i + sum (take (16 - j) (drop (base + j) t))) (drop at t)) x) e g ∙ later_none 0 [] 16 code x)
+  filling_end ys len code f e =
+      filling_done ys len 0 code f
+      (λ x. ap (λ (j : ℕ). later 0 (take (16 - j) (drop (base + j) t)) j code (take (0 + sum (take (16 - j) (drop (base + j) t))) ys) x) e ∙ later_none 0 [] 16 code x)
 
-  pub filling_past : (at len left code : ℕ) → Filling t base n words at len left code → length t ≤ at → words ≡ code_words (table_at t base) n
+  -- no symbol is left
+  pub filling_past : (ys : List ℕ) (len left code : ℕ) → Filling t base n words ys len left code → length ys ≡ 0 → words ≡ code_words (table_at t base) n
   unfolding rest
-  filling_past at len left code f h =
-      filling_done at len left code f
-      (λ x. ap (λ (ys : List ℕ). later left (counts_from t base len) len code ys x) (part_past (left + sum (counts_from t base len)) at t h) ∙ later_none left (counts_from t base len) len code x)
+  filling_past ys len left code f e =
+      filling_done ys len left code f
+      (λ x. ap (λ (zs : List ℕ). later left (counts_from t base len) len code zs x) (ap (take (left + sum (counts_from t base len))) (nil_from_length ys e) ∙ take-nil (left + sum (counts_from t base len))) ∙ later_none left (counts_from t base len) len code x)
 
   -- the next length
-  pub filling_length : (at len left code : ℕ) → Filling t base n words at len left code → left ≡ 0 → len < 16 → base + 16 ≤ length t → get_or t (base + len) 0 < 256
-      → Filling t base n words at (len + 1) (get_or t (base + len) 0) (2 * code)
+  pub filling_length : (ys : List ℕ) (len code len' count : ℕ) → Filling t base n words ys len 0 code → len' ≡ len + 1 → len' ≤ 16 → base + 16 ≤ length t → count ≡ get_or t (base + len) 0 → count < 256
+      → Filling t base n words ys len' count (2 * code)
   unfolding rest counts_from
-  filling_length at len left code f e g l b =
+  filling_length ys len code len' count f e l h g b =
       record {
-        few = omega arith;
-        some_bits = λ h. omega arith;
-        low = rw (add-one len) (omega (arith, f.low, pow-suc 2 len));
+        few = l;
+        some_bits = λ k. omega arith;
+        low = rw (e ∙ add-one len) (omega (arith, f.low, pow-suc 2 len));
         long = f.long;
-        each = λ x h. f.each x h ∙ ap (either (get_or words x 0)) (step x);
+        each = λ x k. f.each x k ∙ ap (either (get_or words x 0)) (step x ∙ sym (ap₂ (λ (i j : ℕ). rest t base ys i j (2 * code) x) e g));
       }
     where
       cut : take (16 - len) (drop (base + len) t) ≡ get_or t (base + len) 0 ∷ take (16 - (len + 1)) (drop (base + (len + 1)) t)
@@ -282,47 +277,42 @@ module _ (t : List ℕ) (base n : ℕ) (words : List ℕ) where
           more : base + len + 1 ≡ base + (len + 1)
           more = omega arith
 
-      step : (x : ℕ) → rest t base at len left code x ≡ rest t base at (len + 1) (get_or t (base + len) 0) (2 * code) x
+      step : (x : ℕ) → rest t base ys len 0 code x ≡ rest t base ys (len + 1) (get_or t (base + len) 0) (2 * code) x
       step x =
-          ap₂ (λ (i : ℕ) (cs : List ℕ). later i cs len code (take (i + sum cs) (drop at t)) x) e cut
-          ∙ ap (λ (k : ℕ). later 0 (get_or t (base + len) 0 ∷ counts_from t base (len + 1)) len code (take k (drop at t)) x) (zero-add (get_or t (base + len) 0 + sum (counts_from t base (len + 1))))
-          ∙ later_length (get_or t (base + len) 0) (counts_from t base (len + 1)) len code (take (get_or t (base + len) 0 + sum (counts_from t base (len + 1))) (drop at t)) x
-          ∙ ap (λ (k : ℕ). later (get_or t (base + len) 0) (counts_from t base (len + 1)) k (2 * code) (take (get_or t (base + len) 0 + sum (counts_from t base (len + 1))) (drop at t)) x) (sym (add-one len))
+          ap (λ (cs : List ℕ). later 0 cs len code (take (0 + sum cs) ys) x) cut
+          ∙ ap (λ (k : ℕ). later 0 (get_or t (base + len) 0 ∷ counts_from t base (len + 1)) len code (take k ys) x) (zero-add (get_or t (base + len) 0 + sum (counts_from t base (len + 1))))
+          ∙ later_length (get_or t (base + len) 0) (counts_from t base (len + 1)) len code (take (get_or t (base + len) 0 + sum (counts_from t base (len + 1))) ys) x
+          ∙ ap (λ (k : ℕ). later (get_or t (base + len) 0) (counts_from t base (len + 1)) k (2 * code) (take (get_or t (base + len) 0 + sum (counts_from t base (len + 1))) ys) x) (sym (add-one len))
 
   -- one symbol more
-  pub filling_symbol : (at len left code : ℕ) {w : ℕ} → Filling t base n words at len left code → (left ≡ 0 → ⊥) → at < length t → w ≡ code_word len code
-      → Filling t base n (kept words (get_or t at 0) w) (at + 1) len (left - 1) (code + 1)
+  pub filling_symbol : (y : ℕ) (ys zs ws : List ℕ) (len left left' code w : ℕ) → Filling t base n words ys len left code → ys ≡ y ∷ zs → left ≡ suc left' → w ≡ code_word len code → ws ≡ kept words y w
+      → Filling t base n ws zs len left' (code + 1)
   unfolding rest
-  filling_symbol at len left code {w} f e h g =
+  filling_symbol y ys zs ws len left left' code w f e h g k =
       record {
         few = f.few;
-        some_bits = λ h. f.some_bits (omega arith);
-        low = omega (arith, e, f.low);
-        long = kept_length words (get_or t at 0) w ∙ f.long;
-        each = λ x l. f.each x l ∙ step x l;
+        some_bits = λ _. f.some_bits (omega arith);
+        low = omega (arith, f.low);
+        long = ap length k ∙ kept_length words y w ∙ f.long;
+        each = λ x l. f.each x l ∙ step x l ∙ sym (ap (λ (l : List ℕ). either (get_or l x 0) (rest t base zs len left' (code + 1) x)) k);
       }
     where
-      more : left ≡ suc (left - 1)
-      more = omega (arith, e)
-
-      cut : take (left + sum (counts_from t base len)) (drop at t) ≡ get_or t at 0 ∷ take (left - 1 + sum (counts_from t base len)) (drop (at + 1) t)
-      cut =
-          part_cons (left + sum (counts_from t base len)) at t (omega arith) h
-          ∙ ap (λ (k : ℕ). get_or t at 0 ∷ take k (drop (at + 1) t)) less
+      cut : take (left + sum (counts_from t base len)) ys ≡ y ∷ take (left' + sum (counts_from t base len)) zs
+      cut = ap₂ (λ (i : ℕ) (l : List ℕ). take i l) up e
         where
-          less : left + sum (counts_from t base len) - 1 ≡ left - 1 + sum (counts_from t base len)
-          less = omega (arith, e)
+          up : left + sum (counts_from t base len) ≡ suc (left' + sum (counts_from t base len))
+          up = omega arith
 
-      now : (x : ℕ) → rest t base at len left code x ≡ later (suc (left - 1)) (counts_from t base len) len code (get_or t at 0 ∷ take (left - 1 + sum (counts_from t base len)) (drop (at + 1) t)) x
-      now x = ap₂ (λ (i : ℕ) (ys : List ℕ). later i (counts_from t base len) len code ys x) more cut
+      now : (x : ℕ) → rest t base ys len left code x ≡ later (suc left') (counts_from t base len) len code (y ∷ take (left' + sum (counts_from t base len)) zs) x
+      now x = ap₂ (λ (i : ℕ) (l : List ℕ). later i (counts_from t base len) len code l x) h cut
 
-      step : (x : ℕ) → x < n → either (get_or words x 0) (rest t base at len left code x) ≡ either (get_or (kept words (get_or t at 0) w) x 0) (rest t base (at + 1) len (left - 1) (code + 1) x)
+      step : (x : ℕ) → x < n → either (get_or words x 0) (rest t base ys len left code x) ≡ either (get_or (kept words y w) x 0) (rest t base zs len left' (code + 1) x)
       step x l =
-          kept_step words (get_or t at 0) w x (rest t base at len left code x) (rest t base (at + 1) len (left - 1) (code + 1) x)
+          kept_step words y w x (rest t base ys len left code x) (rest t base zs len left' (code + 1) x)
           (subst (λ k. x < k) (sym f.long) l)
-          (word_full len code (f.some_bits (omega (arith, e))) g)
-          (λ q. now x ∙ later_here (left - 1) (counts_from t base len) len code (get_or t at 0) (take (left - 1 + sum (counts_from t base len)) (drop (at + 1) t)) x q ∙ sym g)
-          (λ q. now x ∙ later_other (left - 1) (counts_from t base len) len code (get_or t at 0) (take (left - 1 + sum (counts_from t base len)) (drop (at + 1) t)) x q)
+          (word_full len code (f.some_bits (omega arith)) g)
+          (λ q. now x ∙ later_here left' (counts_from t base len) len code y (take (left' + sum (counts_from t base len)) zs) x q ∙ sym g)
+          (λ q. now x ∙ later_other left' (counts_from t base len) len code y (take (left' + sum (counts_from t base len)) zs) x q)
 
 -- a table that the end of the file cuts has no symbols
 pub codes_cut : (t : List ℕ) (base n : ℕ) (words : List ℕ) → words ≡ replicate n 0 → length t < base + 16 → words ≡ code_words (table_at t base) n

@@ -7,57 +7,34 @@ ghost use Rattle.reading.specs.Huffman.{table_at};
 ghost use Rattle.jpeg_write_codes.specs.Words.{code_words, kept};
 ghost use Rattle.jpeg_write_codes.specs.Sheets.{sheet, zeros_coded, sure};
 
-use reading::Record;
-
-// No symbol has a word yet.
-fn clear(words: &mut [u32])
-    ensures { words.new ≡ replicate (length words.old) 0 }
-{
-    let mut i = 0usize;
-    while i < words.len() {
-        words[i] = 0;
-        i += 1;
-    }
-}
+use reading::{Record, at_or};
 
 // The word that a symbol has stays. A table that a header read lists no symbol twice; of any other the first code counts.
 #[tactic(auto, using(crate::proofs::Filled::kept_new, crate::proofs::Filled::kept_old, crate::proofs::Filled::kept_past))]
 fn keep(words: &mut [u32], x: usize, word: u32)
     ensures { words.new ≡ kept words.old x word }
 {
-    if x < words.len() {
-        if words[x] == 0 {
-            words[x] = word;
-        }
+    if x < words.len() && words[x] == 0 {
+        words[x] = word;
     }
 }
 
-// The words of the table at `base`, in one pass over its symbols: `left` more codes have `bits` bits, and `code` is the next.
+// The words of the table at `base`, in one pass over its symbols, one length after the other: `code` is the next code.
 fn fill(t: &[u8], base: usize, words: &mut [u32])
     requires { (base + 16 ≤ length t.now) × (words.old ≡ replicate (length words.old) 0) }
     ensures { words.new ≡ code_words (table_at t.now base) (length words.old) }
 {
-    let mut at = base + 16;
-    let mut bits = 0usize;
-    let mut left = 0usize;
+    let mut symbols = t[base + 16..].iter();
     let mut code = 0usize;
-    'walk: loop {
-        if left == 0 {
-            if bits == 16 {
-                break 'walk;
-            }
-            left = t[base + bits] as usize;
-            bits += 1;
-            code = 2 * code;
-        } else {
-            if t.len() <= at {
-                break 'walk;
-            }
-            let full = 1usize << bits;
+    for bits in 1..17 {
+        let full = 1usize << bits;
+        code = 2 * code;
+        for _ in 0..t[base + bits - 1] {
+            let Some(x) = symbols.next() else {
+                return;
+            };
             let word = 65536 * bits + code % full;
-            keep(words, t[at] as usize, word as u32);
-            at += 1;
-            left -= 1;
+            keep(words, *x as usize, word as u32);
             code += 1;
         }
     }
@@ -68,24 +45,17 @@ fn fill(t: &[u8], base: usize, words: &mut [u32])
 pub fn codes(t: &[u8], base: usize, words: &mut [u32])
     ensures { words.new ≡ code_words (table_at t.now base) (length words.old) }
 {
-    clear(words);
-    if t.len() < 16 {
-        return;
+    words.fill(0);
+    if 16 <= t.len() && base <= t.len() - 16 {
+        fill(t, base, words);
     }
-    if t.len() - 16 < base {
-        return;
-    }
-    fill(t, base, words);
 }
 
 // The word of a symbol; 0 behind the last.
 pub fn word_of(words: &[u32], x: usize) -> usize
     ensures { result ≡ get_or words.now x 0 }
 {
-    if x < words.len() {
-        return words[x] as usize;
-    }
-    0
+    at_or(words, x, 0) as usize
 }
 
 // The words of eight tables, 256 for each.
@@ -93,12 +63,9 @@ pub fn sheet(t: &[u8], places: [usize; 8]) -> [u32; 2048]
     ensures { result ≡ sheet t.now places }
 {
     let mut words = [0u32; 2048];
-    let mut i = 0usize;
-    while i < 8 {
+    for (i, base) in places.iter().enumerate() {
         let a = 256 * i;
-        let e = a + 256;
-        codes(t, places[i], &mut words[a..e]);
-        i += 1;
+        codes(t, *base, &mut words[a..a + 256]);
     }
     words
 }
@@ -108,32 +75,19 @@ fn zeros_coded(words: &[u32], tables: usize) -> bool
     requires { tables ≤ 8 }
     ensures { result ≡ zeros_coded words.now tables }
 {
-    let mut i = tables;
-    while 0 < i {
-        i -= 1;
-        if word_of(words, 256 * i) == 0 {
-            return false;
-        }
-    }
-    true
+    (0..tables).all(|i| word_of(words, 256 * i) != 0)
 }
 
 // Whether a scan of `coded` bytes, if it can be read, can be written too. It never has more than twice those bytes, and 4 for each
 // block: the room is taken by halves, so that no sum is past 64 bits. A code can be wanting only for the symbol 0: it ends a block,
 // and a place behind a table's symbols reads as it.
+#[tactic(auto, using(crate::proofs::Sureness::sure_short, crate::proofs::Sureness::sure_many, crate::proofs::Sureness::sure_room))]
 pub fn sure(found: Record, words: &[u32], coded: usize, room: usize) -> bool
     ensures { result ≡ sure found words.now coded room }
 {
     let half = room / 2;
-    if half / 2 < found.blocks {
-        return false;
-    }
-    let ends = 2 * found.blocks;
-    if half - ends < coded {
-        return false;
-    }
-    if 4 < found.frame.channels {
-        return false;
-    }
-    zeros_coded(words, 2 * found.frame.channels)
+    found.blocks <= half / 2
+        && coded <= half - 2 * found.blocks
+        && found.frame.channels <= 4
+        && zeros_coded(words, 2 * found.frame.channels)
 }

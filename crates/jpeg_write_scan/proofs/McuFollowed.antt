@@ -1,106 +1,192 @@
--- The blocks of one MCU over the wide cursor. It follows a cursor of the scan, and there all is as the plain pass has it (McuPassed).
-use Prim.Native.Nat.{ℕ, ◌+◌, ◌<◌, ◌≤◌}
-use mathlib.Core.Path.{◌≡◌, refl, subst}
+-- One MCU by an engine. Its cursor follows a cursor of the scan, and there all is as the rules have it (McuPassed).
+use Prim.Native.Nat.{ℕ, ◌+◌, ◌-◌, ◌<◌, ◌/◌, ◌%◌, ◌^◌, min}
+use mathlib.Core.Path.{◌≡◌, refl, sym, ◌∙◌, ap, ap₂, subst}
 use mathlib.Core.List.{List}
 use native.Mathlib.Omega.{arith}
 use lib.IntN.{ℤ, pos}
 use lib.ListN.{length, get_or, set}
+use mir.Syntax.{w64}
+use mir.Val.{Fits}
+use Rattle.std.specs.Prelude.{Option, Result, Ok, Err}
+use Rattle.reading.specs.declared.Bits.{Bits}
+use Rattle.reading.specs.declared.BlockRead.{BlockRead}
+use Rattle.reading.specs.declared.Break.{Break}
 use Rattle.reading.specs.declared.Fault.{Fault}
 use Rattle.reading.specs.declared.ScanCursor.{ScanCursor}
-use Rattle.reading.specs.Settled.{onto}
+use Rattle.reading.specs.Layout.{due_before, restart_before}
+use Rattle.reading.specs.Reader.{Read, got, fault}
+use Rattle.reading.specs.Code.Scans.{broke_at}
+use Rattle.reading.specs.Settled.{onto, cut}
 use Rattle.jpeg_scan_plan.specs.declared.Plan.{Plan}
-use Rattle.jpeg_scan_plan.specs.declared.Halt.TheVariants.{No, Yes}
 use Rattle.jpeg_scan_plan.specs.Plans.{chan}
-use Rattle.jpeg_scan.proofs.Onward.{block_at, past}
-use Rattle.jpeg_scan.proofs.OneMcu.{head, below}
-use Rattle.jpeg_bits_wide.specs.declared.Wide.{Wide}
-use Rattle.jpeg_huffman_table.specs.Looks.{looks}
-use Rattle.jpeg_block_wide.specs.declared.WideRead.{WideRead}
-use Rattle.jpeg_block_wide.specs.declared.WideRead.TheVariants.{Got, Stop}
-use Rattle.jpeg_block_wide.specs.Blocks.{Promised}
-use Rattle.jpeg_scan_wide.specs.declared.WideCursor.{WideCursor}
-use Rattle.jpeg_scan_wide.specs.Steps.{Follows}
-use Rattle.jpeg_scan_wide.proofs.Following.{Taken, taken_follows, block_taken, block_refused}
-use Rattle.jpeg_write_bits.specs.declared.Outcome.{Outcome}
-use Rattle.jpeg_write_codes.specs.Sheets.{sheet}
-use Rattle.jpeg_write_scan.specs.Sheets.{bases_of}
+use Rattle.jpeg_scan_plan.specs.Marks.{restarted, broke_in}
+use Rattle.jpeg_scan_plan.proofs.Marks.{broke_first}
+use Rattle.jpeg_scan.proofs.Onward.{past}
+use Rattle.jpeg_write_bits.specs.declared.Pen.{Pen}
+use Rattle.jpeg_write_scan.specs.declared.Moved.{Moved}
 use Rattle.jpeg_write_scan.specs.Steps.{Quiet}
-use Rattle.jpeg_write_scan.specs.Pass.{Fit, Moves}
-use Rattle.jpeg_write_scan.specs.WidePass.{Passed}
-use Rattle.jpeg_write_scan.proofs.Quiets.{quiet_block}
+use Rattle.jpeg_write_scan.specs.Pass.{blocks_at, Moves}
+use Rattle.jpeg_write_scan.specs.Engines.{Follows, Led, block_here, Alike, Worded, Passed}
+use Rattle.jpeg_write_scan.proofs.Quiets.{quiet_levels}
 use Rattle.jpeg_write_scan.proofs.McuPassed as plain
 use Rattle.jpeg_write_scan.proofs.McuPassed.{block_in}
 
--- before block j the wide cursor w follows `here`, where the plain pass that began at `from` stands
-pub record Walk (s : List ℕ) (n : Plan) (from : ScanCursor) (pen : Outcome) (old new : List ℕ) (w : WideCursor) (ink : Outcome) (j : ℕ) : Type 0 where
-  pub here : ScanCursor
-  pub follows : Follows s here w
-  pub walk : plain.Walk s n from pen old new here ink j
+-- how many blocks an MCU has, as the code counts them
+pub count_is : {n n' : Plan} {a b : ℕ} (k : ℕ) → n' ≡ n → b ≡ n'.blocks - k → a ≡ min n'.per b → a ≡ blocks_at n k
+count_is k e f g = g ∙ ap₂ min (ap (λ (n : Plan). n.per) e) (f ∙ ap (λ (n : Plan). n.blocks - k) e)
 
--- the same for every cursor that was followed at the start
-abbrev pub Walks : List ℕ → Plan → WideCursor → Outcome → List ℕ → List ℕ → WideCursor → Outcome → ℕ → Type 0
-Walks s n from pen old new w ink j = (q : ScanCursor) → Follows s q from → Walk s n q pen old new w ink j
+pub count_in : {n n' : Plan} {a b j : ℕ} (k : ℕ) → n' ≡ n → b ≡ n'.blocks - k → a ≡ min n'.per b → j < a → j < blocks_at n k
+count_in {j = j} k e f g = subst (λ (a : ℕ). j < a) (count_is k e f g)
 
-pub begin :
-    {s : List ℕ} (n : Plan) {q : ScanCursor} {w : WideCursor} {pen : Outcome} (old : List ℕ)
-    → Follows s q w
-    → Fit pen
-    → Walk s n q pen old old w pen 0
-begin {s} n {q} {w} {pen} old f fit = record { here = q; follows = f; walk = plain.begin s n q pen old fit }
+-- the blocks of a plan can be counted
+pub countable : (n : Plan) (k : ℕ) {a b j d : ℕ} → d ≡ k + j → b ≡ n.blocks - k → a ≡ min n.per b → j < a → Fits w64 n.blocks → Fits w64 (d + 1)
+countable n k e f g h most = omega arith
 
-module _
-    {s : List ℕ} {n : Plan} {from : ScanCursor} {pen : Outcome} {old new : List ℕ} {w : WideCursor} {ink : Outcome} {j : ℕ}
-    (x : Walk s n from pen old new w ink j)
-  where
-    -- ---- the last block is written
+-- the channel of block j, by the order as the blocks before it left it
+pub channel_is : (order j : ℕ) {o c : ℕ} → c ≡ o % 4 → o ≡ order / 4 ^ j → c ≡ chan order j
+channel_is order j e h = e ∙ ap (λ (o : ℕ). o % 4) h
 
-    -- of the MCU
-    pub whole : n.per ≤ j → Passed s n from pen old (record { halt = No; cursor = w; ink = ink }) new
-    whole h = record { behind = x.here; follows = x.follows; went = plain.whole x.walk h }
+module _ {P : Type 0} (meets : Bits → P → Type 0) where
+  -- ---- what an engine answers, by what the rules answer
 
-    -- of the scan
-    pub out : n.blocks ≤ w.done → Passed s n from pen old (record { halt = No; cursor = w; ink = ink }) new
-    out h = record { behind = x.here; follows = x.follows; went = plain.out x.walk (omega (arith, x.follows.place)) }
+  -- a restart that led on
+  pub record LedOn (x : Result (ScanCursor Bits) Fault) (c : ScanCursor P) : Type 0 where
+    pub start : ScanCursor Bits
+    pub is : Ok start ≡ x
+    pub follows : Follows meets start c
+
+  pub led_on : (x : Result (ScanCursor Bits) Fault) {c : ScanCursor P} → Led meets x (Ok c) → LedOn x c
+  led_on (Ok q) f = record { start = q; is = refl; follows = f }
+  led_on (Err f) l = absurd l
+
+  pub led_off : (x : Result (ScanCursor Bits) Fault) {f : Fault} → Led {P = P} meets x (Err f) → Err f ≡ x
+  led_off (Ok q) l = absurd l
+  led_off (Err g) e = ap Err (sym e)
+
+  -- a block that was read
+  pub record Got (o : Read Bits (List ℤ)) (r : BlockRead P) (levels : List ℤ) : Type 0 where
+    pub behind : Bits
+    pub is : o ≡ got levels behind
+    pub first : get_or levels 0 (pos 0) ≡ r.first
+    pub quiet : Quiet r.reach levels
+    pub met : meets behind r.after
+
+  pub got_block : (o : Read Bits (List ℤ)) {r : BlockRead P} {levels : List ℤ} → Alike meets o (Ok r) levels → Got o r levels
+  got_block (got l b) h =
+      record {
+        behind = b;
+        is = ap (λ (k : List ℤ). got k b) (sym h.0);
+        first = ap (λ (k : List ℤ). get_or k 0 (pos 0)) h.0 ∙ sym h.1;
+        quiet = quiet_levels h.0 h.2;
+        met = h.3;
+      }
+  got_block (fault f) h = absurd h
+
+  pub no_block : (o : Read Bits (List ℤ)) {f : Fault} (levels : List ℤ) → Alike {P = P} meets o (Err f) levels → o ≡ fault f
+  no_block (got l b) levels h = absurd h
+  no_block (fault g) levels e = ap fault e
+
+  -- ---- the walk over the blocks
+
+  -- before block j the cursor w follows `here`, where the rules stand; the restart led to a cursor that w₀ follows
+  pub record Walk (s : List ℕ) (n : Plan) (m : ℕ) (from : Moved Bits) (old : List ℕ) (w₀ : ScanCursor P) (pen : Option Pen) (mid new : List ℕ) (w : ScanCursor P) (ink : Option Pen) (j : ℕ) : Type 0 where
+    pub start : ScanCursor Bits
+    pub here : ScanCursor Bits
+    pub begun : Follows meets start w₀
+    pub follows : Follows meets here w
+    pub walk : plain.Walk s n m from old start pen mid new here ink j
+
+  -- the same at every cursor that was followed before the restart
+  abbrev pub Walks : List ℕ → Plan → ℕ → Moved P → List ℕ → ScanCursor P → Option Pen → List ℕ → List ℕ → ScanCursor P → Option Pen → ℕ → Type 0
+  Walks s n m before old w₀ pen mid new w ink j =
+      (q : ScanCursor Bits) → Follows meets q before.cursor → Walk s n m (record { cursor = q; ink = before.ink }) old w₀ pen mid new w ink j
+
+  pub begin :
+      {s : List ℕ} {n : Plan} {m : ℕ} {from : Moved Bits} {old : List ℕ} {r : Result (ScanCursor P) Fault} {w : ScanCursor P} {pen : Option Pen} {mid : List ℕ} {i : ℕ}
+      → length mid ≡ length old
+      → Led meets (restarted s n.interval m from.cursor) r
+      → r ≡ Ok w
+      → i ≡ n.interval
+      → Moves (cut (due_before i m) (restart_before i m)) from.ink old pen mid
+      → Walk s n m from old w pen mid mid w pen 0
+  begin {s} {n} {m} {from} {old} {r} {w} {pen} {mid} l a g e o =
+      let x = led_on (restarted s n.interval m from.cursor) (subst (Led meets (restarted s n.interval m from.cursor)) g a) in
+      let put = subst (λ (i : ℕ). Moves (cut (due_before i m) (restart_before i m)) from.ink old pen mid) e o in
+      record { start = x.start; here = x.start; begun = x.follows; follows = x.follows; walk = plain.begin l x.is put }
+
+  -- the restart is not read
+  pub stopped :
+      (says : Break → Break) (s : List ℕ) (n : Plan) (m : ℕ) (from : Moved Bits) (old : List ℕ) {r : Result (ScanCursor P) Fault} {f : Fault} {w : Break}
+      → Led meets (restarted s n.interval m from.cursor) r
+      → r ≡ Err f
+      → w ≡ says (broke_in from.cursor from.cursor f)
+      → Passed {P = P} meets says s n m from old (Err w) old
+  stopped says s n m from old {r} {f} a g e =
+      let off = led_off (restarted s n.interval m from.cursor) (subst (Led meets (restarted s n.interval m from.cursor)) g a) in
+      record { told = Err (broke_at from.cursor f); went = plain.stopped s n m from old off; along = e ∙ ap says (broke_first from.cursor from.cursor f refl) }
+
+  module _ (says : Break → Break) {s : List ℕ} {n : Plan} {m : ℕ} {from : Moved Bits} {old : List ℕ} {w₀ : ScanCursor P} {pen : Option Pen} {mid new : List ℕ} {w : ScanCursor P} {ink : Option Pen} {j : ℕ}
+      (x : Walk s n m from old w₀ pen mid new w ink j) where
+    -- how many blocks were done
+    pub done_is : w.done ≡ w₀.done + j
+    done_is = x.follows.place ∙ x.walk.along.place ∙ ap (λ (k : ℕ). k + j) (sym x.begun.place)
+
+    -- the last block is written
+    pub whole : j ≡ blocks_at n w₀.done → Passed meets says s n m from old (Ok (record { cursor = w; ink = ink })) new
+    whole h =
+        record {
+          told = Ok (record { cursor = x.here; ink = ink });
+          went = plain.whole x.walk (h ∙ ap (λ (d : ℕ). blocks_at n d) x.begun.place);
+          along = (x.follows, refl);
+        }
 
     -- ---- block j
 
-    module _ (h : j < n.per) (i : w.done < n.blocks) {c : ℕ} (u : c ≡ chan n.order j) where
-      inside : x.here.done < n.blocks
-      inside = omega (arith, x.follows.place)
+    module _ (h : j < blocks_at n w₀.done) {c : ℕ} (u : c ≡ chan n.order j) where
+      inside : j < blocks_at n x.start.done
+      inside = subst (λ (d : ℕ). j < blocks_at n d) x.begun.place h
 
-      few : c < 4
-      few = below n.order j u
+      -- what was read there, behind the prediction as it is held
+      module _ {y : ℤ} (same : y ≡ get_or w.predictors c (pos 0)) where
+        behind : y ≡ get_or x.here.predictors c (pos 0)
+        behind = same ∙ ap (λ (ps : List ℤ). get_or ps c (pos 0)) x.follows.predicts
 
-      module _ {look : List ℕ} (e : look ≡ looks (head n s) n.dcs n.acs) (r : WideRead) (l : List ℤ)
-          (v : Promised (head n s) (get_or n.dcs c 0) (get_or n.acs c 0) look c s w.wide (get_or w.predictors c (pos 0)) r l) where
-        pub broken : {f : Fault} → r ≡ Stop f → Passed s n from pen old (record { halt = Yes f; cursor = w; ink = ink }) new
-        broken g =
-            record {
-              behind = x.here;
-              follows = x.follows;
-              went = plain.broken x.walk h inside u refl (block_refused n x.follows c few e r l v g);
-            }
+        module _ {a : Result (BlockRead P) Fault} (levels : List ℤ) (t : Alike meets (block_here s n c y x.here.bits) a levels) where
+          there : {b : Result (BlockRead P) Fault} → a ≡ b → Alike meets (block_here s n c (get_or x.here.predictors c (pos 0)) x.here.bits) b levels
+          there {b} g =
+              subst (λ (z : ℤ). Alike meets (block_here s n c z x.here.bits) b levels) behind
+              (subst (λ (b : Result (BlockRead P) Fault). Alike meets (block_here s n c y x.here.bits) b levels) g t)
 
-        module _ {b : Wide} {z : ℤ} {k : ℕ} (g : r ≡ Got b z k) where
-          read : Taken s (block_at (head n s) n s c x.here) b z k l
-          read = block_taken n x.follows c few e r l v g
+          pub broken : {f : Fault} → a ≡ Err f → {v : Break} → v ≡ says (broke_in from.cursor x.here f) → Passed {P = P} meets says s n m from old (Err v) new
+          broken {f} g e =
+              record { told = Err (broke_in from.cursor x.here f); went = plain.broken x.walk inside u (no_block _ levels (there g)); along = e }
 
-          -- its levels are zero from the place on that it is said to reach
-          pub quiet : Quiet k l
-          quiet = quiet_block (block_at (head n s) n s c x.here) refl read.says read.left
+          module _ {r : BlockRead P} (g : a ≡ Ok r) where
+            read : Got (block_here s n c (get_or x.here.predictors c (pos 0)) x.here.bits) r levels
+            read = got_block _ (there g)
 
-          pub further :
-              {ws : List ℕ}
-              → ws ≡ sheet (head n s) (bases_of n)
-              → {o : Outcome} {new' : List ℕ}
-              → length new' ≡ length new
-              → Moves (onto (block_in ws c (get_or w.predictors c (pos 0)) l)) ink new o new'
-              → Walk s n from pen old new' (record { wide = b; predictors = set w.predictors c z; done = w.done + 1 }) o (j + 1)
-          further {ws} filled {o} {new'} long a =
-              record {
-                here = past x.here c z read.behind;
-                follows = taken_follows x.follows read c;
-                walk =
-                    plain.further x.walk h inside u refl read.says read.left filled long
-                    (subst (λ (ps : List ℤ). Moves (onto (block_in ws c (get_or ps c (pos 0)) l)) ink new o new') x.follows.predicts a);
-              }
+            -- its levels are zero from the place on that it is said to reach
+            pub quiet : Quiet r.reach levels
+            quiet = read.quiet
+
+            pub further :
+                {ws : List ℕ}
+                → Worded s n ws
+                → {first : ℤ}
+                → first ≡ r.first
+                → {o : Option Pen} {new' : List ℕ}
+                → length new' ≡ length new
+                → Moves (onto (block_in ws c y levels)) ink new o new'
+                → Walk s n m from old w₀ pen mid new' (record { bits = r.after; predictors = set w.predictors c first; done = w.done + 1 }) o (j + 1)
+            further {ws} filled {first} e {o} {new'} long put =
+                record {
+                  start = x.start;
+                  here = past x.here c (get_or levels 0 (pos 0)) read.behind;
+                  begun = x.begun;
+                  follows = record {
+                    met = read.met;
+                    predicts = ap (λ (ps : List ℤ). set ps c first) x.follows.predicts ∙ ap (set x.here.predictors c) (e ∙ sym read.first);
+                    place = ap (λ (d : ℕ). d + 1) x.follows.place;
+                  };
+                  walk = plain.further x.walk inside u read.is filled long (subst (λ (z : ℤ). Moves (onto (block_in ws c z levels)) ink new o new') behind put);
+                }

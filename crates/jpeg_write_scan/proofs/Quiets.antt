@@ -7,12 +7,7 @@ use lib.IntN.{ℤ, pos, nat_abs}
 use lib.ListN.{length, get_or, drop, length-drop}
 use lib.Seq.{get_or-drop}
 use borrow.Author.Tests.{eq-eqb}
-use Rattle.reading.specs.declared.Bits.{Bits}
-use Rattle.reading.specs.declared.BlockRead.{BlockRead}
-use Rattle.reading.specs.declared.BlockRead.TheVariants as read
-use Rattle.reading.specs.Code.Answers.{said, levels_of}
-use Rattle.reading.specs.Reader.{Read}
-use Rattle.reading.proofs.BlockAnswers.{Taken, told}
+use Rattle.reading.specs.Code.Places.{places}
 use Rattle.reading.proofs.Reach.{places_some, places_zero}
 use Rattle.jpeg_write_symbols.specs.Turns.{zeros_of, zeros_at}
 use Rattle.jpeg_write_scan.specs.Steps.{Quiet}
@@ -30,9 +25,7 @@ zeros_quiet l (suc k) reach q h =
     sym (length-drop (suc k) l)
     ∙ all_zero (drop (suc k) l) (λ i. get_or-drop (suc k) l i (pos 0) ∙ q.each (suc k + i) (omega arith))
 
--- a block that was read is quiet behind the places that it is said to reach
-pub quiet_block : (o : Read Bits (List ℤ)) {x : BlockRead} {b : Bits} {z : ℤ} {k : ℕ} → x ≡ said o → x ≡ read.Got b z k → {l : List ℤ} → l ≡ levels_of o → Quiet k l
-quiet_block o {x} {b} {z} {k} e g {l} y =
-    let t : Taken o b z k = told o e g in
-    subst⁻¹ (λ (m : List ℤ). Quiet k m) (y ∙ t.left)
-    (subst⁻¹ (λ (n : ℕ). Quiet n t.levels) t.reach (record { some = places_some t.levels; each = places_zero t.levels }))
+-- levels are quiet behind the places that they reach
+pub quiet_levels : {l levels : List ℤ} {k : ℕ} → levels ≡ l → k ≡ places l → Quiet k levels
+quiet_levels {l} {levels} {k} e g =
+    subst⁻¹ (λ (m : List ℤ). Quiet k m) e (subst⁻¹ (λ (n : ℕ). Quiet n l) g (record { some = places_some l; each = places_zero l }))

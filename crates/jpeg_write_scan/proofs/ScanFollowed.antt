@@ -1,139 +1,114 @@
--- MCU after MCU over the wide cursor. It follows a cursor of the scan, and there all is as the plain pass has it (ScanPassed).
-use Prim.Native.Nat.{ℕ, ◌+◌, ◌*◌, ◌-◌, ◌<◌, ◌≤◌, min}
-use mathlib.Core.Path.{◌≡◌, refl, sym, ap, ◌∙◌, subst⁻¹}
-use mathlib.Core.Bool.{Bool, true, false}
+-- MCU after MCU by an engine. Its cursor follows a cursor of the scan, and there all is as the rules have it (ScanPassed).
+use Prim.Native.Nat.{ℕ, ◌+◌, ◌*◌, ◌<◌, ◌≤◌}
+use mathlib.Core.Path.{◌≡◌, refl, ap, ◌∙◌, subst, subst⁻¹}
+use mathlib.Core.Bool.{true, false}
 use mathlib.Core.List.{List}
-use mathlib.Core.Option.{Option, none, some}
+use mathlib.Core.Option as math
+use mathlib.Core.Option.{none, some}
+use native.Mathlib.Nat.{add-mul}
 use native.Mathlib.Omega.{arith}
 use lib.ListN.{length}
+use Rattle.std.specs.Prelude.{Option, Some, Result, Ok, Err}
+use Rattle.std.specs.Int.{div_ceil}
+use Rattle.std.proofs.Math.Nat.{mul-le-mul_right}
+use Rattle.std.proofs.lemmas.Grind.{div_ceil_times}
+use Rattle.reading.specs.declared.Bits.{Bits}
 use Rattle.reading.specs.declared.Break.{Break}
-use Rattle.reading.specs.declared.Fault.{Fault}
+use Rattle.reading.specs.declared.Fault.TheVariants.{Broken}
 use Rattle.reading.specs.declared.ScanCursor.{ScanCursor}
-use Rattle.reading.specs.declared.ScanSettled.{ScanSettled}
-use Rattle.reading.specs.declared.ScanSettled.TheVariants as answer
-use Rattle.reading.specs.Layout.{due_before, restart_before}
-use Rattle.reading.specs.Code.Scans.{at_start, nowhere}
-use Rattle.reading.specs.Settled.{cut}
+use Rattle.reading.specs.declared.Unsettled.{Unsettled}
+use Rattle.reading.specs.declared.Unsettled.TheVariants.{Broke}
+use Rattle.reading.specs.Code.Scans.{at_start, broke_at}
 use Rattle.jpeg_scan_plan.specs.declared.Plan.{Plan}
-use Rattle.jpeg_scan_plan.specs.declared.Halt.TheVariants.{No, Yes}
 use Rattle.jpeg_scan_plan.specs.Marks.{closes}
-use Rattle.jpeg_scan_wide.specs.declared.WideCursor.{WideCursor}
-use Rattle.jpeg_scan_wide.specs.declared.WideCursorRead.{WideCursorRead}
-use Rattle.jpeg_scan_wide.specs.Steps.{started, restarted_wide, ends_wide, Follows, Restarted}
-use Rattle.jpeg_scan_wide.proofs.Between.{restarts, ends_there}
-use Rattle.jpeg_scan_wide.proofs.Following.{started_follows}
-use Rattle.jpeg_write_bits.specs.declared.Outcome.{Outcome}
-use Rattle.jpeg_write_bits.specs.declared.Outcome.TheVariants.{Done}
+use Rattle.jpeg_scan_plan.specs.Marks.{broke_in}
+use Rattle.jpeg_scan_plan.proofs.Marks.{broke_first}
+use Rattle.jpeg_write_bits.specs.declared.Pen.{Pen}
 use Rattle.jpeg_write_bits.specs.Page.{Spot, fresh}
-use Rattle.jpeg_write_scan.specs.declared.wide.WideMoved.{WideMoved}
-use Rattle.jpeg_write_scan.specs.Pass.{final_by, Moves, last_part, Closes, Ran}
-use Rattle.jpeg_write_scan.specs.WidePass.{Followed, Passed, WentWide, bare, RanWide}
+use Rattle.jpeg_write_scan.specs.declared.Moved.{Moved}
+use Rattle.jpeg_write_scan.specs.Pass.{final_by, last_part, Closes, Went}
+use Rattle.jpeg_write_scan.specs.Engines.{Follows, Followed, Along, WentBy, told_by, RanBy}
 use Rattle.jpeg_write_scan.proofs.ScanPassed as plain
+
+-- ---- how many MCUs there are
+
+abbrev pub mcus : Plan → ℕ
+mcus n = div_ceil n.blocks n.per
+
+pub mcu_inside : (n : Plan) {m d : ℕ} → 0 < n.per → d ≡ mcus n → m < d → m * n.per < n.blocks
+mcu_inside n {m} {d} h e l =
+    let most : d * n.per < n.blocks + n.per = rw e ((div_ceil_times n.blocks n.per h).1) in
+    omega (arith, mul-le-mul_right n.per l, add-mul m 1 n.per, most)
+
+pub mcus_all : (n : Plan) {m d : ℕ} → 0 < n.per → d ≡ mcus n → d ≤ m → n.blocks ≤ m * n.per
+mcus_all n {m} {d} h e l =
+    let all : n.blocks ≤ d * n.per = rw e ((div_ceil_times n.blocks n.per h).0) in
+    omega (arith, mul-le-mul_right n.per l, all)
 
 -- ---- what is answered
 
 -- behind the last marker there is no more to break
-closed_bare : (o : Option Spot) {r : ScanSettled} {new : List ℕ} → Closes o r new → r ≡ bare r
-closed_bare none k = subst⁻¹ (λ (x : ScanSettled). x ≡ bare x) k.told refl
-closed_bare (some t) k = subst⁻¹ (λ (x : ScanSettled). x ≡ bare x) k.told.0 refl
+closes_told : (says : Break → Break) (o : math.Option Spot) {r : Result ℕ Unsettled} {new : List ℕ} → Closes o r new → r ≡ told_by says r
+closes_told says none k = subst⁻¹ (λ (x : Result ℕ Unsettled). x ≡ told_by says x) k.told refl
+closes_told says (some t) k = subst⁻¹ (λ (x : Result ℕ Unsettled). x ≡ told_by says x) k.told.0 refl
 
-fallen :
-    {s : List ℕ} {n : Plan} {old new : List ℕ} {x y : Break}
-    → Ran s n old (answer.Stop y) new
-    → x ≡ nowhere
-    → RanWide s n old (answer.Stop x) new
-fallen {y = y} a e = record { told = answer.Stop y; ran = a; same = ap answer.Stop e }
+module _ {P : Type 0} (meets : Bits → P → Type 0) where
+  -- ---- the walk
 
--- ---- the walk
+  -- before MCU m, or behind the last block, where the pass stands follows `here`, where the rules stand
+  pub record Walk (s : List ℕ) (n : Plan) (old new : List ℕ) (at : Moved P) (m : ℕ) : Type 0 where
+    pub here : ScanCursor Bits
+    pub follows : Follows meets here at.cursor
+    pub walk : plain.Walk s n old new (record { cursor = here; ink = at.ink }) m
 
--- before MCU m, or behind the last block, the wide cursor w follows `here`, where the plain pass stands
-pub record Walk (s : List ℕ) (n : Plan) (old new : List ℕ) (w : WideCursor) (ink : Outcome) (m : ℕ) : Type 0 where
-  pub here : ScanCursor
-  pub follows : Follows s here w
-  pub walk : plain.Walk s n old new here ink m
+  pub begin :
+      (s : List ℕ) (n : Plan) (old : List ℕ) {c : ScanCursor P} {p : Pen}
+      → Follows meets (at_start n.start) c
+      → p ≡ fresh 0
+      → Walk s n old old (record { cursor = c; ink = Some p }) 0
+  begin s n old {c} f e =
+      subst⁻¹ (λ (p : Pen). Walk s n old old (record { cursor = c; ink = Some p }) 0) e
+      (record { here = at_start n.start; follows = f; walk = plain.begin s n old })
 
-pub begin :
-    (s : List ℕ) (n : Plan) (old : List ℕ) {w : WideCursor} {ink : Outcome}
-    → w ≡ started n.start
-    → ink ≡ Done (fresh 0)
-    → Walk s n old old w ink 0
-begin s n old {w} {ink} e f =
-    subst⁻¹ (λ (v : WideCursor). Walk s n old old v ink 0) e
-    (record {
-      here = at_start n.start;
-      follows = started_follows s n.start;
-      walk = plain.begin s n old refl f;
-    })
+  module _ (says : Break → Break) {s : List ℕ} {n : Plan} {old new : List ℕ} {at : Moved P} {m : ℕ} (x : Walk s n old new at m) where
+    pub followed : Followed meets at.cursor
+    followed = record { one = x.here; follows = x.follows }
 
-module _ {s : List ℕ} {n : Plan} {old new : List ℕ} {w : WideCursor} {ink : Outcome} {m : ℕ} (x : Walk s n old new w ink m) where
-  -- ---- the end
+    -- ---- the end
 
-  module _ (h : n.blocks ≤ w.done) {t : Bool} (e : t ≡ ends_wide s w.wide) where
-    all_done : n.blocks ≤ x.here.done
-    all_done = omega (arith, x.follows.place)
+    module _ (h : n.blocks ≤ m * n.per) where
+      pub ended_done :
+          closes s x.here.bits ≡ true
+          → {r : Result ℕ Unsettled} {new' : List ℕ}
+          → length new' ≡ length new
+          → Closes (final_by at.ink new (some last_part)) r new'
+          → RanBy says s n old r new'
+      ended_done g {r} long k =
+          record { told = r; ran = plain.ended_done x.walk h g long k; same = closes_told says (final_by at.ink new (some last_part)) k }
 
-    closing : {y : Bool} → t ≡ y → closes s x.here.bits ≡ y
-    closing g = sym (ends_there e x.here.bits x.follows.meets) ∙ g
+      pub ended_not : closes s x.here.bits ≡ false → {b : Break} → b ≡ says (broke_in x.here x.here Broken) → RanBy says s n old (Err (Broke b)) new
+      ended_not g e = record { told = Err (Broke (broke_at x.here Broken)); ran = plain.ended_not x.walk h g; same = ap (λ (w : Break). Err (Broke w)) (e ∙ ap says (broke_first x.here x.here Broken refl)) }
 
-    pub ended_done :
-        t ≡ true
-        → {r : ScanSettled} {new' : List ℕ}
-        → length new' ≡ length new
-        → Closes (final_by ink new (some last_part)) r new'
-        → RanWide s n old r new'
-    ended_done g {r} long k =
-        record {
-          told = r;
-          ran = plain.ended_done x.walk all_done (closing g) long k;
-          same = closed_bare (final_by ink new (some last_part)) k;
-        }
+    -- ---- one MCU more
 
-    pub ended_not : t ≡ false → {b : Break} → b ≡ nowhere → RanWide s n old (answer.Stop b) new
-    ended_not g = fallen (plain.ended_not x.walk all_done (closing g))
+    module _ (h : m * n.per < n.blocks) {new' : List ℕ} where
+      pub broken : {b : Break} → WentBy meets says s n m at new (Err b) new' → {r : Result ℕ Unsettled} → r ≡ Err (Broke b) → RanBy says s n old r new'
+      broken {b} v {r} e =
+          let p = v x.here x.follows in
+          subst⁻¹ (λ (y : Result ℕ Unsettled). RanBy says s n old y new') e (go p.told p.went p.along)
+        where
+          go : (t : Result (Moved Bits) Break) → Went s n m (record { cursor = x.here; ink = at.ink }) new t new' → Along {P = P} meets says t (Err b) → RanBy says s n old (Err (Broke b)) new'
+          go (Ok q) g a = absurd a
+          go (Err w) g a = record { told = Err (Broke w); ran = plain.broken x.walk h g; same = ap (λ (w : Break). Err (Broke w)) a }
 
-  -- ---- one MCU more
-
-  module _ (i : w.done < n.blocks) where
-    inside : x.here.done < n.blocks
-    inside = omega (arith, x.follows.place)
-
-    pub at_mcu : w.done ≡ m * n.per
-    at_mcu = x.follows.place ∙ plain.at_mcu x.walk inside
-
-    module _ {a : WideCursorRead} (e : a ≡ restarted_wide s n.interval m w) where
-      restart : Restarted s n.interval m x.here a
-      restart = restarts e x.here x.follows
-
-      pub stopped : {f : Fault} → a.halt ≡ Yes f → {b : Break} → b ≡ nowhere → RanWide s n old (answer.Stop b) new
-      stopped g = fallen (plain.stopped x.walk inside restart.same g)
-
-      pub followed : Followed s a.cursor
-      followed = record { one = restart.behind; follows = restart.follows }
-
-      module _ (g : a.halt ≡ No) {r : Outcome} {mid : List ℕ} (o : Moves (cut (due_before n.interval m) (restart_before n.interval m)) ink new r mid)
-          {b : WideMoved} {new' : List ℕ} (v : WentWide s n a.cursor r mid b new') where
-        passed : Passed s n restart.behind r mid b new'
-        passed = v restart.behind restart.follows
-
-        pub size : length new' ≡ length mid
-        size = passed.went.size
-
-        pub gained : b.halt ≡ No → b.cursor.done ≡ w.done + min n.per (n.blocks - w.done)
-        gained k = omega (arith, plain.gained x.walk inside restart.same g o passed.went k, x.follows.place, passed.follows.place)
-
-        pub broken :
-            {f : Fault}
-            → length mid ≡ length new
-            → b.halt ≡ Yes f
-            → {y : Break}
-            → y ≡ nowhere
-            → RanWide s n old (answer.Stop y) new'
-        broken long k = fallen (plain.broken x.walk inside restart.same g o passed.went long k)
-
-        pub further : length mid ≡ length new → b.halt ≡ No → Walk s n old new' b.cursor b.ink (m + 1)
-        further long k =
-            record {
-              here = passed.behind;
-              follows = passed.follows;
-              walk = plain.further x.walk inside restart.same g o passed.went long k;
-            }
+      pub further : {b : Moved P} → WentBy meets says s n m at new (Ok b) new' → Walk s n old new' b (m + 1)
+      further {b} v = let p = v x.here x.follows in go p.told p.went p.along
+        where
+          go : (t : Result (Moved Bits) Break) → Went s n m (record { cursor = x.here; ink = at.ink }) new t new' → Along {P = P} meets says t (Ok b) → Walk s n old new' b (m + 1)
+          go (Ok q) g a =
+              record {
+                here = q.cursor;
+                follows = a.0;
+                walk = subst (λ (i : Option Pen). plain.Walk s n old new' (record { cursor = q.cursor; ink = i }) (m + 1)) a.1 (plain.further x.walk h g);
+              }
+          go (Err w) g a = absurd a

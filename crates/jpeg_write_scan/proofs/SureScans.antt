@@ -3,7 +3,9 @@ use Prim.Native.Nat.{ℕ, zero, suc, ◌+◌, ◌*◌, ◌-◌, ◌≤◌, ◌<�
 use mathlib.Core.Path.{◌≡◌, refl, sym, ap, ◌∙◌, subst, subst⁻¹}
 use mathlib.Core.Bool.{Bool, true, false, cond}
 use mathlib.Core.List.{List, [], ◌∷◌}
-use mathlib.Core.Option.{Option, none, some}
+use mathlib.Core.Option as math
+use mathlib.Core.Option.{none, some}
+use Rattle.std.specs.Prelude.{Result, Ok, Err}
 use native.Mathlib.Decide.{ℕ_discrete}
 use native.Mathlib.Nat.{not-suc-le-zero, suc-ne-zero}
 use native.Mathlib.Omega.{arith}
@@ -15,10 +17,8 @@ use Rattle.whole.specs.Lists.{get_d_from}
 use Rattle.reading.specs.declared.Bits.{Bits}
 use Rattle.reading.specs.declared.Break.{Break}
 use Rattle.reading.specs.declared.Record.{Record}
-use Rattle.reading.specs.declared.ScanRead.{ScanRead}
-use Rattle.reading.specs.declared.ScanRead.TheVariants as reads
-use Rattle.reading.specs.declared.ScanSettled.{ScanSettled}
-use Rattle.reading.specs.declared.ScanSettled.TheVariants as answer
+use Rattle.reading.specs.declared.Unsettled.{Unsettled}
+use Rattle.reading.specs.declared.Unsettled.TheVariants.{Broke}
 use Rattle.reading.specs.Code.Answers.{scan_read}
 use Rattle.reading.specs.Huffman.{Table, code_of}
 use Rattle.reading.specs.Layout.{channel_of}
@@ -39,7 +39,7 @@ use Rattle.jpeg_write_codes.specs.Words.{word_of, code_words}
 use Rattle.jpeg_write_codes.specs.Sheets.{sheet, words_in, zeros_coded, sure}
 use Rattle.jpeg_write_scan.specs.Sheets.{bases_of}
 use Rattle.jpeg_write_scan.specs.Pass.{foretold}
-use Rattle.jpeg_write_scan.proofs.SettledAnswers.{Passed, settled_is, stays_stop, stays_lacking, stays_short, writes_all}
+use Rattle.jpeg_write_scan.proofs.SettledAnswers.{Passed, settled_is, stays_err, stays_short, writes_all}
 use Rattle.jpeg_write_scan.proofs.SheetFilled.{words_dc, words_ac}
 
 -- ---- what the test says
@@ -101,7 +101,7 @@ module _ (a : ℕ) (ws : List ℕ) (t : Table) (e : words_in a ws ≡ code_words
 -- ---- a scan that is sure
 
 -- it lacks no code, and fits
-abbrev pub Roomy : Scanned Bits (Option (List ℕ)) → ℕ → Type 0
+abbrev pub Roomy : Scanned Bits (math.Option (List ℕ)) → ℕ → Type 0
 Roomy (whole none b) room = ⊥
 Roomy (whole (some t) b) room = length t ≤ room
 Roomy (broke w) room = Unit {0}
@@ -132,7 +132,7 @@ module _ {s : List ℕ} {r : Record} {n : Plan} (u : Ready s r n) {ws : List ℕ
           (word_coded (512 * c + 256) ws _ (words_ac u.numbers w c (fourth c h)) (subst (λ (a : ℕ). get_or ws a 0 ≡ 0 → ⊥) place (coded_each ws (2 * r.frame.channels) e (2 * c + 1) (omega arith))))
 
   sure_fits : r.blocks < 2 ^ 32 → AllBytes s → (room : ℕ) → sure r ws (length s - n.start) room ≡ true → Roomy (settled_of s r) room
-  sure_fits few ab room e = subst⁻¹ (λ (o : Scanned Bits (Option (List ℕ))). Roomy o room) (settled_is u few) (go (scan_of s r) refl)
+  sure_fits few ab room e = subst⁻¹ (λ (o : Scanned Bits (math.Option (List ℕ))). Roomy o room) (settled_is u few) (go (scan_of s r) refl)
     where
       starts : n.start ≡ r.start
       starts = ap (λ (k : Plan). k.start) u.plan_is
@@ -142,69 +142,60 @@ module _ {s : List ℕ} {r : Record} {n : Plan} (u : Ready s r n) {ws : List ℕ
           let says = sure_says r ws (length s - n.start) room e in
           let l = scan_levels s r f in
           let t = no_want s r ls b ab (zero_coded says.1) l in
-          subst⁻¹ (λ (o : Option (List ℕ)). Roomy (whole o b) room) t.1 (omega (arith, settled_short s r ls b t.0 ab l t.1, says.0, starts))
+          subst⁻¹ (λ (o : math.Option (List ℕ)). Roomy (whole o b) room) t.1 (omega (arith, settled_short s r ls b t.0 ab l t.1, says.0, starts))
       go (broke x) g = tt
 
   -- what reading it tells
-  module _ (few : r.blocks < 2 ^ 32) (room : ℕ) {x : ScanRead} (e : x ≡ scan_read (scan_of s r)) where
-    pub read_stop : {f : Break} → x ≡ reads.Stop f → answer.Stop f ≡ foretold true room (settled_of s r)
+  module _ (few : r.blocks < 2 ^ 32) (room : ℕ) {x : Result (Unit {0}) Break} (e : x ≡ scan_read (scan_of s r)) where
+    pub read_stop : {f : Break} → x ≡ Err f → Err (Broke f) ≡ foretold true room (settled_of s r)
     unfolding foretold scan_read
-    read_stop {f} g = subst⁻¹ (λ (o : Scanned Bits (Option (List ℕ))). answer.Stop f ≡ foretold true room o) (settled_is u few) (go (scan_of s r) e)
+    read_stop {f} g = subst⁻¹ (λ (o : Scanned Bits (math.Option (List ℕ))). Err (Broke f) ≡ foretold true room o) (settled_is u few) (go (scan_of s r) e)
       where
-        go : (o : Scanned Bits (List (List ℤ))) → x ≡ scan_read o → answer.Stop f ≡ foretold true room (settled_read (scan.plan_of s r) o)
+        go : (o : Scanned Bits (List (List ℤ))) → x ≡ scan_read o → Err (Broke f) ≡ foretold true room (settled_read (scan.plan_of s r) o)
         go (whole ls b) h = absurd (suc-ne-zero 0 cc)
-        go (broke k) h = let same : f ≡ k = cc in ap answer.Stop same
+        go (broke k) h = let same : f ≡ k = cc in ap (λ (w : Break). Err (Broke w)) same
 
-    pub read_done : x ≡ reads.Done → answer.Done room ≡ foretold true room (settled_of s r)
+    pub read_done : x ≡ Ok tt → Ok room ≡ foretold true room (settled_of s r)
     unfolding foretold scan_read
-    read_done g = subst⁻¹ (λ (o : Scanned Bits (Option (List ℕ))). answer.Done room ≡ foretold true room o) (settled_is u few) (go (scan_of s r) e)
+    read_done g = subst⁻¹ (λ (o : Scanned Bits (math.Option (List ℕ))). Ok room ≡ foretold true room o) (settled_is u few) (go (scan_of s r) e)
       where
-        go : (o : Scanned Bits (List (List ℤ))) → x ≡ scan_read o → answer.Done room ≡ foretold true room (settled_read (scan.plan_of s r) o)
+        go : (o : Scanned Bits (List (List ℤ))) → x ≡ scan_read o → Ok room ≡ foretold true room (settled_read (scan.plan_of s r) o)
         go (whole ls b) h = refl
         go (broke k) h = absurd (suc-ne-zero 0 cc)
 
 -- where it is measured
-pub foretold_measured : (t : Bool) (room : ℕ) (o : Scanned Bits (Option (List ℕ))) → t ≡ false → scan_settled o ≡ foretold t room o
+pub foretold_measured : (t : Bool) (room : ℕ) (o : Scanned Bits (math.Option (List ℕ))) → t ≡ false → scan_settled o ≡ foretold t room o
 unfolding foretold
 foretold_measured true room o e = absurd (suc-ne-zero 0 cc)
 foretold_measured false room o e = refl
 
 -- ---- what follows for the answer and the buffer
 
-module _ (old : List ℕ) (t : Bool) (o : Scanned Bits (Option (List ℕ))) {x : ScanSettled} (e : x ≡ foretold t (length old) o) where
-  pub told_stop : {f : Break} → x ≡ answer.Stop f → (answer.Stop f ≡ scan_settled o) × (old ≡ laid_over o old)
+module _ (old : List ℕ) (t : Bool) (o : Scanned Bits (math.Option (List ℕ))) {x : Result ℕ Unsettled} (e : x ≡ foretold t (length old) o) where
+  pub told_err : {u : Unsettled} → x ≡ Err u → (Err u ≡ scan_settled o) × (old ≡ laid_over o old)
   unfolding foretold scan_settled laid_over
-  told_stop {f} g = go t o e
+  told_err {u} g = go t o e
     where
-      go : (t : Bool) (o : Scanned Bits (Option (List ℕ))) → x ≡ foretold t (length old) o → (answer.Stop f ≡ scan_settled o) × (old ≡ laid_over o old)
-      go false o h = (sym g ∙ h, stays_stop o old h g)
+      go : (t : Bool) (o : Scanned Bits (math.Option (List ℕ))) → x ≡ foretold t (length old) o → (Err u ≡ scan_settled o) × (old ≡ laid_over o old)
+      go false o h = (sym g ∙ h, stays_err o old h g)
       go true (whole y b) h = absurd (suc-ne-zero 0 cc)
       go true (broke k) h = (sym g ∙ h, refl)
 
-  pub told_lacking : x ≡ answer.Lacking → (answer.Lacking ≡ scan_settled o) × (old ≡ laid_over o old)
-  unfolding foretold scan_settled laid_over
-  told_lacking g = go t o e
-    where
-      go : (t : Bool) (o : Scanned Bits (Option (List ℕ))) → x ≡ foretold t (length old) o → (answer.Lacking ≡ scan_settled o) × (old ≡ laid_over o old)
-      go false o h = (sym g ∙ h, stays_lacking o old h g)
-      go true (whole y b) h = absurd (suc-ne-zero 0 cc)
-      go true (broke k) h = absurd (suc-ne-zero 0 cc)
-
-  module _ {n : ℕ} (g : x ≡ answer.Done n) where
-    pub told_short : length old < n → (answer.Done n ≡ scan_settled o) × (old ≡ laid_over o old)
+  module _ {n : ℕ} (g : x ≡ Ok n) where
+    pub told_short : length old < n → (Ok n ≡ scan_settled o) × (old ≡ laid_over o old)
     unfolding foretold scan_settled laid_over
     told_short l = go t o e
       where
-        go : (t : Bool) (o : Scanned Bits (Option (List ℕ))) → x ≡ foretold t (length old) o → (answer.Done n ≡ scan_settled o) × (old ≡ laid_over o old)
+        go : (t : Bool) (o : Scanned Bits (math.Option (List ℕ))) → x ≡ foretold t (length old) o → (Ok n ≡ scan_settled o) × (old ≡ laid_over o old)
         go false o h = (sym g ∙ h, stays_short o old h g l)
         go true (whole y b) h = let same : n ≡ length old = cc in let y : ⊥ = omega arith in absurd y
         go true (broke k) h = absurd (suc-ne-zero 0 cc)
 
-    told_fits : n ≤ length old → (t ≡ true → Roomy o (length old)) → {y : ScanSettled} {new : List ℕ} → Passed o old y new → new ≡ laid_over o old
+    told_fits : n ≤ length old → (t ≡ true → Roomy o (length old)) → {y : Result ℕ Unsettled} {new : List ℕ} → Passed o old y new → new ≡ laid_over o old
     unfolding foretold scan_settled laid_over
     told_fits l room {y} {new} a = go t o e room a
       where
-        go : (t : Bool) (o : Scanned Bits (Option (List ℕ))) → x ≡ foretold t (length old) o → (t ≡ true → Roomy o (length old)) → Passed o old y new → new ≡ laid_over o old
+        go : (t : Bool) (o : Scanned Bits (math.Option (List ℕ))) → x ≡ foretold t (length old) o → (t ≡ true → Roomy o (length old)) → Passed o old y new → new ≡ laid_over o old
         go false o h q a = writes_all o old h g l a
         go true (whole none b) h q a = absurd (q refl)
         go true (whole (some k) b) h q a = writes_all (whole (some k) b) old refl refl (q refl) a
@@ -212,6 +203,6 @@ module _ (old : List ℕ) (t : Bool) (o : Scanned Bits (Option (List ℕ))) {x :
 
 -- what was foretold to fit is written
 module _ {s : List ℕ} {r : Record} {n : Plan} (u : Ready s r n) {ws : List ℕ} (w : ws ≡ sheet (take n.start s) (bases_of n)) (few : r.blocks < 2 ^ 32) (ab : AllBytes s) (old : List ℕ) where
-  pub sure_written : {x : ScanSettled} → x ≡ foretold (sure r ws (length s - n.start) (length old)) (length old) (settled_of s r) → {k : ℕ} → x ≡ answer.Done k → k ≤ length old
-      → {y : ScanSettled} {new : List ℕ} → Passed (settled_of s r) old y new → new ≡ laid_over (settled_of s r) old
+  pub sure_written : {x : Result ℕ Unsettled} → x ≡ foretold (sure r ws (length s - n.start) (length old)) (length old) (settled_of s r) → {k : ℕ} → x ≡ Ok k → k ≤ length old
+      → {y : Result ℕ Unsettled} {new : List ℕ} → Passed (settled_of s r) old y new → new ≡ laid_over (settled_of s r) old
   sure_written e g l a = told_fits old (sure r ws (length s - n.start) (length old)) (settled_of s r) e g l (sure_fits u w few ab (length old)) a

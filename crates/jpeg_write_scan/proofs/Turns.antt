@@ -306,3 +306,29 @@ module _ (p : ℤ) (l : List ℤ) (k run : ℕ) {t : Turn} {b : Bool} (full : 0 
 pub block_empty : (dc ac : List ℕ) (p : ℤ) (l : List ℤ) → length l ≡ 0 → block_by (coder_of dc) (coder_of ac) p l ≡ none
 block_empty dc ac p [] h = refl
 block_empty dc ac p (v ∷ l) h = let z : ⊥ = omega arith in absurd z
+
+-- one turn of the loop, behind the zeros at its place: where the block goes on, and what it writes before that
+pub record Goes (dc ac : List ℕ) (p : ℤ) (l : List ℤ) (k run : ℕ) (t : Turn) (w : ℕ) : Type 0 where
+  pub few : t.size ≤ 12
+  pub within : t.place ≤ length l
+  pub low : t.run ≤ t.place
+  pub less : 2 * (length l - t.place) + t.run < 2 * (length l - k) + run
+  pub same : onwards dc ac p l k run ≡ word_code w t.field t.size then onwards dc ac p l t.place t.run
+
+module _ (dc ac : List ℕ) (p : ℤ) (l : List ℤ) (k run : ℕ) {z : ℕ} (full : 0 < length l) (h : k ≤ length l) (low : run ≤ k) (e : z ≡ zeros_at l k) where
+  behind : Behind dc ac p l k run z
+  behind = zeros_behind dc ac p l k run h low e
+
+  pub goes : {t : Turn} {w : ℕ} → false ≡ over (length l) (k + z) (run + z) → t ≡ turn_at l p (k + z) (run + z) → w ≡ word_at dc ac (k + z) t.symbol → Goes dc ac p l k run t w
+  goes f g i =
+      let fits = turn_within p l (k + z) (run + z) full behind.low f refl g behind.within in
+      record {
+        few = fits.few;
+        within = fits.within;
+        low = fits.low;
+        less = omega (arith, fits.less, behind.less);
+        same = behind.same ∙ onwards_turn p l (k + z) (run + z) full behind.low f refl g dc ac behind.ready i;
+      }
+
+  pub ends : true ≡ over (length l) (k + z) (run + z) → onwards dc ac p l k run ≡ some []
+  ends f = behind.same ∙ onwards_over dc ac p l (k + z) (run + z) full (sym f)

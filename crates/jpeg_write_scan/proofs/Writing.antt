@@ -5,8 +5,7 @@ use mathlib.Core.List.{List, [], ◌++◌, append_assoc, append-nil}
 use mathlib.Core.Option.{none, some}
 use Rattle.reading.specs.Settled.{Written, ◌then◌}
 use Rattle.jpeg_write_bits.specs.declared.Pen.{Pen}
-use Rattle.jpeg_write_bits.specs.declared.Outcome.{Outcome}
-use Rattle.jpeg_write_bits.specs.declared.Outcome.TheVariants.{Done, Uncoded}
+use Rattle.std.specs.Prelude.{Option, Some, None}
 use Rattle.jpeg_write_bits.specs.Page.{Page, page, put_all, Proper, symbol_bits, Stroke, stroke, stroke_of}
 use Rattle.jpeg_write_bits.proofs.Bytes.{all_append, all_none}
 use Rattle.jpeg_write_bits.proofs.Symbols.{symbol_is, code_proper}
@@ -35,20 +34,20 @@ lacks_then b e = ap (λ (a : Written). a then b) e
 -- ---- what a writer answers
 
 module _ {w : Written} {q : Page} {out : List ℕ} where
-  pub is_done : {p : Pen} → Wrote w q (page out p) → Puts w q (Done p) out
+  pub is_done : {p : Pen} → Wrote w q (page out p) → Puts w q (Some p) out
   is_done g = record { told = g }
 
-  pub is_lack : w ≡ none → Puts w q Uncoded out
-  is_lack e = record { told = e }
+  pub is_lack : {r : Option Pen} → r ≡ None → w ≡ none → Puts w q r out
+  is_lack e f = subst⁻¹ (λ (r : Option Pen). Puts w q r out) e (record { told = f })
 
-  pub puts_done : {r : Outcome} {p : Pen} → Puts w q r out → r ≡ Done p → Wrote w q (page out p)
-  puts_done h e = subst (λ (r : Outcome). Told w q r out) e h.told
+  pub puts_done : {r : Option Pen} {p : Pen} → Puts w q r out → r ≡ Some p → Wrote w q (page out p)
+  puts_done h e = subst (λ (r : Option Pen). Told w q r out) e h.told
 
-  pub puts_lack : {r : Outcome} → Puts w q r out → r ≡ Uncoded → w ≡ none
-  puts_lack h e = subst (λ (r : Outcome). Told w q r out) e h.told
+  pub puts_lack : {r : Option Pen} → Puts w q r out → r ≡ None → w ≡ none
+  puts_lack h e = subst (λ (r : Option Pen). Told w q r out) e h.told
 
 -- a symbol with a field of at most 12 bits, by a proper pen
-pub puts_symbol : (p : Pen) (x field n : ℕ) (old : List ℕ) {r : Outcome} {new : List ℕ} → Proper p → n ≤ 12 → stroke r new ≡ stroke_of (symbol_bits p x field n) (page old p) → Puts (word_code x field n) (page old p) r new
+pub puts_symbol : (p : Pen) (x field n : ℕ) (old : List ℕ) {r : Option Pen} {new : List ℕ} → Proper p → n ≤ 12 → stroke r new ≡ stroke_of (symbol_bits p x field n) (page old p) → Puts (word_code x field n) (page old p) r new
 unfolding stroke_of
 puts_symbol p x field n old {r} {new} h l e =
     record { told = go (word_code x field n) refl (e ∙ ap (λ (w : Written). stroke_of w (page old p)) (symbol_is old p x field n h l)) }
@@ -93,5 +92,5 @@ module _ {t r : Written} {q₀ q : Page} (h : Onto t r q₀ q) where
   pub onto_lacks : r ≡ none → t ≡ none
   onto_lacks e = h.told ∙ ap (λ (r : Written). some h.done then r) e
 
-pub puts_as : {a b : Written} {q : Page} {r : Outcome} {out : List ℕ} → b ≡ a → Puts a q r out → Puts b q r out
+pub puts_as : {a b : Written} {q : Page} {r : Option Pen} {out : List ℕ} → b ≡ a → Puts a q r out → Puts b q r out
 puts_as {a} {b} {q} {r} {out} e h = subst (λ (w : Written). Puts w q r out) (sym e) h

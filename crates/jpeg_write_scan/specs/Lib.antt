@@ -3,4 +3,4 @@ pub mod Steps
 pub mod Join
 pub mod Sheets
 pub mod Pass
-pub mod WidePass
+pub mod Engines

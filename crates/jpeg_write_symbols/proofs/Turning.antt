@@ -1,18 +1,18 @@
 -- What stands next of a block, one law for each way through: the category of a value, the turn, and the loop that counts zeros.
-use Prim.Native.Nat.{ℕ, zero, suc, ◌+◌, ◌*◌, ◌-◌, ◌^◌, ◌<◌, ◌≤◌}
+use Prim.Native.Nat.{ℕ, zero, suc, ◌+◌, ◌*◌, ◌-◌, ◌^◌, ◌<◌, ◌≤◌, min}
 use mathlib.Core.Path.{◌≡◌, refl, sym, ap, ◌∙◌, subst}
 use mathlib.Core.Bool.{Bool, true, false, cond}
-use mathlib.Core.List.{List, ◌∷◌}
+use mathlib.Core.List.{List, [], ◌∷◌}
 use native.Mathlib.Omega.{arith}
-use native.Mathlib.Numerals.{add-one}
-use native.Mathlib.Nat.{le_trans, add-zero}
-use lib.Dec.{ltb, leb}
-use lib.IntN.{ℤ, pos, nat_abs}
-use lib.ListN.{length, get_or, drop, drop_of_length-le}
+use native.Mathlib.Nat.{le_trans}
+use lib.Dec.{eqb, ltb, leb}
+use lib.IntN.{ℤ, nat_abs}
+use lib.ListN.{length, take, drop, drop_of_length-le}
 use lib.Pow.{pow_mono}
 use lib.Count.{count_leading_zeros, leading_length}
-use lib.Seq.{drop-cons}
-use borrow.Author.Tests.{eq-eqb, ne_eqb, le-ltb, le-leb, lt-leb, ltb-true, ltb-false, leb-true, leb-false}
+use Rattle.std.specs.List.{prefix_len}
+use Rattle.std.proofs.lemmas.List.Folds.{length-prefix_len}
+use borrow.Author.Tests.{le-ltb, le-leb, lt-leb, ltb-true, ltb-false, leb-true, leb-false}
 use Rattle.whole.specs.Powers.{twice_pow}
 use Rattle.reading.specs.Settled.{size_from, field_of}
 use Rattle.jpeg_write_symbols.specs.declared.Turn.{Turn}
@@ -58,26 +58,23 @@ size_over (suc fuel) n m h =
     there : n + suc fuel ≡ suc n + fuel
     there = omega arith
 
-pub category_low : (m : ℕ) → m < 4096 → 64 - count_leading_zeros 64 m ≡ category_of m
+-- a number's length in bits is its smallest category, up to 12
+pub category_is : (m : ℕ) {n : ℕ} → m < 18446744073709551616 → n ≡ min (64 - count_leading_zeros 64 m) 12 → n ≡ category_of m
 unfolding category_of
-category_low m h = go (leading_length 64 m (omega arith))
+category_is m {n} h e = go (leading_length 64 m h)
   where
-    go : (k : ℕ) × (count_leading_zeros 64 m + k ≡ 64) × (m < 2 ^ k) × (2 ^ k ≤ 2 * m + 1) → 64 - count_leading_zeros 64 m ≡ size_from 12 0 m
-    go s = is ∙ sym (size_length 12 0 m s.0 (omega arith) few s.2 s.3)
+    go : (k : ℕ) × (count_leading_zeros 64 m + k ≡ 64) × (m < 2 ^ k) × (2 ^ k ≤ 2 * m + 1) → n ≡ size_from 12 0 m
+    go s = at (leb s.0 12) refl
       where
-        is : 64 - count_leading_zeros 64 m ≡ s.0
-        is = omega (arith, s.1)
-
-        few : s.0 ≤ 12
-        few = at (leb s.0 12) refl
-          where
-            at : (t : Bool) → leb s.0 12 ≡ t → s.0 ≤ 12
-            at true e = leb-true s.0 12 e
-            at false e = let z : ⊥ = omega (arith, pow_mono {i = 13} {j = s.0} (leb-false s.0 12 e), s.3) in absurd z
-
-pub category_high : (m : ℕ) → 4096 ≤ m → 12 ≡ category_of m
-unfolding category_of
-category_high m h = sym (size_over 12 0 m h)
+        at : (t : Bool) → leb s.0 12 ≡ t → n ≡ size_from 12 0 m
+        at true f =
+            let low : s.0 ≤ 12 = leb-true s.0 12 f in
+            let is : n ≡ s.0 = omega (arith, s.1, e) in
+            is ∙ sym (size_length 12 0 m s.0 (omega arith) low s.2 s.3)
+        at false f =
+            let high : 13 ≤ s.0 = leb-false s.0 12 f in
+            let is : n ≡ 12 = omega (arith, s.1, e) in
+            is ∙ sym (size_over 12 0 m (omega (arith, pow_mono {i = 13} {j = s.0} high, s.3)))
 
 -- ---- the turns
 
@@ -103,39 +100,25 @@ module _ (l : List ℤ) (p : ℤ) (k run : ℕ) where
 
 -- ---- zeros
 
--- the loop that counts them, in the code's terms
-module _ (l : List ℤ) (k j : ℕ) (a : k ≤ j) (same : zeros_at l k ≡ j - k + zeros_of (drop j l)) where
-  pub zeros_past : length l ≤ j → j - k ≡ zeros_at l k
-  unfolding zeros_of
-  zeros_past h = sym (same ∙ ap (λ m. j - k + zeros_of m) (drop_of_length-le l h) ∙ add-zero (j - k))
-
-  module _ (h : j < length l) where
-    here : drop j l ≡ get_or l j (pos 0) ∷ drop (suc j) l
-    here = drop-cons l j (pos 0) h
-
-    pub zeros_end : (nat_abs (get_or l j (pos 0)) ≡ 0 → ⊥) → j - k ≡ zeros_at l k
-    unfolding zeros_of
-    zeros_end e = sym (same ∙ ap (λ m. j - k + zeros_of m) here ∙ ap (λ t. j - k + cond t (suc (zeros_of (drop (suc j) l))) 0) (ne_eqb (nat_abs (get_or l j (pos 0))) 0 e) ∙ add-zero (j - k))
-
-    pub zeros_more : nat_abs (get_or l j (pos 0)) ≡ 0 → zeros_at l k ≡ j + 1 - k + zeros_of (drop (j + 1) l)
-    unfolding zeros_of
-    zeros_more e =
-        same ∙ ap (λ m. j - k + zeros_of m) here
-        ∙ ap (λ t. j - k + cond t (suc (zeros_of (drop (suc j) l))) 0) (eq-eqb (nat_abs (get_or l j (pos 0))) 0 e)
-        ∙ one_more (zeros_of (drop (suc j) l))
-        ∙ ap (λ n. j + 1 - k + zeros_of (drop n l)) (sym (add-one j))
-      where
-        one_more : (n : ℕ) → j - k + suc n ≡ j + 1 - k + n
-        one_more n = omega arith
+zeros_prefix : (l : List ℤ) → prefix_len (λ v. eqb (nat_abs v) 0) l ≡ zeros_of l
+unfolding zeros_of
+zeros_prefix [] = refl
+zeros_prefix (v ∷ l) = ap (λ n. cond (eqb (nat_abs v) 0) n 0) (one_more (prefix_len (λ v. eqb (nat_abs v) 0) l) ∙ ap suc (zeros_prefix l))
+  where
+    one_more : (n : ℕ) → 1 + n ≡ suc n
+    one_more n = omega arith
 
 pub zeros_first : (l : List ℤ) (k : ℕ) → k ≡ 0 → 0 ≡ zeros_at l k
 unfolding zeros_at
 zeros_first l k e = rw e
 
-pub zeros_start : (l : List ℤ) (k : ℕ) → (k ≡ 0 → ⊥) → zeros_at l k ≡ k - k + zeros_of (drop k l)
+pub zeros_past : (l : List ℤ) (k : ℕ) → length l ≤ k → 0 ≡ zeros_at l k
+unfolding zeros_at zeros_of
+zeros_past l zero h = refl
+zeros_past l (suc k) h = rw (drop_of_length-le l h)
+
+-- those that pass the test from the place on
+pub zeros_counted : (l : List ℤ) (k : ℕ) {n : ℕ} → (k ≡ 0 → ⊥) → n ≡ length (take (prefix_len (λ v. eqb (nat_abs v) 0) (drop k l)) (drop k l)) → n ≡ zeros_at l k
 unfolding zeros_at
-zeros_start l zero e = absurd (e refl)
-zeros_start l (suc k) e = none (zeros_of (drop (suc k) l))
-  where
-    none : (n : ℕ) → n ≡ suc k - suc k + n
-    none n = omega arith
+zeros_counted l zero f e = absurd (f refl)
+zeros_counted l (suc k) f e = e ∙ length-prefix_len (λ v. eqb (nat_abs v) 0) (drop (suc k) l) ∙ zeros_prefix (drop (suc k) l)

@@ -4,19 +4,18 @@ use mathlib.Core.Path.{◌≡◌, sym, ◌∙◌, ap}
 use mathlib.Core.List.{List}
 use lib.Dec.{leb, leb→le}
 use Rattle.reading.specs.declared.Bits.{Bits}
-use Rattle.reading.specs.declared.BitRead.{BitRead}
-use Rattle.reading.specs.declared.BitRead.TheVariants as bit
-use Rattle.reading.specs.declared.NumberRead.{NumberRead}
-use Rattle.reading.specs.declared.NumberRead.TheVariants as number
+use Rattle.std.specs.declared.result.Result.{Result}
+use Rattle.std.specs.declared.result.Result.TheVariants.{Ok}
+use Rattle.reading.specs.declared.Fault.{Fault}
 use Rattle.reading.specs.Reader.{got, rule}
 use Rattle.reading.specs.Bits.{one, field}
 use Rattle.reading.specs.Code.Fields.{short_field}
-use Rattle.reading.specs.Code.Answers.{bit_read, number_read}
+use Rattle.reading.specs.Code.Answers.{read_of}
 use Rattle.reading.proofs.Readings.{two, rule_so}
 use Rattle.reading.proofs.FineRead.{file_bits, field_below}
 
-pub bit_below : (s : List ℕ) (b : Bits) {r : BitRead} → bit_read r ≡ one s b → {c : ℕ} {p : Bits} → r ≡ bit.Got c p → c < 2
-bit_below s b e {c} {p} g = file_bits s b p c (sym e ∙ ap bit_read g)
+pub bit_below : (s : List ℕ) (b : Bits) {r : Result (ℕ × Bits) Fault} → read_of r ≡ one s b → {c : ℕ} {p : Bits} → r ≡ Ok (c, p) → c < 2
+bit_below s b e {c} {p} g = file_bits s b p c (sym e ∙ ap read_of g)
 
 -- what is known of a field that was read
 pub record Sized (v n : ℕ) : Type 0 where
@@ -32,5 +31,5 @@ field_sized s b n {v} {q} e =
       below = field_below (one s) (file_bits s) n w.at q v w.snd;
     }
 
-pub read_sized : (s : List ℕ) (b : Bits) (n : ℕ) {r : NumberRead} → number_read r ≡ short_field (one s) n b → {v : ℕ} {q : Bits} → r ≡ number.Got v q → Sized v n
-read_sized s b n e g = field_sized s b n (sym e ∙ ap number_read g)
+pub read_sized : (s : List ℕ) (b : Bits) (n : ℕ) {r : Result (ℕ × Bits) Fault} → read_of r ≡ short_field (one s) n b → {v : ℕ} {q : Bits} → r ≡ Ok (v, q) → Sized v n
+read_sized s b n e g = field_sized s b n (sym e ∙ ap read_of g)

@@ -16,10 +16,10 @@ use Rattle.reading.specs.declared.Budget.{Budget}
 use Rattle.reading.specs.declared.Header.{Header}
 use Rattle.reading.specs.declared.Limits.{Limits}
 use Rattle.reading.specs.declared.Part.{Part}
-use Rattle.reading.specs.declared.Sought.{Sought}
-use Rattle.reading.specs.declared.Sought.TheVariants.{Absent, There}
-use Rattle.reading.specs.declared.Verdict.{Verdict}
-use Rattle.reading.specs.declared.Verdict.TheVariants.{Accepted, Refused}
+use Rattle.std.specs.declared.option.Option.{Option}
+use Rattle.std.specs.declared.option.Option.TheVariants.{None, Some}
+use Rattle.reading.specs.Verdicts.{Verdict}
+use Rattle.std.specs.declared.result.Result.TheVariants.{Ok, Err}
 use Rattle.reading.specs.Tests.{◌and◌, ◌or◌}
 use Rattle.reading.specs.Header.{Stage, more, done, stop, byte, word, window, kind_of, segment, segment_end, step_in, step, started}
 use Rattle.reading.specs.Reading.{Reading, accepted, refused, reading}
@@ -125,9 +125,9 @@ comment_within s i = part_in_within s i (reading s false)
 
 -- ---- which comments are there
 
-abbrev pub is_there : Sought → Bool
-is_there Absent = false
-is_there (There p) = true
+abbrev pub is_there : Option Part → Bool
+is_there None = false
+is_there (Some p) = true
 
 pub sought_there : (ps : List Part) (i : ℕ) → is_there (sought ps i) ≡ ltb i (length ps)
 sought_there [] i = sym (le-ltb i 0 zero-le)
@@ -143,15 +143,15 @@ sought_there (p ∷ ps) (suc i) = sought_there ps i ∙ one_more i (length ps)
 
 -- ---- what has_comment answers
 
-there_so : (v : Verdict) (i n : ℕ) → (is_accepted v and ltb i n) ≡ true ↔ (v ≡ Accepted) × (i < n)
-there_so Accepted i n = (λ e. (refl, ltb-true i n e), λ k. lt-ltb i n k.1)
-there_so (Refused x) i n = (λ e. absurd (subst⁻¹ T e tt), λ k. absurd (subst (λ v. T (cond (is_accepted v) false true)) k.0 tt))
+there_so : (v : Verdict) (i n : ℕ) → (is_accepted v and ltb i n) ≡ true ↔ (v ≡ Ok tt) × (i < n)
+there_so (Ok u) i n = (λ e. (refl, ltb-true i n e), λ k. lt-ltb i n k.1)
+there_so (Err x) i n = (λ e. absurd (subst⁻¹ T e tt), λ k. absurd (subst (λ v. T (cond (is_accepted v) false true)) k.0 tt))
 
 module _ (s : List ℕ) (i : ℕ) (l : Limits) (budget : Budget) where
   pub has_comment_inspects : ((has_comment s i l budget).verdict ≡ (inspect s false l budget).verdict) × ((has_comment s i l budget).budget ≡ (inspect s false l budget).budget)
   unfolding has_comment
   has_comment_inspects = (refl, refl)
 
-  pub has_comment_there : (has_comment s i l budget).there ≡ true ↔ ((inspect s false l budget).verdict ≡ Accepted) × (i < length (comments s))
+  pub has_comment_there : (has_comment s i l budget).there ≡ true ↔ ((inspect s false l budget).verdict ≡ Ok tt) × (i < length (comments s))
   unfolding has_comment
   has_comment_there = there_so (inspect s false l budget).verdict i (length (comments s))

@@ -21,8 +21,8 @@ use Rattle.reading.specs.declared.Limits.{Limits}
 use Rattle.reading.specs.declared.Record.{Record}
 use Rattle.reading.specs.declared.Refusal.{Refusal}
 use Rattle.reading.specs.declared.Refusal.TheVariants.{OverBudget, ShortRoom, NotItsRecord}
-use Rattle.reading.specs.declared.Verdict.{Verdict}
-use Rattle.reading.specs.declared.Verdict.TheVariants.{Accepted, Refused}
+use Rattle.reading.specs.Verdicts.{Verdict}
+use Rattle.std.specs.declared.result.Result.TheVariants.{Ok, Err}
 use Rattle.reading.specs.Tests.{over}
 use Rattle.reading.specs.Layout.{Shape, channels_in, output_length}
 use Rattle.reading.specs.Tables.{shape_of}
@@ -115,8 +115,8 @@ module _ (s : List ℕ) (r : Record) (out scratch : List ℕ) (budget : Budget) 
       (λ t. charged Way price OverBudget budget _ (poor (roomy t)) (λ u. record_way (roomy t) u (reading s r.colour) refl))
 
   abbrev pub Says : Verdict → Decoded → Type 0
-  Says Accepted d = Drawn d
-  Says (Refused x) d = Untouched d
+  Says (Ok u) d = Drawn d
+  Says (Err x) d = Untouched d
 
   abbrev said : Decoded → Type 0
   said d = Says d.answer.verdict d
@@ -134,15 +134,15 @@ module _ (s : List ℕ) (r : Record) (out scratch : List ℕ) (budget : Budget) 
   -- ---- accepted, and 8: both ways
 
   abbrev is_refused : Verdict → Type 0
-  is_refused Accepted = ⊥
-  is_refused (Refused x) = Unit {0}
+  is_refused (Ok u) = ⊥
+  is_refused (Err x) = Unit {0}
 
   -- Accepted exactly when room and budget suffice and the reading accepts with this very record
-  pub decode_accepts : (decode s r out scratch budget).answer.verdict ≡ Accepted ↔ Roomy r out scratch × (price ≤ budget.left) × ItsRecord
+  pub decode_accepts : (decode s r out scratch budget).answer.verdict ≡ Ok tt ↔ Roomy r out scratch × (price ≤ budget.left) × ItsRecord
   unfolding decode
   decode_accepts = go (decoding s r out scratch budget) way
     where
-      go : (m : Judged (List (List ℤ))) → Way m → (decoded s r out scratch m).answer.verdict ≡ Accepted ↔ Roomy r out scratch × (price ≤ budget.left) × ItsRecord
+      go : (m : Judged (List (List ℤ))) → Way m → (decoded s r out scratch m).answer.verdict ≡ Ok tt ↔ Roomy r out scratch × (price ≤ budget.left) × ItsRecord
       go m (short n) = (λ v. absurd (subst is_refused v tt), λ k. absurd (n k.0))
       go m (poor a p) = (λ v. absurd (subst is_refused v tt), λ k. let z : ⊥ = omega (arith, p, k.1) in absurd z)
       go m (other a p n) = (λ v. absurd (subst is_refused v tt), λ k. absurd (n k.2))
@@ -152,36 +152,36 @@ module _ (s : List ℕ) (r : Record) (out scratch : List ℕ) (budget : Budget) 
   numbered n v = T (eqb (number v) n)
 
   -- 7 exactly when a buffer is too short
-  pub decode_seven : (decode s r out scratch budget).answer.verdict ≡ Refused ShortRoom ↔ Not (Roomy r out scratch)
+  pub decode_seven : (decode s r out scratch budget).answer.verdict ≡ Err ShortRoom ↔ Not (Roomy r out scratch)
   unfolding decode
   decode_seven = go (decoding s r out scratch budget) way
     where
-      go : (m : Judged (List (List ℤ))) → Way m → (decoded s r out scratch m).answer.verdict ≡ Refused ShortRoom ↔ Not (Roomy r out scratch)
+      go : (m : Judged (List (List ℤ))) → Way m → (decoded s r out scratch m).answer.verdict ≡ Err ShortRoom ↔ Not (Roomy r out scratch)
       go m (short n) = (λ v. n, λ k. refl)
       go m (poor a p) = (λ v. absurd (subst⁻¹ (numbered 7) v tt), λ k. absurd (k a))
       go m (other a p n) = (λ v. absurd (subst⁻¹ (numbered 7) v tt), λ k. absurd (k a))
       go m (its ls a p e) = (λ v. absurd (subst⁻¹ (numbered 7) v tt), λ k. absurd (k a))
 
   -- 2 exactly when there is room and the budget is below the price
-  pub decode_two : (decode s r out scratch budget).answer.verdict ≡ Refused OverBudget ↔ Roomy r out scratch × (budget.left < price)
+  pub decode_two : (decode s r out scratch budget).answer.verdict ≡ Err OverBudget ↔ Roomy r out scratch × (budget.left < price)
   unfolding decode
   decode_two = go (decoding s r out scratch budget) way
     where
-      go : (m : Judged (List (List ℤ))) → Way m → (decoded s r out scratch m).answer.verdict ≡ Refused OverBudget ↔ Roomy r out scratch × (budget.left < price)
+      go : (m : Judged (List (List ℤ))) → Way m → (decoded s r out scratch m).answer.verdict ≡ Err OverBudget ↔ Roomy r out scratch × (budget.left < price)
       go m (short n) = (λ v. absurd (subst⁻¹ (numbered 2) v tt), λ k. absurd (n k.0))
       go m (poor a p) = (λ v. (a, p), λ k. refl)
       go m (other a p n) = (λ v. absurd (subst⁻¹ (numbered 2) v tt), λ k. let z : ⊥ = omega (arith, p, k.1) in absurd z)
       go m (its ls a p e) = (λ v. absurd (subst⁻¹ (numbered 2) v tt), λ k. let z : ⊥ = omega (arith, p, k.1) in absurd z)
 
   -- 8 exactly when room and budget suffice and it does not
-  pub decode_eight : (decode s r out scratch budget).answer.verdict ≡ Refused NotItsRecord ↔ Roomy r out scratch × (price ≤ budget.left) × Not ItsRecord
+  pub decode_eight : (decode s r out scratch budget).answer.verdict ≡ Err NotItsRecord ↔ Roomy r out scratch × (price ≤ budget.left) × Not ItsRecord
   unfolding decode
   decode_eight = go (decoding s r out scratch budget) way
     where
       go :
           (m : Judged (List (List ℤ)))
           → Way m
-          → (decoded s r out scratch m).answer.verdict ≡ Refused NotItsRecord ↔ Roomy r out scratch × (price ≤ budget.left) × Not ItsRecord
+          → (decoded s r out scratch m).answer.verdict ≡ Err NotItsRecord ↔ Roomy r out scratch × (price ≤ budget.left) × Not ItsRecord
       go m (short n) = (λ v. absurd (subst⁻¹ (numbered 8) v tt), λ k. absurd (n k.0))
       go m (poor a p) = (λ v. absurd (subst⁻¹ (numbered 8) v tt), λ k. let z : ⊥ = omega (arith, p, k.1) in absurd z)
       go m (other a p n) = (λ v. (a, p, n), λ k. refl)
@@ -201,7 +201,7 @@ module _ (s : List ℕ) (r : Record) (out scratch : List ℕ) (budget : Budget) 
   pub decode_draws :
       (ls : List (List ℤ))
       → reading s r.colour ≡ accepted r ls
-      → (decode s r out scratch budget).answer.verdict ≡ Accepted
+      → (decode s r out scratch budget).answer.verdict ≡ Ok tt
       → ((decode s r out scratch budget).scratch ≡ over (samples_of s r ls) scratch) × ((decode s r out scratch budget).output ≡ over (picture_of r (samples_of s r ls)) out)
   decode_draws ls e v =
       let k = decode_accepts.0 v in
@@ -210,18 +210,18 @@ module _ (s : List ℕ) (r : Record) (out scratch : List ℕ) (budget : Budget) 
 
   -- ---- as a reader meets it
 
-  pub decode_accepted : (decode s r out scratch budget).answer.verdict ≡ Accepted → Drawn (decode s r out scratch budget)
+  pub decode_accepted : (decode s r out scratch budget).answer.verdict ≡ Ok tt → Drawn (decode s r out scratch budget)
   decode_accepted e = subst (λ v. Says v (decode s r out scratch budget)) e decode_says
 
-  pub decode_refused : (x : Refusal) → (decode s r out scratch budget).answer.verdict ≡ Refused x → Untouched (decode s r out scratch budget)
+  pub decode_refused : (x : Refusal) → (decode s r out scratch budget).answer.verdict ≡ Err x → Untouched (decode s r out scratch budget)
   decode_refused x e = subst (λ v. Says v (decode s r out scratch budget)) e decode_says
 
   pub decode_taken : ((decode s r out scratch budget).answer.budget ≡ budget) ⊎ ((price ≤ budget.left) × ((decode s r out scratch budget).answer.budget ≡ remaining budget price))
   decode_taken = go (decode s r out scratch budget) (decode s r out scratch budget).answer.verdict decode_says
     where
       go : (d : Decoded) (v : Verdict) → Says v d → (d.answer.budget ≡ budget) ⊎ ((price ≤ budget.left) × (d.answer.budget ≡ remaining budget price))
-      go d Accepted w = inr (w.paid, w.left)
-      go d (Refused x) w = w.left
+      go d (Ok u) w = inr (w.paid, w.left)
+      go d (Err x) w = w.left
 
   -- the samples are as many as the record says
   pub drawn_counted : AllBytes s → (ls : List (List ℤ)) → reading s r.colour ≡ accepted r ls → length (samples_of s r ls) ≡ r.scratch
@@ -239,11 +239,11 @@ module _ (s : List ℕ) (r : Record) (out scratch : List ℕ) (budget : Budget) 
   decode_lengths y = go (decode s r out scratch budget) (decode s r out scratch budget).answer.verdict decode_says
     where
       go : (d : Decoded) (v : Verdict) → Says v d → (length d.output ≡ length out) × (length d.scratch ≡ length scratch)
-      go d Accepted w = (
+      go d (Ok u) w = (
         ap length w.picture_is ∙ over_length (picture_of r (samples_of s r w.blocks)) out (omega (arith, picture_counted y w.blocks w.read (samples_of s r w.blocks), w.room.0)),
         ap length w.samples_are ∙ over_length (samples_of s r w.blocks) scratch (omega (arith, drawn_counted y w.blocks w.read, w.room.1)),
       )
-      go d (Refused x) w = (ap length w.output, ap length w.scratch_is)
+      go d (Err x) w = (ap length w.output, ap length w.scratch_is)
 
 -- ---- behind inspect
 
@@ -256,10 +256,10 @@ choice_is s colour r (ls, e) =
 -- what inspect accepts decode accepts with the record that inspect gave
 pub inspected_decodes :
     (s : List ℕ) (colour : Bool) (l : Limits) (budget : Budget) (r : Record) (out scratch : List ℕ) (budget' : Budget)
-    → ((inspect s colour l budget).verdict ≡ Accepted) × ((inspect s colour l budget).found ≡ r)
+    → ((inspect s colour l budget).verdict ≡ Ok tt) × ((inspect s colour l budget).found ≡ r)
     → Roomy r out scratch
     → header_price s + r.work ≤ budget'.left
-    → (decode s r out scratch budget').answer.verdict ≡ Accepted
+    → (decode s r out scratch budget').answer.verdict ≡ Ok tt
 inspected_decodes s colour l budget r out scratch budget' v room paid =
     let reads = ((inspect_accepts s colour l budget r).0 v).0 in
     (decode_accepts s r out scratch budget').1 (room, paid, subst⁻¹ (λ c. ReadsAs s c r) (choice_is s colour r reads) reads)

@@ -13,8 +13,8 @@ use Rattle.reading.specs.declared.Kind.{Kind}
 use Rattle.reading.specs.declared.Kind.TheVariants.{Quants, Tables, Frames, Scans, Intervals, Skips, Others}
 use Rattle.reading.specs.declared.Header.{Header}
 use Rattle.reading.specs.declared.Record.{Record}
-use Rattle.reading.specs.declared.Verdict.{Verdict}
-use Rattle.reading.specs.declared.Verdict.TheVariants.{Accepted, Refused}
+use Rattle.std.specs.declared.result.Result.{Result}
+use Rattle.std.specs.declared.result.Result.TheVariants.{Ok, Err}
 use Rattle.reading.specs.Header.{Stage, more, done, stop, stop_if, byte, window, kind_of, segment, segment_end, step_in, opening, opens, started, header}
 use Rattle.reading.specs.Code.Heads.{headed}
 use Rattle.reading.proofs.Stages.{steps_hold}
@@ -63,15 +63,15 @@ module _ (s : List ℕ) (colour : Bool) where
   unfolding header
   header_numbered = steps_hold s colour Numbered (λ h _. step_numbered h h.case) (2 * length s + 1) (started s) (test (not (opens s)) _ _ malformed (on opening))
 
--- what a verdict says of its number
-abbrev numbered : Verdict → Type 0
-numbered Accepted = Unit {0}
-numbered (Refused x) = OfHeader x
+-- what an answer says of its number
+abbrev numbered : Result Record Refusal → Type 0
+numbered (Ok u) = Unit {0}
+numbered (Err x) = OfHeader x
 
-stage_numbered : (st : Stage) → Numbered st → numbered (headed st).verdict
+stage_numbered : (st : Stage) → Numbered st → numbered (headed st)
 stage_numbered st (on h) = cut_short
 stage_numbered st (met r) = tt
 stage_numbered st (off x o) = o
 
-pub header_number : (s : List ℕ) (colour : Bool) (x : Refusal) → (headed (header s colour)).verdict ≡ Refused x → OfHeader x
+pub header_number : (s : List ℕ) (colour : Bool) (x : Refusal) → headed (header s colour) ≡ Err x → OfHeader x
 header_number s colour x e = subst numbered e (stage_numbered (header s colour) (header_numbered s colour))

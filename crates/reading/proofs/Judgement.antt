@@ -23,8 +23,8 @@ use Rattle.reading.specs.declared.Limits.{Limits}
 use Rattle.reading.specs.declared.Record.{Record}
 use Rattle.reading.specs.declared.Refusal.{Refusal}
 use Rattle.reading.specs.declared.Refusal.TheVariants.{TooLong, OverBudget, CutShort, TooLarge, WorkOverBudget, Scan}
-use Rattle.reading.specs.declared.Verdict.{Verdict}
-use Rattle.reading.specs.declared.Verdict.TheVariants.{Accepted, Refused}
+use Rattle.std.specs.declared.result.Result.{Result}
+use Rattle.std.specs.declared.result.Result.TheVariants.{Ok, Err}
 use Rattle.reading.specs.Header.{Stage, more, done, stop, header, ending}
 use Rattle.reading.specs.Code.Heads.{headed}
 use Rattle.reading.specs.Scan.{Scanned, whole, broke, levels}
@@ -57,7 +57,7 @@ module _ {B : Type 0} (P : Judged B → Type 0) where
 
   pub ended :
       (st : Stage) (b : Budget) (k : Record → Judging B)
-      → ((x : Refusal) → (headed st).verdict ≡ Refused x → P (refuses x b))
+      → ((x : Refusal) → headed st ≡ Err x → P (refuses x b))
       → ((r : Record) → st ≡ done r → P (k r b))
       → P (onward (ending give refuse st b) k)
   ended (more h) b k f g = f CutShort refl
@@ -141,7 +141,7 @@ module _ (s : List ℕ) (colour : Bool) (l : Limits) (budget : Budget) where
   pub data Way : Judged Record → Type 0 where
     long : too_long s l ≡ true → Way (refuses TooLong budget)
     poor : too_long s l ≡ false → budget.left < header_price s → Way (refuses OverBudget budget)
-    headless : (x : Refusal) → Begun s l budget → (headed (header s colour)).verdict ≡ Refused x → Way (refuses x behind_header)
+    headless : (x : Refusal) → Begun s l budget → headed (header s colour) ≡ Err x → Way (refuses x behind_header)
     large : (r : Record) → Begun s l budget → header s colour ≡ done r → too_large l r ≡ true → Way (refuses TooLarge behind_header)
     poor_for_work :
         (r : Record)
@@ -175,9 +175,9 @@ module _ (s : List ℕ) (colour : Bool) (l : Limits) (budget : Budget) where
           let worked = le-ltb (budget.left - header_price s) r.work (omega (arith, h.price)) in
           rw (short_enough s l h.input h.counted, read, e, small_enough l r h.sizes, worked) refl
 
-  abbrev is_refused : Verdict → Type 0
-  is_refused Accepted = ⊥
-  is_refused (Refused x) = Unit {0}
+  abbrev is_refused : {A : Type 0} → Result A Refusal → Type 0
+  is_refused (Ok u) = ⊥
+  is_refused (Err x) = Unit {0}
 
   begun : Begun s l budget → admission s colour l budget ≡ onward (ending give refuse (header s colour) behind_header) (weighing l)
   begun a = rw (short_enough s l a.input a.counted, le-ltb budget.left (header_price s) a.paid) refl
@@ -188,7 +188,7 @@ module _ (s : List ℕ) (colour : Bool) (l : Limits) (budget : Budget) where
   way_back m (poor a p) = rw (a, lt-ltb budget.left (header_price s) p) refl
   way_back m (headless x a e) = begun a ∙ go (header s colour) e
     where
-      go : (st : Stage) → (headed st).verdict ≡ Refused x → onward (ending give refuse st behind_header) (weighing l) ≡ refuses x behind_header
+      go : (st : Stage) → headed st ≡ Err x → onward (ending give refuse st behind_header) (weighing l) ≡ refuses x behind_header
       go (more h) v = let same : CutShort ≡ x = cc in ap (λ y. refuses y behind_header) same
       go (done r) v = absurd (subst⁻¹ is_refused v tt)
       go (stop y) v = let same : y ≡ x = cc in ap (λ y. refuses y behind_header) same
@@ -234,7 +234,7 @@ module _ (s : List ℕ) (colour : Bool) (l : Limits) (budget : Budget) where
       (r : Record) (ls : List (List ℤ))
       → reading s colour ≡ accepted r ls
       → Enough s r l budget
-      → inspect s colour l budget ≡ record { verdict = Accepted; budget = behind_work r; found = r }
+      → inspect s colour l budget ≡ record { verdict = Ok tt; budget = behind_work r; found = r }
   unfolding inspect
   inspects r ls e h = ap found_in (judges r ls e h)
 
@@ -248,26 +248,26 @@ module _ (s : List ℕ) (colour : Bool) (l : Limits) (budget : Budget) where
     pub enough : Enough s a.found l budget
     pub left : a.budget ≡ behind_work a.found
 
-  pub inspect_accepted : (inspect s colour l budget).verdict ≡ Accepted → Inspected (inspect s colour l budget)
+  pub inspect_accepted : (inspect s colour l budget).verdict ≡ Ok tt → Inspected (inspect s colour l budget)
   unfolding inspect
   inspect_accepted v = go (judgement s colour l budget) judged v
     where
-      go : (m : Judged ReadFile) → Judges m → (found_in m).verdict ≡ Accepted → Inspected (found_in m)
+      go : (m : Judged ReadFile) → Judges m → (found_in m).verdict ≡ Ok tt → Inspected (found_in m)
       go m (stopped x b w) v = absurd (subst is_refused v tt)
       go m (broken r f e h w) v = absurd (subst is_refused v tt)
       go m (through r ls q e h w) v = record { blocks = ls; head = e; behind = q; scan = w; read = rw (e, w) refl; enough = h; left = refl }
 
   -- accepted with this record exactly when the reading is, and limits and budget are enough for it
-  pub inspect_accepts : (r : Record) → ((inspect s colour l budget).verdict ≡ Accepted) × ((inspect s colour l budget).found ≡ r) ↔ ReadsAs s colour r × Enough s r l budget
+  pub inspect_accepts : (r : Record) → ((inspect s colour l budget).verdict ≡ Ok tt) × ((inspect s colour l budget).found ≡ r) ↔ ReadsAs s colour r × Enough s r l budget
   inspect_accepts r =
       (so, back)
     where
-      so : ((inspect s colour l budget).verdict ≡ Accepted) × ((inspect s colour l budget).found ≡ r) → ReadsAs s colour r × Enough s r l budget
+      so : ((inspect s colour l budget).verdict ≡ Ok tt) × ((inspect s colour l budget).found ≡ r) → ReadsAs s colour r × Enough s r l budget
       so (v, e) =
           let a = inspect_accepted v in
           subst (λ (q : Record). ReadsAs s colour q × Enough s q l budget) e ((a.blocks, a.read), a.enough)
 
-      back : ReadsAs s colour r × Enough s r l budget → ((inspect s colour l budget).verdict ≡ Accepted) × ((inspect s colour l budget).found ≡ r)
+      back : ReadsAs s colour r × Enough s r l budget → ((inspect s colour l budget).verdict ≡ Ok tt) × ((inspect s colour l budget).found ≡ r)
       back k =
           let w = inspects r k.0.0 k.0.1 k.1 in
           (ap (λ (i : Inspection). i.verdict) w, ap (λ (i : Inspection). i.found) w)

@@ -1,9 +1,12 @@
 -- Laws of the MCUs of a side: for a frame's numbers they are the rules' own.
 use mathlib.Core.Path.{◌≡◌, refl, sym, ◌∙◌, subst⁻¹}
 use mathlib.Core.Bool.{Bool, true, false, not}
-use Prim.Native.Nat.{ℕ, ◌*◌, ◌<◌, ◌≤◌}
+use Prim.Native.Nat.{ℕ, zero, suc, ◌*◌, ◌<◌, ◌≤◌}
 use borrow.Author.Tests.{le-leb, lt-leb, not-true, not-false}
 use lib.Dec.{T}
+use native.Mathlib.Omega.{arith}
+use native.Mathlib.Nat.{not-suc-le-zero}
+use Rattle.std.specs.Int.{div_ceil}
 use Rattle.reading.specs.Tests.{within}
 use Rattle.reading.specs.Layout.{ceiling}
 use Rattle.reading.specs.Code.Mcus.{mcus_of}
@@ -38,6 +41,15 @@ mcus_long side factor a = rw (lt-leb side 65535 a) refl
 pub mcus_none : (side factor : ℕ) → side ≤ 65535 → within 1 4 factor ≡ false → 0 ≡ mcus_of side factor
 unfolding mcus_of
 mcus_none side factor a e = rw (le-leb side 65535 a, e) refl
+
+-- std's ceiling of a quotient is the rules'
+pub div_ceil_is : (side factor : ℕ) → 1 ≤ factor → factor ≤ 4 → div_ceil side (8 * factor) ≡ ceiling side (8 * factor)
+div_ceil_is side zero a b = absurd (not-suc-le-zero a)
+div_ceil_is side (suc zero) a b = omega arith
+div_ceil_is side (suc (suc zero)) a b = omega arith
+div_ceil_is side (suc (suc (suc zero))) a b = omega arith
+div_ceil_is side (suc (suc (suc (suc zero)))) a b = omega arith
+div_ceil_is side (suc (suc (suc (suc (suc n))))) a b = absurd (omega arith)
 
 -- ---- a count that was asked for, in the rules' words
 

@@ -13,8 +13,8 @@ use Rattle.reading.specs.declared.Limits.{Limits}
 use Rattle.reading.specs.declared.Record.{Record}
 use Rattle.reading.specs.declared.Refusal.{Refusal}
 use Rattle.reading.specs.declared.Refusal.TheVariants.{ShortRoom, NoEndCode}
-use Rattle.reading.specs.declared.Verdict.{Verdict}
-use Rattle.reading.specs.declared.Verdict.TheVariants.{Accepted, Refused}
+use Rattle.reading.specs.Verdicts.{Verdict}
+use Rattle.std.specs.declared.result.Result.TheVariants.{Ok, Err}
 use Rattle.reading.specs.Header.{done, header, ending}
 use Rattle.reading.specs.Settled.{settled_file}
 use Rattle.reading.specs.Judging.{Judged, refuses, onward, give_or, remaining}
@@ -62,7 +62,7 @@ module _ (s : List ℕ) (colour : Bool) (l : Limits) (budget : Budget) where
   for_whole : (v : Verdict) (r : Record) → header s colour ≡ done r → Enough s r l budget → file_price s v ≡ some (whole_price s) → Paid v (left_behind s r budget)
   for_whole v r e h p = taking (file_price s) budget v (header_price s + r.work) h.price (p ∙ full r e)
 
-  header_priced : (x : Refusal) → OfHeader x → header_price s ≤ budget.left → Paid (Refused x) (remaining budget (header_price s))
+  header_priced : (x : Refusal) → OfHeader x → header_price s ≤ budget.left → Paid (Err x) (remaining budget (header_price s))
   header_priced x cut_short p = for_header _ p refl
   header_priced x malformed p = for_header _ p refl
   header_priced x unsupported p = for_header _ p refl
@@ -73,7 +73,7 @@ module _ (s : List ℕ) (colour : Bool) (l : Limits) (budget : Budget) where
   way_priced m (headless x a e) = header_priced x (header_number s colour x e) a.paid
   way_priced m (large r a e c) = for_header _ a.paid refl
   way_priced m (poor_for_work r a e c q) = for_header _ a.paid refl
-  way_priced m (admitted r e h) = for_whole Accepted r e h refl
+  way_priced m (admitted r e h) = for_whole (Ok tt) r e h refl
 
   pub inspect_price : Paid (inspect s colour l budget).verdict (inspect s colour l budget).budget
   unfolding inspect
@@ -82,7 +82,7 @@ module _ (s : List ℕ) (colour : Bool) (l : Limits) (budget : Budget) where
       go : (m : Judged ReadFile) → Judges s colour l budget m → Paid (found_in m).verdict (found_in m).budget
       go m (stopped x b w) = way_priced (refuses x b) w
       go m (broken r f e h w) = for_whole _ r e h refl
-      go m (through r ls q e h w) = for_whole Accepted r e h refl
+      go m (through r ls q e h w) = for_whole (Ok tt) r e h refl
 
 module _ (s : List ℕ) (l : Limits) (budget : Budget) where
   abbrev Settled : Rewritten → Type 0
@@ -98,8 +98,8 @@ module _ (s : List ℕ) (l : Limits) (budget : Budget) where
           → Enough s r l budget
           → (t : List ℕ) (q : Bool)
           → Settled (cond q (unsettled ShortRoom (left_behind s r budget) (length t) out) (laid t (left_behind s r budget) out))
-      room_priced r e h t true = for_whole s false l budget (Refused ShortRoom) r e h refl
-      room_priced r e h t false = for_whole s false l budget Accepted r e h refl
+      room_priced r e h t true = for_whole s false l budget (Err ShortRoom) r e h refl
+      room_priced r e h t false = for_whole s false l budget (Ok tt) r e h refl
 
       file_priced :
           (r : Record)
@@ -107,7 +107,7 @@ module _ (s : List ℕ) (l : Limits) (budget : Budget) where
           → Enough s r l budget
           → (o : Option (List ℕ))
           → Settled (rewritten out (give_or NoEndCode o (left_behind s r budget)))
-      file_priced r e h none = for_whole s false l budget (Refused NoEndCode) r e h refl
+      file_priced r e h none = for_whole s false l budget (Err NoEndCode) r e h refl
       file_priced r e h (some t) = room_priced r e h t (ltb (length out) (length t))
 
       go : (m : Judged ReadFile) → Judges s false l budget m → Settled (rewritten out (onward m (file_of s)))

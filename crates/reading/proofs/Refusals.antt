@@ -16,8 +16,9 @@ use Rattle.reading.specs.declared.Limits.{Limits}
 use Rattle.reading.specs.declared.Record.{Record}
 use Rattle.reading.specs.declared.Refusal.{Refusal}
 use Rattle.reading.specs.declared.Refusal.TheVariants.{TooLong, OverBudget, CutShort, Malformed, Unsupported, TooLarge, WorkOverBudget, ShortRoom, NotItsRecord, NoEndCode, Scan}
-use Rattle.reading.specs.declared.Verdict.{Verdict}
-use Rattle.reading.specs.declared.Verdict.TheVariants.{Accepted, Refused}
+use Rattle.reading.specs.Verdicts.{Verdict}
+use Rattle.std.specs.declared.result.Result.{Result}
+use Rattle.std.specs.declared.result.Result.TheVariants.{Ok, Err}
 use Rattle.reading.specs.Tests.{◌or◌}
 use Rattle.reading.specs.Header.{Stage, more, done, stop, header}
 use Rattle.reading.specs.Code.Heads.{headed}
@@ -66,13 +67,13 @@ large_so : (l : Limits) (r : Record) → too_large l r ≡ true → Not (Within 
 large_so l r e w = not_true_false e (small_enough l r w)
 
 -- a header that is refused stops there
-stop_so : (st : Stage) (x : Refusal) → T (finished st) → (headed st).verdict ≡ Refused x → st ≡ stop x
+stop_so : (st : Stage) (x : Refusal) → T (finished st) → headed st ≡ Err x → st ≡ stop x
 stop_so (more h) x f e = absurd f
 stop_so (done r) x f e = absurd (subst⁻¹ refused_only e tt)
   where
-    refused_only : Verdict → Type 0
-    refused_only Accepted = ⊥
-    refused_only (Refused y) = Unit {0}
+    refused_only : Result Record Refusal → Type 0
+    refused_only (Ok r) = ⊥
+    refused_only (Err y) = Unit {0}
 stop_so (stop y) x f e = let same : y ≡ x = cc in ap stop same
 
 module _ (s : List ℕ) (colour : Bool) (l : Limits) (budget : Budget) where
@@ -98,35 +99,35 @@ module _ (s : List ℕ) (colour : Bool) (l : Limits) (budget : Budget) where
   way_says m (poor_for_work r a e c q) = (a, (r, e, c, q))
   way_says m (admitted r e h) = tt
 
-  refusal_of : {x y : Refusal} → Refused x ≡ Refused y → x ≡ y
+  refusal_of : {x y : Refusal} → ◌≡◌ {A = Verdict} (Err x) (Err y) → x ≡ y
   refusal_of e = cc
 
-  not_accepted : {x : Refusal} → Accepted ≡ Refused x → ⊥
+  not_accepted : {x : Refusal} → ◌≡◌ {A = Verdict} (Ok tt) (Err x) → ⊥
   not_accepted e = subst accepted_only e tt
     where
       accepted_only : Verdict → Type 0
-      accepted_only Accepted = Unit {0}
-      accepted_only (Refused y) = ⊥
+      accepted_only (Ok u) = Unit {0}
+      accepted_only (Err y) = ⊥
 
-  so : (x : Refusal) → (inspect s colour l budget).verdict ≡ Refused x → Refuses x
+  so : (x : Refusal) → (inspect s colour l budget).verdict ≡ Err x → Refuses x
   unfolding inspect
   so x v = go (judgement s colour l budget) (judged s colour l budget) v
     where
-      go : (m : Judged ReadFile) → Judges s colour l budget m → (found_in m).verdict ≡ Refused x → Refuses x
+      go : (m : Judged ReadFile) → Judges s colour l budget m → (found_in m).verdict ≡ Err x → Refuses x
       go m (stopped y b w) v = subst Refuses (refusal_of v) (way_says (refuses y b) w)
       go m (broken r f e h w) v = subst Refuses (refusal_of v) (r, e, h, w)
       go m (through r ls q e h w) v = absurd (not_accepted v)
 
   -- ---- and what gives it
 
-  by_way : (x : Refusal) (b : Budget) → Way s colour l budget (refuses x b) → (inspect s colour l budget).verdict ≡ Refused x
+  by_way : (x : Refusal) (b : Budget) → Way s colour l budget (refuses x b) → (inspect s colour l budget).verdict ≡ Err x
   unfolding inspect
   by_way x b w = ap (λ m. (found_in (onward m (scan_behind s))).verdict) (way_back s colour l budget (refuses x b) w)
 
-  by_header : (x : Refusal) → Begun s l budget → header s colour ≡ stop x → (inspect s colour l budget).verdict ≡ Refused x
-  by_header x a e = by_way x _ (headless x a (ap (λ st. (headed st).verdict) e))
+  by_header : (x : Refusal) → Begun s l budget → header s colour ≡ stop x → (inspect s colour l budget).verdict ≡ Err x
+  by_header x a e = by_way x _ (headless x a (ap headed e))
 
-  by_scan : (x : Break) → Refuses (Scan x) → (inspect s colour l budget).verdict ≡ Refused (Scan x)
+  by_scan : (x : Break) → Refuses (Scan x) → (inspect s colour l budget).verdict ≡ Err (Scan x)
   unfolding inspect
   by_scan x (r, e, h, w) =
       ap (λ m. (found_in (onward m (scan_behind s))).verdict) (admits s colour l budget r e h)
@@ -139,7 +140,7 @@ module _ (s : List ℕ) (colour : Bool) (l : Limits) (budget : Budget) where
       go true e = refl
       go false e = absurd (n (not_large l r e))
 
-  back : (x : Refusal) → Refuses x → (inspect s colour l budget).verdict ≡ Refused x
+  back : (x : Refusal) → Refuses x → (inspect s colour l budget).verdict ≡ Err x
   back TooLong k = by_way TooLong _ (long (long_back s l k))
   back OverBudget k = by_way OverBudget _ (poor (not_back s l k.0) k.1)
   back CutShort k = by_header CutShort k.0 k.1
@@ -152,18 +153,18 @@ module _ (s : List ℕ) (colour : Bool) (l : Limits) (budget : Budget) where
   back NotItsRecord k = absurd k
   back NoEndCode k = absurd k
 
-  pub inspect_refuses : (x : Refusal) → (inspect s colour l budget).verdict ≡ Refused x ↔ Refuses x
+  pub inspect_refuses : (x : Refusal) → (inspect s colour l budget).verdict ≡ Err x ↔ Refuses x
   inspect_refuses x = (so x, back x)
 
 -- ---- a prefix
 
 -- what inspect accepts, cut behind its header
 module _ (s : List ℕ) (colour : Bool) (l : Limits) (budget : Budget) (c : ℕ)
-    (e : (inspect s colour l budget).verdict ≡ Accepted) (from : (inspect s colour l budget).found.start ≤ c) (less : c < length s) where
+    (e : (inspect s colour l budget).verdict ≡ Ok tt) (from : (inspect s colour l budget).found.start ≤ c) (less : c < length s) where
   whole_file : Inspected s colour l budget (inspect s colour l budget)
   whole_file = inspect_accepted s colour l budget e
 
-  pub cut_inspects : (inspect (take c s) colour l budget).verdict ≡ Refused (Scan (cut_at s (inspect s colour l budget).found c))
+  pub cut_inspects : (inspect (take c s) colour l budget).verdict ≡ Err (Scan (cut_at s (inspect s colour l budget).found c))
   cut_inspects =
       let r = (inspect s colour l budget).found in
       let h = whole_file.enough in
@@ -211,7 +212,7 @@ module _ (s : List ℕ) (l : Limits) (budget : Budget) (c d : Bool) where
   rule_alike NoEndCode k = k
 
   -- what is accepted by one choice is accepted by the other
-  pub accepts_alike : (inspect s c l budget).verdict ≡ Accepted → (inspect s d l budget).verdict ≡ Accepted
+  pub accepts_alike : (inspect s c l budget).verdict ≡ Ok tt → (inspect s d l budget).verdict ≡ Ok tt
   accepts_alike v =
       let a = inspect_accepted s c l budget v in
       let r = (inspect s c l budget).found in
@@ -222,5 +223,5 @@ module _ (s : List ℕ) (l : Limits) (budget : Budget) (c d : Bool) where
   verdict_alike = go (inspect s c l budget).verdict refl
     where
       go : (v : Verdict) → (inspect s c l budget).verdict ≡ v → (inspect s d l budget).verdict ≡ v
-      go Accepted e = accepts_alike e
-      go (Refused x) e = (inspect_refuses s d l budget x).1 (rule_alike x ((inspect_refuses s c l budget x).0 e))
+      go (Ok u) e = accepts_alike e
+      go (Err x) e = (inspect_refuses s d l budget x).1 (rule_alike x ((inspect_refuses s c l budget x).0 e))

@@ -8,8 +8,8 @@ use lib.IntN.{ℤ}
 use borrow.Author.Tests.{lt-ltb, le-ltb}
 use Rattle.reading.specs.declared.Bits.{Bits}
 use Rattle.reading.specs.declared.Break.{Break}
-use Rattle.reading.specs.declared.ScanRead.{ScanRead}
-use Rattle.reading.specs.declared.ScanRead.TheVariants.{Done, Stop}
+use Rattle.std.specs.declared.result.Result.{Result}
+use Rattle.std.specs.declared.result.Result.TheVariants.{Ok, Err}
 use Rattle.reading.specs.Tests.{over}
 use Rattle.reading.specs.Layout.{Shape}
 use Rattle.reading.specs.Scan.{Scanned, whole, broke}
@@ -19,11 +19,11 @@ use Rattle.reading.specs.Code.Painted.{drawn}
 
 -- ---- the answer
 
-pub answer_done : {o : Scanned Bits (List (List ℤ))} {ls : List (List ℤ)} {b : Bits} → o ≡ whole ls b → Done ≡ scan_read o
+pub answer_done : {o : Scanned Bits (List (List ℤ))} {ls : List (List ℤ)} {b : Bits} → o ≡ whole ls b → Ok tt ≡ scan_read o
 unfolding scan_read
 answer_done e = rw e
 
-pub answer_stop : {o : Scanned Bits (List (List ℤ))} {w : Break} → o ≡ broke w → Stop w ≡ scan_read o
+pub answer_stop : {o : Scanned Bits (List (List ℤ))} {w : Break} → o ≡ broke w → Err w ≡ scan_read o
 unfolding scan_read
 answer_stop e = rw e
 
@@ -34,12 +34,12 @@ pub record Accepted (o : Scanned Bits (List (List ℤ))) : Type 0 where
   pub behind : Bits
   pub is : o ≡ whole blocks_read behind
 
-pub accepted : (o : Scanned Bits (List (List ℤ))) {x : ScanRead} → x ≡ scan_read o → x ≡ Done → Accepted o
+pub accepted : (o : Scanned Bits (List (List ℤ))) {x : Result (Unit {0}) Break} → x ≡ scan_read o → x ≡ Ok tt → Accepted o
 unfolding scan_read
 accepted (whole ls b) e h = record { blocks_read = ls; behind = b; is = refl }
 accepted (broke w) e h = absurd (suc-ne-zero 0 cc)
 
-pub refused : (o : Scanned Bits (List (List ℤ))) {x : ScanRead} {w : Break} → x ≡ scan_read o → x ≡ Stop w → o ≡ broke w
+pub refused : (o : Scanned Bits (List (List ℤ))) {x : Result (Unit {0}) Break} {w : Break} → x ≡ scan_read o → x ≡ Err w → o ≡ broke w
 unfolding scan_read
 refused (whole ls b) e h = absurd (suc-ne-zero 0 cc)
 refused (broke g) e h = cc

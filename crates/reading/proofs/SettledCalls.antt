@@ -20,8 +20,8 @@ use Rattle.reading.specs.declared.Fault.{Fault}
 use Rattle.reading.specs.declared.Fault.TheVariants.{RanOut, Bare, NoCode, Broken}
 use Rattle.reading.specs.declared.Refusal.{Refusal}
 use Rattle.reading.specs.declared.Refusal.TheVariants.{ShortRoom, NoEndCode, Scan}
-use Rattle.reading.specs.declared.Verdict.{Verdict}
-use Rattle.reading.specs.declared.Verdict.TheVariants.{Accepted, Refused}
+use Rattle.reading.specs.Verdicts.{Verdict}
+use Rattle.std.specs.declared.result.Result.TheVariants.{Ok, Err}
 use Rattle.reading.specs.Tests.{◌or◌, over}
 use Rattle.reading.specs.Reading.{accepted, reading, picture_of}
 use Rattle.reading.specs.Settled.{settled_file}
@@ -45,7 +45,7 @@ file_of s f = give_or NoEndCode (settled_file s f.found f.blocks)
 
 -- a settled file in a buffer that has room for it
 abbrev pub laid : List ℕ → Budget → List ℕ → Rewritten
-laid t left out = record { answer = record { verdict = Accepted; budget = left; length = length t }; output = over t out }
+laid t left out = record { answer = record { verdict = Ok tt; budget = left; length = length t }; output = over t out }
 
 -- ---- from a reading to the call
 
@@ -71,8 +71,8 @@ module _ (s : List ℕ) (l : Limits) (budget : Budget) (out : List ℕ) (r : Rec
 -- ---- from the call to a reading
 
 abbrev IsAccepted : Verdict → Type 0
-IsAccepted Accepted = Unit {0}
-IsAccepted (Refused x) = ⊥
+IsAccepted (Ok u) = Unit {0}
+IsAccepted (Err x) = ⊥
 
 -- what an accepted settle says: the file settles to the bytes that now stand first in the buffer, and limits, budget and room were enough
 pub record SettledBy (s : List ℕ) (l : Limits) (budget : Budget) (out : List ℕ) : Type 0 where
@@ -86,7 +86,7 @@ pub record SettledBy (s : List ℕ) (l : Limits) (budget : Budget) (out : List �
   pub is : settle s l budget out ≡ laid file (left_behind s found budget) out
 
 module _ (s : List ℕ) (l : Limits) (budget : Budget) (out : List ℕ) where
-  pub settled_by : (settle s l budget out).answer.verdict ≡ Accepted → SettledBy s l budget out
+  pub settled_by : (settle s l budget out).answer.verdict ≡ Ok tt → SettledBy s l budget out
   unfolding settle
   settled_by v = go (judgement s false l budget) (judged s false l budget) (subst⁻¹ IsAccepted v tt)
     where
@@ -163,7 +163,7 @@ module _ (s : List ℕ) (l : Limits) (budget : Budget) (out : List ℕ) (z : Set
         (colour : Bool) (r : Record) (ls : List (List ℤ))
         → reading s colour ≡ accepted r ls
         → Enough bytes r l' budget'
-        → inspect bytes colour l' budget' ≡ record { verdict = Accepted; budget = left_behind bytes r budget'; found = r }
+        → inspect bytes colour l' budget' ≡ record { verdict = Ok tt; budget = left_behind bytes r budget'; found = r }
     settled_inspects colour r ls e h = inspects bytes colour l' budget' r ls (settled_reads colour ∙ e) h
 
     -- settling it again gives the same bytes
@@ -193,7 +193,7 @@ pub settled_decodes :
     (s t : List ℕ)
     → settled_in s ≡ some t
     → (r : Record) (out scratch : List ℕ) (budget budget' : Budget)
-    → (decode s r out scratch budget).answer.verdict ≡ Accepted
+    → (decode s r out scratch budget).answer.verdict ≡ Ok tt
     → header_price t + r.work ≤ budget'.left
     → Alike (decode s r out scratch budget) (decode t r out scratch budget')
 settled_decodes s t h r out scratch budget budget' v p =
@@ -210,9 +210,9 @@ settled_decodes s t h r out scratch budget budget' v p =
 
 module _ (s : List ℕ) (l : Limits) (budget : Budget) (out : List ℕ) where
   abbrev Inspects : Type 0
-  Inspects = (inspect s false l budget).verdict ≡ Accepted
+  Inspects = (inspect s false l budget).verdict ≡ Ok tt
 
-  refusal_of : {x y : Refusal} → Refused x ≡ Refused y → x ≡ y
+  refusal_of : {x y : Refusal} → ◌≡◌ {A = Verdict} (Err x) (Err y) → x ≡ y
   refusal_of e = cc
 
   -- not one of settle's own numbers
@@ -220,12 +220,12 @@ module _ (s : List ℕ) (l : Limits) (budget : Budget) (out : List ℕ) where
   OfInspect v = T (eqb (number v) 7 or eqb (number v) 9) → ⊥
 
   pub data SettleWay : Rewritten → Type 0 where
-    as_inspect : (x : Refusal) (b : Budget) → inspect s false l budget ≡ inspection (refuses x b) → OfInspect (Refused x) → SettleWay (unsettled x b 0 out)
+    as_inspect : (x : Refusal) (b : Budget) → inspect s false l budget ≡ inspection (refuses x b) → OfInspect (Err x) → SettleWay (unsettled x b 0 out)
     nine : (b : Budget) → Inspects → settled_in s ≡ none → SettleWay (unsettled NoEndCode b 0 out)
     seven : (t : List ℕ) (b : Budget) → Inspects → settled_in s ≡ some t → length out < length t → SettleWay (unsettled ShortRoom b (length t) out)
     done : (t : List ℕ) (b : Budget) → Inspects → settled_in s ≡ some t → length t ≤ length out → SettleWay (laid t b out)
 
-  header_not : (x : Refusal) → OfHeader x → OfInspect (Refused x)
+  header_not : (x : Refusal) → OfHeader x → OfInspect (Err x)
   header_not x cut_short k = k
   header_not x malformed k = k
   header_not x unsupported k = k
@@ -277,10 +277,10 @@ module _ (s : List ℕ) (l : Limits) (budget : Budget) (out : List ℕ) where
   abbrev numbered : ℕ → Verdict → Type 0
   numbered n v = T (eqb (number v) n)
 
-  pub settle_accepts : (settle s l budget out).answer.verdict ≡ Accepted ↔ Inspects × ((t : List ℕ) × (settled_in s ≡ some t) × (length t ≤ length out))
+  pub settle_accepts : (settle s l budget out).answer.verdict ≡ Ok tt ↔ Inspects × ((t : List ℕ) × (settled_in s ≡ some t) × (length t ≤ length out))
   settle_accepts = go (settle s l budget out) settle_way
     where
-      go : (w : Rewritten) → SettleWay w → w.answer.verdict ≡ Accepted ↔ Inspects × ((t : List ℕ) × (settled_in s ≡ some t) × (length t ≤ length out))
+      go : (w : Rewritten) → SettleWay w → w.answer.verdict ≡ Ok tt ↔ Inspects × ((t : List ℕ) × (settled_in s ≡ some t) × (length t ≤ length out))
       go w (as_inspect x b e n) = (λ v. absurd (subst⁻¹ IsAccepted v tt), λ k. absurd (not_accepted x b e k.0))
       go w (nine b a f) = (λ v. absurd (subst⁻¹ IsAccepted v tt), λ k. absurd (absurd_some k.1.0 (sym f ∙ k.1.1)))
       go w (seven t b a f p) = (λ v. absurd (subst⁻¹ IsAccepted v tt), λ k. let z : ⊥ = omega (arith, p, k.1.2, ap length (one_file f k.1.1)) in absurd z)
@@ -290,11 +290,11 @@ module _ (s : List ℕ) (l : Limits) (budget : Budget) (out : List ℕ) where
   pub settle_writes :
       (t : List ℕ)
       → settled_in s ≡ some t
-      → (settle s l budget out).answer.verdict ≡ Accepted
+      → (settle s l budget out).answer.verdict ≡ Ok tt
       → ((settle s l budget out).answer.length ≡ length t) × ((settle s l budget out).output ≡ over t out)
   settle_writes t e = go (settle s l budget out) settle_way
     where
-      go : (w : Rewritten) → SettleWay w → w.answer.verdict ≡ Accepted → (w.answer.length ≡ length t) × (w.output ≡ over t out)
+      go : (w : Rewritten) → SettleWay w → w.answer.verdict ≡ Ok tt → (w.answer.length ≡ length t) × (w.output ≡ over t out)
       go w (as_inspect x b f n) v = absurd (subst⁻¹ IsAccepted v tt)
       go w (nine b a f) v = absurd (subst⁻¹ IsAccepted v tt)
       go w (seven u b a f p) v = absurd (subst⁻¹ IsAccepted v tt)
@@ -303,27 +303,27 @@ module _ (s : List ℕ) (l : Limits) (budget : Budget) (out : List ℕ) where
   -- 7 exactly when inspect would accept and there is a settled file that is too long; its length is named
   pub settle_seven :
       (n : ℕ)
-      → ((settle s l budget out).answer.verdict ≡ Refused ShortRoom) × ((settle s l budget out).answer.length ≡ n)
+      → ((settle s l budget out).answer.verdict ≡ Err ShortRoom) × ((settle s l budget out).answer.length ≡ n)
       ↔ Inspects × ((t : List ℕ) × (settled_in s ≡ some t) × (length t ≡ n) × (length out < n))
   settle_seven n = go (settle s l budget out) settle_way
     where
       go :
           (w : Rewritten)
           → SettleWay w
-          → (w.answer.verdict ≡ Refused ShortRoom) × (w.answer.length ≡ n) ↔ Inspects × ((t : List ℕ) × (settled_in s ≡ some t) × (length t ≡ n) × (length out < n))
+          → (w.answer.verdict ≡ Err ShortRoom) × (w.answer.length ≡ n) ↔ Inspects × ((t : List ℕ) × (settled_in s ≡ some t) × (length t ≡ n) × (length out < n))
       go w (as_inspect x b e o) = (λ v. absurd (o (subst⁻¹ (λ v. T (eqb (number v) 7 or eqb (number v) 9)) v.0 tt)), λ k. absurd (not_accepted x b e k.0))
       go w (nine b a f) = (λ v. absurd (subst⁻¹ (numbered 7) v.0 tt), λ k. absurd (absurd_some k.1.0 (sym f ∙ k.1.1)))
       go w (seven t b a f p) = (λ v. (a, (t, f, v.1, subst (λ m. length out < m) v.1 p)), λ k. (refl, ap length (one_file f k.1.1) ∙ k.1.2))
       go w (done t b a f p) = (λ v. absurd (subst⁻¹ (numbered 7) v.0 tt), λ k. let z : ⊥ = omega (arith, p, k.1.2, k.1.3, ap length (one_file f k.1.1)) in absurd z)
 
   -- 9 exactly when inspect would accept and some block lacks its end code, whatever the room
-  pub settle_nine : AllBytes s → (settle s l budget out).answer.verdict ≡ Refused NoEndCode ↔ Inspects × T (lacks_end_in s)
+  pub settle_nine : AllBytes s → (settle s l budget out).answer.verdict ≡ Err NoEndCode ↔ Inspects × T (lacks_end_in s)
   settle_nine y = go (settle s l budget out) settle_way
     where
       want : Inspects → settled_in s ≡ none ↔ T (lacks_end_in s)
       want a = let i = inspect_accepted s false l budget a in want_so s y (inspect s false l budget).found i.blocks i.read
 
-      go : (w : Rewritten) → SettleWay w → w.answer.verdict ≡ Refused NoEndCode ↔ Inspects × T (lacks_end_in s)
+      go : (w : Rewritten) → SettleWay w → w.answer.verdict ≡ Err NoEndCode ↔ Inspects × T (lacks_end_in s)
       go w (as_inspect x b e o) = (λ v. absurd (o (subst⁻¹ (λ v. T (eqb (number v) 7 or eqb (number v) 9)) v tt)), λ k. absurd (not_accepted x b e k.0))
       go w (nine b a f) = (λ v. (a, (want a).0 f), λ k. refl)
       go w (seven t b a f p) = (λ v. absurd (subst⁻¹ (numbered 9) v tt), λ k. absurd (absurd_some t (sym ((want a).1 k.1) ∙ f)))
@@ -331,7 +331,7 @@ module _ (s : List ℕ) (l : Limits) (budget : Budget) (out : List ℕ) where
 
   refusal_is :
       (x : Refusal) (i : Inspection)
-      → i.verdict ≡ Refused x
+      → i.verdict ≡ Err x
       → (y : Refusal) (c : Budget)
       → i ≡ inspection (refuses y c)
       → unsettled y c 0 out ≡ unsettled x i.budget 0 out
@@ -340,7 +340,7 @@ module _ (s : List ℕ) (l : Limits) (budget : Budget) (out : List ℕ) where
       ap (λ z. unsettled z c 0 out) same ∙ ap (λ b. unsettled x b 0 out) (sym (ap (λ (i : Inspection). i.budget) f))
 
   -- every other refusal of settle is inspect's, with the same left
-  pub settle_as_inspect : (x : Refusal) → (inspect s false l budget).verdict ≡ Refused x → settle s l budget out ≡ unsettled x (inspect s false l budget).budget 0 out
+  pub settle_as_inspect : (x : Refusal) → (inspect s false l budget).verdict ≡ Err x → settle s l budget out ≡ unsettled x (inspect s false l budget).budget 0 out
   settle_as_inspect x e = go (settle s l budget out) settle_way
     where
       go : (w : Rewritten) → SettleWay w → w ≡ unsettled x (inspect s false l budget).budget 0 out
@@ -352,11 +352,11 @@ module _ (s : List ℕ) (l : Limits) (budget : Budget) (out : List ℕ) where
   -- a refusal leaves the buffer as it came; only 7 names a length
   pub settle_leaves :
       (x : Refusal)
-      → (settle s l budget out).answer.verdict ≡ Refused x
+      → (settle s l budget out).answer.verdict ≡ Err x
       → ((settle s l budget out).output ≡ out) × (Not (x ≡ ShortRoom) → (settle s l budget out).answer.length ≡ 0)
   settle_leaves x = go (settle s l budget out) settle_way
     where
-      go : (w : Rewritten) → SettleWay w → w.answer.verdict ≡ Refused x → (w.output ≡ out) × (Not (x ≡ ShortRoom) → w.answer.length ≡ 0)
+      go : (w : Rewritten) → SettleWay w → w.answer.verdict ≡ Err x → (w.output ≡ out) × (Not (x ≡ ShortRoom) → w.answer.length ≡ 0)
       go w (as_inspect y b e n) v = (refl, λ k. refl)
       go w (nine b a f) v = (refl, λ k. refl)
       go w (seven t b a f p) v = (refl, λ k. let same : ShortRoom ≡ x = cc in absurd (k (sym same)))

@@ -22,7 +22,7 @@ use Rattle.reading.specs.declared.Record.{Record}
 use Rattle.reading.specs.declared.Refusal.{Refusal}
 use Rattle.reading.specs.declared.Refusal.TheVariants.{OverBudget, ShortRoom, NotItsRecord, NoEndCode, Scan}
 use Rattle.reading.specs.declared.Settling.{Settling}
-use Rattle.reading.specs.declared.Verdict.TheVariants.{Accepted, Refused}
+use Rattle.std.specs.declared.result.Result.TheVariants.{Ok, Err}
 use Rattle.reading.specs.Tests.{over}
 use Rattle.reading.specs.Transform.{sample_of, samples}
 use Rattle.reading.specs.Bits.{fulls}
@@ -165,14 +165,14 @@ tables_careful s colour r k e = O.careful_channel s colour r e k
 -- inspect accepts with a record exactly when the file's reading does, and limits and budget are enough for it
 pub inspect_accepts :
     (s : List ℕ) (colour : Bool) (l : Limits) (budget : Budget) (r : Record)
-    → ((inspect s colour l budget).verdict ≡ Accepted) × ((inspect s colour l budget).found ≡ r)
+    → ((inspect s colour l budget).verdict ≡ Ok tt) × ((inspect s colour l budget).found ≡ r)
     ↔ ReadsAs s colour r × Enough s r l budget
 inspect_accepts s colour l budget r = J.inspect_accepts s colour l budget r
 
 -- it refuses by a rule exactly when every rule before it was passed and this one was not
 pub inspect_refuses :
     (s : List ℕ) (colour : Bool) (l : Limits) (budget : Budget) (x : Refusal)
-    → (inspect s colour l budget).verdict ≡ Refused x
+    → (inspect s colour l budget).verdict ≡ Err x
     ↔ InspectRefuses s colour l budget x
 inspect_refuses s colour l budget x = R.inspect_refuses s colour l budget x
 
@@ -202,10 +202,10 @@ cut_file s colour r ls c e from less = T.cut_file s c colour r ls e from less
 -- what inspect accepts, it refuses so when it is cut
 pub cut_inspects :
     (s : List ℕ) (colour : Bool) (l : Limits) (budget : Budget) (c : ℕ)
-    → (inspect s colour l budget).verdict ≡ Accepted
+    → (inspect s colour l budget).verdict ≡ Ok tt
     → (inspect s colour l budget).found.start ≤ c
     → c < length s
-    → (inspect (take c s) colour l budget).verdict ≡ Refused (Scan (cut_at s (inspect s colour l budget).found c))
+    → (inspect (take c s) colour l budget).verdict ≡ Err (Scan (cut_at s (inspect s colour l budget).found c))
 cut_inspects s colour l budget c e from less = R.cut_inspects s colour l budget c e from less
 
 -- ---- Decode, of any bytes and any record (`Decodings`)
@@ -213,25 +213,25 @@ cut_inspects s colour l budget c e from less = R.cut_inspects s colour l budget 
 module _ (s : List ℕ) (r : Record) (out scratch : List ℕ) (budget : Budget) where
   -- decode accepts exactly when room and budget suffice and the reading with the record's colour choice accepts with this very record
   pub decode_accepts :
-      (decode s r out scratch budget).answer.verdict ≡ Accepted
+      (decode s r out scratch budget).answer.verdict ≡ Ok tt
       ↔ Roomy r out scratch × (header_price s + r.work ≤ budget.left) × ReadsAs s r.colour r
   decode_accepts = D.decode_accepts s r out scratch budget
 
   -- 7 exactly when a buffer is too short by the record
   pub decode_seven :
-      (decode s r out scratch budget).answer.verdict ≡ Refused ShortRoom
+      (decode s r out scratch budget).answer.verdict ≡ Err ShortRoom
       ↔ Not (Roomy r out scratch)
   decode_seven = D.decode_seven s r out scratch budget
 
   -- 2 exactly when there is room and the budget is below the price
   pub decode_two :
-      (decode s r out scratch budget).answer.verdict ≡ Refused OverBudget
+      (decode s r out scratch budget).answer.verdict ≡ Err OverBudget
       ↔ Roomy r out scratch × (budget.left < header_price s + r.work)
   decode_two = D.decode_two s r out scratch budget
 
   -- 8 exactly when both suffice and the record is not that of these bytes
   pub decode_eight :
-      (decode s r out scratch budget).answer.verdict ≡ Refused NotItsRecord
+      (decode s r out scratch budget).answer.verdict ≡ Err NotItsRecord
       ↔ Roomy r out scratch × (header_price s + r.work ≤ budget.left) × Not (ReadsAs s r.colour r)
   decode_eight = D.decode_eight s r out scratch budget
 
@@ -239,7 +239,7 @@ module _ (s : List ℕ) (r : Record) (out scratch : List ℕ) (budget : Budget) 
   pub decode_draws :
       (ls : List (List ℤ))
       → reading s r.colour ≡ accepted r ls
-      → (decode s r out scratch budget).answer.verdict ≡ Accepted
+      → (decode s r out scratch budget).answer.verdict ≡ Ok tt
       → ((decode s r out scratch budget).scratch ≡ over (samples_of s r ls) scratch)
       × ((decode s r out scratch budget).output ≡ over (picture_of r (samples_of s r ls)) out)
   decode_draws ls e v = D.decode_draws s r out scratch budget ls e v
@@ -247,17 +247,17 @@ module _ (s : List ℕ) (r : Record) (out scratch : List ℕ) (budget : Budget) 
   -- a refusal leaves both as they came
   pub decode_leaves :
       (x : Refusal)
-      → (decode s r out scratch budget).answer.verdict ≡ Refused x
+      → (decode s r out scratch budget).answer.verdict ≡ Err x
       → ((decode s r out scratch budget).output ≡ out) × ((decode s r out scratch budget).scratch ≡ scratch)
   decode_leaves x e = let d = D.decode_refused s r out scratch budget x e in (d.output, d.scratch_is)
 
 -- what inspect accepts, decode accepts with the record that inspect gave, where room and budget suffice
 pub inspected_decodes :
     (s : List ℕ) (colour : Bool) (l : Limits) (budget : Budget) (r : Record) (out scratch : List ℕ) (budget' : Budget)
-    → ((inspect s colour l budget).verdict ≡ Accepted) × ((inspect s colour l budget).found ≡ r)
+    → ((inspect s colour l budget).verdict ≡ Ok tt) × ((inspect s colour l budget).found ≡ r)
     → Roomy r out scratch
     → header_price s + r.work ≤ budget'.left
-    → (decode s r out scratch budget').answer.verdict ≡ Accepted
+    → (decode s r out scratch budget').answer.verdict ≡ Ok tt
 inspected_decodes s colour l budget r out scratch budget' v room paid =
     D.inspected_decodes s colour l budget r out scratch budget' v room paid
 
@@ -351,7 +351,7 @@ module _ (s : List ℕ) (colour : Bool) (l : Limits) (budget : Budget) (out : Li
 
   -- settle accepts exactly when inspect would, and there is a settled file and room for it
   pub settle_accepts :
-      (settle s l budget out).answer.verdict ≡ Accepted
+      (settle s l budget out).answer.verdict ≡ Ok tt
       ↔ Inspects s colour l budget × ((t : List ℕ) × SettlesTo s t × (length t ≤ length out))
   settle_accepts = by_choice (C.settle_accepts s l budget out)
 
@@ -359,29 +359,29 @@ module _ (s : List ℕ) (colour : Bool) (l : Limits) (budget : Budget) (out : Li
   pub settle_writes :
       (t : List ℕ)
       → SettlesTo s t
-      → (settle s l budget out).answer.verdict ≡ Accepted
+      → (settle s l budget out).answer.verdict ≡ Ok tt
       → ((settle s l budget out).answer.length ≡ length t) × ((settle s l budget out).output ≡ over t out)
   settle_writes = C.settle_writes s l budget out
 
   -- 7 with the length n exactly when inspect would accept, the settled file has n bytes, and there is less room
   pub settle_seven :
       (n : ℕ)
-      → ((settle s l budget out).answer.verdict ≡ Refused ShortRoom) × ((settle s l budget out).answer.length ≡ n)
+      → ((settle s l budget out).answer.verdict ≡ Err ShortRoom) × ((settle s l budget out).answer.length ≡ n)
       ↔ Inspects s colour l budget × ((t : List ℕ) × SettlesTo s t × (length t ≡ n) × (length out < n))
   settle_seven n = by_choice (C.settle_seven s l budget out n)
 
   -- 9 exactly when inspect would accept and some block lacks its end code, whatever the room
   pub settle_nine :
       AllBytes s
-      → (settle s l budget out).answer.verdict ≡ Refused NoEndCode
+      → (settle s l budget out).answer.verdict ≡ Err NoEndCode
       ↔ Inspects s colour l budget × T (lacks_end_in s)
   settle_nine y = by_choice (C.settle_nine s l budget out y)
 
   -- every other refusal is inspect's, with what inspect leaves
   pub settle_refuses :
       (x : Refusal)
-      → (inspect s colour l budget).verdict ≡ Refused x
-      → ((settle s l budget out).answer.verdict ≡ Refused x) × ((settle s l budget out).answer.budget ≡ (inspect s colour l budget).budget)
+      → (inspect s colour l budget).verdict ≡ Err x
+      → ((settle s l budget out).answer.verdict ≡ Err x) × ((settle s l budget out).answer.budget ≡ (inspect s colour l budget).budget)
   settle_refuses x e =
       let same = P.inspect_choice s l budget colour false in
       let w = C.settle_as_inspect s l budget out x (same.0 ∙ e) in
@@ -390,7 +390,7 @@ module _ (s : List ℕ) (colour : Bool) (l : Limits) (budget : Budget) (out : Li
   -- a refusal leaves the buffer as it came, and names a length with 7 alone
   pub settle_leaves :
       (x : Refusal)
-      → (settle s l budget out).answer.verdict ≡ Refused x
+      → (settle s l budget out).answer.verdict ≡ Err x
       → ((settle s l budget out).output ≡ out) × (Not (x ≡ ShortRoom) → (settle s l budget out).answer.length ≡ 0)
   settle_leaves = C.settle_leaves s l budget out
 
@@ -398,7 +398,7 @@ module _ (s : List ℕ) (colour : Bool) (l : Limits) (budget : Budget) (out : Li
 pub settled_decodes :
     (s t : List ℕ) (r : Record) (out scratch : List ℕ) (budget budget' : Budget)
     → SettlesTo s t
-    → (decode s r out scratch budget).answer.verdict ≡ Accepted
+    → (decode s r out scratch budget).answer.verdict ≡ Ok tt
     → header_price t + r.work ≤ budget'.left
     → Alike (decode s r out scratch budget) (decode t r out scratch budget')
 settled_decodes s t r out scratch budget budget' h v p = C.settled_decodes s t h r out scratch budget budget' v p

@@ -17,7 +17,7 @@ use Rattle.reading.specs.declared.Budget.{Budget}
 use Rattle.reading.specs.declared.Limits.{Limits}
 use Rattle.reading.specs.declared.Record.{Record}
 use Rattle.reading.specs.declared.Refusal.{Refusal}
-use Rattle.reading.specs.declared.Verdict.TheVariants.{Accepted, Refused}
+use Rattle.std.specs.declared.result.Result.TheVariants.{Ok, Err}
 use Rattle.reading.specs.Reader.{got, Reader}
 use Rattle.reading.specs.Bits.{one, file, field, amplitude}
 use Rattle.reading.specs.Huffman.{Table}
@@ -135,13 +135,13 @@ pub record WellFormed (s : List ℕ) (colour : Bool) (r : Record) : Type 0 where
 
 module _ (s : List ℕ) (y : AllBytes s) (colour : Bool) (l : Limits) (budget : Budget) where
   -- on success the segment is well formed
-  pub inspect_formed : (inspect s colour l budget).verdict ≡ Accepted → WellFormed s colour (inspect s colour l budget).found
+  pub inspect_formed : (inspect s colour l budget).verdict ≡ Ok tt → WellFormed s colour (inspect s colour l budget).found
   inspect_formed e =
       let a = inspect_accepted s colour l budget e in
       record { fit = header_fits s colour y _ a.head; levels_read = a.blocks; behind = a.behind; read = a.scan }
 
   -- and 2n + 1 and its work were there to be taken
-  pub inspect_paid : (inspect s colour l budget).verdict ≡ Accepted → header_price s + (inspect s colour l budget).found.work ≤ budget.left
+  pub inspect_paid : (inspect s colour l budget).verdict ≡ Ok tt → header_price s + (inspect s colour l budget).found.work ≤ budget.left
   inspect_paid e = (inspect_accepted s colour l budget e).enough.price
 
   -- the budget does not grow
@@ -160,9 +160,9 @@ module _ (s : List ℕ) (r : Record) (out scratch : List ℕ) (budget : Budget) 
   decode_budget = ⊎_elim (λ e. subst (λ (a : Budget). (decode s r out scratch budget).answer.budget.left ≤ a.left) e (omega arith)) (λ p. subst (λ (a : Budget). a.left ≤ budget.left) (sym p.1) (omega arith)) (decode_taken s r out scratch budget)
 
   -- on success the output, the scratch and the budget suffice
-  pub decode_only : (decode s r out scratch budget).answer.verdict ≡ Accepted → (r.output ≤ length out) × (r.scratch ≤ length scratch) × (header_price s + r.work ≤ budget.left)
+  pub decode_only : (decode s r out scratch budget).answer.verdict ≡ Ok tt → (r.output ≤ length out) × (r.scratch ≤ length scratch) × (header_price s + r.work ≤ budget.left)
   decode_only e = let d = decode_accepted s r out scratch budget e in (d.room.0, d.room.1, d.paid)
 
   -- a refusal changes no byte of output and scratch
-  pub decode_leaves : (x : Refusal) → (decode s r out scratch budget).answer.verdict ≡ Refused x → ((decode s r out scratch budget).output ≡ out) × ((decode s r out scratch budget).scratch ≡ scratch)
+  pub decode_leaves : (x : Refusal) → (decode s r out scratch budget).answer.verdict ≡ Err x → ((decode s r out scratch budget).output ≡ out) × ((decode s r out scratch budget).scratch ≡ scratch)
   decode_leaves x e = let d = decode_refused s r out scratch budget x e in (d.output, d.scratch_is)

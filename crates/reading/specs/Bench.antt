@@ -4,7 +4,7 @@ use Rattle.whole.specs.Expressions.{neg}
 use Rattle.reading.specs.declared.Limits.{Limits}
 use Rattle.reading.specs.declared.Budget.{Budget}
 use Rattle.reading.specs.declared.Record.{Record}
-use Rattle.reading.specs.declared.Verdict.{Verdict}
+use Rattle.reading.specs.Verdicts.{Verdict}
 use Rattle.reading.specs.Tests.{◌and◌, all}
 use Rattle.reading.specs.Bits.{meaning}
 use Rattle.reading.specs.Block.{zeros}

@@ -10,8 +10,8 @@ use Rattle.reading.specs.declared.Tables.{Tables}
 use Rattle.reading.specs.declared.Record.{Record}
 use Rattle.reading.specs.declared.Limits.{Limits}
 use Rattle.reading.specs.declared.Budget.{Budget}
-use Rattle.reading.specs.declared.Verdict.{Verdict}
-use Rattle.reading.specs.declared.Verdict.TheVariants.{Accepted, Refused}
+use Rattle.reading.specs.Verdicts.{Verdict}
+use Rattle.std.specs.declared.result.Result.TheVariants.{Ok, Err}
 use Rattle.reading.specs.declared.Inspection.{Inspection}
 use Rattle.reading.specs.declared.Decoding.{Decoding}
 use Rattle.reading.specs.declared.Settling.{Settling}
@@ -50,8 +50,8 @@ number_of (Scan w) = fault_number w.fault
 
 -- 0 where accepted
 abbrev pub number : Verdict → ℕ
-number Accepted = 0
-number (Refused x) = number_of x
+number (Ok u) = 0
+number (Err x) = number_of x
 
 abbrev pub nothing_named : Named
 nothing_named = record { block = 0; place = 0 }
@@ -71,8 +71,8 @@ named_by NotItsRecord = nothing_named
 named_by NoEndCode = nothing_named
 
 abbrev pub named : Verdict → Named
-named Accepted = nothing_named
-named (Refused x) = named_by x
+named (Ok u) = nothing_named
+named (Err x) = named_by x
 
 -- 2n+1: what reading a header costs
 abbrev pub header_price : List ℕ → ℕ
@@ -122,8 +122,8 @@ judgement s colour l = do
 
 -- A refusal returns its number and an all-zero record
 abbrev pub inspection : Judged Record → Inspection
-inspection (accepts r left) = record { verdict = Accepted; budget = left; found = r }
-inspection (refuses x left) = record { verdict = Refused x; budget = left; found = no_record }
+inspection (accepts r left) = record { verdict = Ok tt; budget = left; found = r }
+inspection (refuses x left) = record { verdict = Err x; budget = left; found = no_record }
 
 abbrev pub inspecting : List ℕ → Bool → Limits → Judging Record
 inspecting s colour l = do
@@ -198,13 +198,13 @@ decoding s r out scratch = do
 -- Every refusal returns with output and scratch unchanged
 abbrev pub undecoded : Refusal → Budget → List ℕ → List ℕ → Decoded
 undecoded x left out scratch =
-    record { answer = record { verdict = Refused x; budget = left }; output = out; scratch = scratch }
+    record { answer = record { verdict = Err x; budget = left }; output = out; scratch = scratch }
 
 -- On success scratch holds the block samples, then its old tail; output holds the picture, then its old tail
 abbrev pub decoded_with : Record → List ℕ → List ℕ → Budget → List ℕ → Decoded
 decoded_with r out scratch left t =
     record {
-      answer = record { verdict = Accepted; budget = left };
+      answer = record { verdict = Ok tt; budget = left };
       output = over (picture_of r t) out;
       scratch = over t scratch;
     }
@@ -232,7 +232,7 @@ settling s l = do
 
 abbrev pub unsettled : Refusal → Budget → ℕ → List ℕ → Rewritten
 unsettled x left n out =
-    record { answer = record { verdict = Refused x; budget = left; length = n }; output = out }
+    record { answer = record { verdict = Err x; budget = left; length = n }; output = out }
 
 -- .. then 7, which also returns the length needed; every other refusal returns length 0. Success returns the length and takes inspect's
 -- price; output holds the settled file, then its old tail
@@ -240,7 +240,7 @@ abbrev pub rewritten : List ℕ → Judged (List ℕ) → Rewritten
 rewritten out (accepts t left) =
     cond (ltb (length out) (length t)) (unsettled ShortRoom left (length t) out)
     (record {
-      answer = record { verdict = Accepted; budget = left; length = length t };
+      answer = record { verdict = Ok tt; budget = left; length = length t };
       output = over t out;
     })
 rewritten out (refuses x left) = unsettled x left 0 out

@@ -7,10 +7,10 @@ use Rattle.reading.specs.declared.Header.{Header}
 use Rattle.reading.specs.declared.Limits.{Limits}
 use Rattle.reading.specs.declared.Part.{Part}
 use Rattle.reading.specs.declared.Presence.{Presence}
-use Rattle.reading.specs.declared.Sought.{Sought}
-use Rattle.reading.specs.declared.Sought.TheVariants.{Absent, There}
-use Rattle.reading.specs.declared.Verdict.{Verdict}
-use Rattle.reading.specs.declared.Verdict.TheVariants.{Accepted, Refused}
+use Rattle.std.specs.declared.option.Option.{Option}
+use Rattle.std.specs.declared.option.Option.TheVariants.{None, Some}
+use Rattle.reading.specs.Verdicts.{Verdict}
+use Rattle.std.specs.declared.result.Result.TheVariants.{Ok, Err}
 use Rattle.reading.specs.Tests.{◌and◌}
 use Rattle.reading.specs.Header.{Stage, more, done, stop, byte, word, step, started, header}
 use Rattle.reading.specs.Scan.{levels}
@@ -45,19 +45,19 @@ unfoldable pub comments : List ℕ → List Part
 comments s = comments_from s (2 * length s + 1) (started s)
 
 -- comment i, counted from 0
-abbrev pub sought : List Part → ℕ → Sought
-sought [] i = Absent
-sought (p ∷ ps) zero = There p
+abbrev pub sought : List Part → ℕ → Option Part
+sought [] i = None
+sought (p ∷ ps) zero = Some p
 sought (p ∷ ps) (suc i) = sought ps i
 
 -- a part for it; an empty one where there is none
-abbrev pub part_of : Sought → Part
-part_of Absent = record { at = 0; length = 0 }
-part_of (There p) = p
+abbrev pub part_of : Option Part → Part
+part_of None = record { at = 0; length = 0 }
+part_of (Some p) = p
 
 abbrev pub part_in : List ℕ → ℕ → Reading → Part
 part_in s i (accepted r ls) = part_of (sought (comments s) i)
-part_in s i (refused x) = part_of Absent
+part_in s i (refused x) = part_of None
 
 -- where the text of comment i stands; empty where there is none or the file is not accepted, limits aside
 unfoldable pub comment_part : List ℕ → ℕ → Part
@@ -73,8 +73,8 @@ abbrev pub comment : List ℕ → ℕ → List ℕ
 comment s i = text_of s (comment_part s i)
 
 abbrev pub is_accepted : Verdict → Bool
-is_accepted Accepted = true
-is_accepted (Refused x) = false
+is_accepted (Ok u) = true
+is_accepted (Err x) = false
 
 -- whether comment i is there, at inspect's price and with its numbers
 unfoldable pub has_comment : List ℕ → ℕ → Limits → Budget → Presence

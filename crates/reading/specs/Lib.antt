@@ -12,6 +12,7 @@ pub mod Header
 pub mod Scan
 pub mod Reading
 pub mod Settled
+pub mod Verdicts
 pub mod Judging
 pub mod Calls
 pub mod Prices

@@ -4,8 +4,8 @@ use Rattle.std.specs.Prelude.{ℕ, ◌+◌, false, List}
 use Rattle.std.proofs.Math.Option.{Option, none, some}
 use Rattle.reading.specs.declared.Record.{Record}
 use Rattle.reading.specs.declared.Refusal.TheVariants.{TooLong, OverBudget, CutShort, Malformed, Unsupported, TooLarge, WorkOverBudget, ShortRoom, NotItsRecord, NoEndCode, Scan}
-use Rattle.reading.specs.declared.Verdict.{Verdict}
-use Rattle.reading.specs.declared.Verdict.TheVariants.{Accepted, Refused}
+use Rattle.reading.specs.Verdicts.{Verdict}
+use Rattle.std.specs.declared.result.Result.TheVariants.{Ok, Err}
 use Rattle.reading.specs.Header.{ending, header}
 use Rattle.reading.specs.Calls.{header_price}
 
@@ -19,30 +19,30 @@ whole_price s = header_price s + file_work s
 
 -- inspect, settle and has_comment. 7 and 9 are settle's alone, and take inspect's price
 abbrev pub file_price : List ℕ → Verdict → Option ℕ
-file_price s Accepted = some (whole_price s)
-file_price s (Refused TooLong) = some 0
-file_price s (Refused OverBudget) = some 0
-file_price s (Refused CutShort) = some (header_price s)
-file_price s (Refused Malformed) = some (header_price s)
-file_price s (Refused Unsupported) = some (header_price s)
-file_price s (Refused TooLarge) = some (header_price s)
-file_price s (Refused WorkOverBudget) = some (header_price s)
-file_price s (Refused (Scan w)) = some (whole_price s)
-file_price s (Refused NoEndCode) = some (whole_price s)
-file_price s (Refused ShortRoom) = some (whole_price s)
-file_price s (Refused NotItsRecord) = none
+file_price s (Ok u) = some (whole_price s)
+file_price s (Err TooLong) = some 0
+file_price s (Err OverBudget) = some 0
+file_price s (Err CutShort) = some (header_price s)
+file_price s (Err Malformed) = some (header_price s)
+file_price s (Err Unsupported) = some (header_price s)
+file_price s (Err TooLarge) = some (header_price s)
+file_price s (Err WorkOverBudget) = some (header_price s)
+file_price s (Err (Scan w)) = some (whole_price s)
+file_price s (Err NoEndCode) = some (whole_price s)
+file_price s (Err ShortRoom) = some (whole_price s)
+file_price s (Err NotItsRecord) = none
 
 -- decode, by the record that was given
 abbrev pub decode_price : List ℕ → Record → Verdict → Option ℕ
-decode_price s r Accepted = some (header_price s + r.work)
-decode_price s r (Refused ShortRoom) = some 0
-decode_price s r (Refused OverBudget) = some 0
-decode_price s r (Refused NotItsRecord) = some (header_price s + r.work)
-decode_price s r (Refused TooLong) = none
-decode_price s r (Refused CutShort) = none
-decode_price s r (Refused Malformed) = none
-decode_price s r (Refused Unsupported) = none
-decode_price s r (Refused TooLarge) = none
-decode_price s r (Refused WorkOverBudget) = none
-decode_price s r (Refused (Scan w)) = none
-decode_price s r (Refused NoEndCode) = none
+decode_price s r (Ok u) = some (header_price s + r.work)
+decode_price s r (Err ShortRoom) = some 0
+decode_price s r (Err OverBudget) = some 0
+decode_price s r (Err NotItsRecord) = some (header_price s + r.work)
+decode_price s r (Err TooLong) = none
+decode_price s r (Err CutShort) = none
+decode_price s r (Err Malformed) = none
+decode_price s r (Err Unsupported) = none
+decode_price s r (Err TooLarge) = none
+decode_price s r (Err WorkOverBudget) = none
+decode_price s r (Err (Scan w)) = none
+decode_price s r (Err NoEndCode) = none

@@ -10,8 +10,8 @@ use Rattle.reading.specs.declared.Limits.{Limits}
 use Rattle.reading.specs.declared.Record.{Record}
 use Rattle.reading.specs.declared.Refusal.{Refusal}
 use Rattle.reading.specs.declared.Refusal.TheVariants.{TooLong, OverBudget, CutShort, Malformed, Unsupported, TooLarge, WorkOverBudget, ShortRoom, NotItsRecord, NoEndCode, Scan}
-use Rattle.reading.specs.declared.Verdict.{Verdict}
-use Rattle.reading.specs.declared.Verdict.TheVariants.{Accepted}
+use Rattle.reading.specs.Verdicts.{Verdict}
+use Rattle.std.specs.declared.result.Result.TheVariants.{Ok}
 use Rattle.whole.specs.Expressions.{at}
 use Rattle.basis.specs.Basis.{basis, basis_at}
 use Rattle.reading.specs.declared.Fault.{Fault}
@@ -217,7 +217,7 @@ InspectRefuses s colour l budget NoEndCode = ⊥
 
 -- inspect would accept the file
 abbrev pub Inspects : List ℕ → Bool → Limits → Budget → Type 0
-Inspects s colour l budget = (inspect s colour l budget).verdict ≡ Accepted
+Inspects s colour l budget = (inspect s colour l budget).verdict ≡ Ok tt
 
 -- ---- what an answer takes, and what it leaves
 
@@ -229,6 +229,6 @@ pub record Priced (listed : Verdict → Option ℕ) (budget : Budget) (verdict :
 
 -- a second decode accepts as the first did, and leaves the same in both buffers
 pub record Alike (d d' : Decoded) : Type 0 where
-  pub verdict : d'.answer.verdict ≡ Accepted
+  pub verdict : d'.answer.verdict ≡ Ok tt
   pub output : d'.output ≡ d.output
   pub scratch : d'.scratch ≡ d.scratch

@@ -4,42 +4,27 @@
 #![tactic(auto)]
 
 ghost use Rattle.std.specs.Prelude.{◌≡◌, ◌-◌, max, leb, get_or};
+ghost use Rattle.reading.specs.declared.Refusal.TheVariants.{Scan};
+ghost use Rattle.reading.specs.declared.Unsettled.TheVariants.{Broke};
 ghost use Rattle.reading.specs.Tests.{within};
 ghost use Rattle.reading.specs.Code.Mcus.{mcus_of, no_mcu, measured};
-ghost use Rattle.reading.specs.Header.{no_frame, no_tables, opening, moved, with_frame, with_interval, no_record, stop};
-ghost use Rattle.reading.specs.Code.Heads.{headed};
+ghost use Rattle.reading.specs.Header.{no_frame, no_tables, opening, moved, with_frame, with_interval, no_record};
 ghost use Rattle.reading.specs.Bits.{first_bit};
-ghost use Rattle.reading.specs.Code.Scans.{at_start, broke_at, nowhere};
+ghost use Rattle.reading.specs.Code.Scans.{at_start, broke_at, nowhere, refusal_of};
 ghost use Rattle.reading.specs.Calls.{fault_number, number_of, number, nothing_named, named_by, named};
 
 // Whether a number lies between two others, both included.
 pub fn within(least: usize, most: usize, n: usize) -> bool
     ensures { result ≡ within least most n }
 {
-    if least <= n {
-        return n <= most;
-    }
-    false
+    (least..=most).contains(&n)
 }
 
-// The byte at a place of a list; 0 behind its end.
-pub fn byte_at(list: &[u8], place: usize) -> u8
-    ensures { result ≡ get_or list.now place 0 }
+// What stands at a place of a list, and another value behind its end.
+pub fn at_or<T: Copy>(list: &[T], place: usize, other: T) -> T
+    ensures { result ≡ get_or list.now place other }
 {
-    if place < list.len() {
-        return list[place];
-    }
-    0
-}
-
-// The same of a list of numbers.
-pub fn entry_at(list: &[usize], place: usize) -> usize
-    ensures { result ≡ get_or list.now place 0 }
-{
-    if place < list.len() {
-        return list[place];
-    }
-    0
+    list.get(place).copied().unwrap_or(other)
 }
 
 // The MCUs across of a width and the largest sampling across, or down of a height and the largest sampling down: the ceiling of
@@ -47,18 +32,14 @@ pub fn entry_at(list: &[usize], place: usize) -> usize
 pub fn mcus(side: usize, factor: usize) -> usize
     ensures { result ≡ mcus_of side factor }
 {
-    if Limits::SIDE < side {
+    if Limits::SIDE < side || !within(1, 4, factor) {
         return 0;
     }
-    if !within(1, 4, factor) {
-        return 0;
-    }
-    let wide = 8 * factor;
-    (side + (wide - 1)) / wide
+    side.div_ceil(8 * factor)
 }
 
 // The bit place of a scan: the next byte of the file, the current byte, and how many of its low bits are unread.
-#[derive(Clone, Copy)]
+#[derive(Clone, Copy, Debug, PartialEq, Eq)]
 pub struct Bits {
     pub at: usize,
     pub byte: u8,
@@ -71,29 +52,28 @@ impl Bits {
         ensures { result ≡ first_bit at }
     {
         Self {
-            at: at,
+            at,
             byte: 0,
             left: 0,
         }
     }
 }
 
-// Each scan keeps the bit place, four predictors and the count of blocks done.
+// Each scan keeps the bit place, four predictors and the count of blocks done. The place is of a reader's own kind.
 #[derive(Clone, Copy)]
-pub struct ScanCursor {
-    pub bits: Bits,
+pub struct ScanCursor<P> {
+    pub bits: P,
     pub predictors: [i32; 4],
     pub done: usize,
 }
 
-impl ScanCursor {
+impl ScanCursor<Bits> {
     // before the first block of a scan whose first coded byte is at `at`
     pub fn fresh(at: usize) -> Self
         ensures { result ≡ at_start at }
     {
-        let bits = Bits::first(at);
         Self {
-            bits: bits,
+            bits: Bits::first(at),
             predictors: [0; 4],
             done: 0,
         }
@@ -103,17 +83,16 @@ impl ScanCursor {
     pub fn broke(self, f: Fault) -> Break
         ensures { result ≡ broke_at self f }
     {
-        let at = self.bits.at;
         Break {
             fault: f,
             block: self.done,
-            place: at,
+            place: self.bits.at,
         }
     }
 }
 
 // Why a scan broke.
-#[derive(Clone, Copy)]
+#[derive(Clone, Copy, Debug, PartialEq, Eq)]
 pub enum Fault {
     // the bytes ran out
     RanOut,
@@ -141,7 +120,7 @@ impl Fault {
 
 // Why and where a scan broke: the number of the block, or the block count at the final marker, and the first byte that was not yet
 // taken when its reading began, before any restart.
-#[derive(Clone, Copy)]
+#[derive(Clone, Copy, Debug, PartialEq, Eq)]
 pub struct Break {
     pub fault: Fault,
     pub block: usize,
@@ -164,7 +143,7 @@ impl Break {
 // A refusal, by the rule that gave it. One number can have several rules, each with its price and its place in the order: 2 is
 // OverBudget, which takes nothing, and behind the header WorkOverBudget; 3 is CutShort in the header and 4 Malformed, and both are a
 // scan's too, which says where it broke.
-#[derive(Clone, Copy)]
+#[derive(Clone, Copy, Debug, PartialEq, Eq)]
 pub enum Refusal {
     TooLong,
     OverBudget,
@@ -192,7 +171,7 @@ pub enum Kind {
 }
 
 // What the header reads next: a marker, or the tables of a segment that ends at the place given.
-#[derive(Clone, Copy)]
+#[derive(Clone, Copy, Debug, PartialEq, Eq)]
 pub enum Case {
     Marker,
     Quantizers(usize),
@@ -201,7 +180,7 @@ pub enum Case {
 
 // The frame: its sides, one to four channels, and for each channel its sampling across and down, its id and its quantizer's, 0 behind the
 // last one. All zero where no frame was read.
-#[derive(Clone, Copy)]
+#[derive(Clone, Copy, Debug, PartialEq, Eq)]
 pub struct Frame {
     pub width: usize,
     pub height: usize,
@@ -218,16 +197,6 @@ pub struct Mcu {
     pub across: usize,
     pub down: usize,
     pub blocks: usize,
-}
-
-// The larger of two numbers.
-fn larger(a: usize, b: usize) -> usize
-    ensures { result ≡ max a b }
-{
-    if a < b {
-        return b;
-    }
-    a
 }
 
 impl Mcu {
@@ -247,28 +216,21 @@ impl Mcu {
         ensures { result ≡ measured frame }
     {
         let channels = frame.channels;
-        let across = frame.across;
-        let down = frame.down;
         if !within(1, 4, channels) {
             return Self::none();
         }
         let mut wide = 0usize;
         let mut high = 0usize;
         let mut blocks = 0usize;
-        let mut c = 0usize;
-        while c < channels {
-            let h = across[c];
-            let v = down[c];
-            if !within(1, 4, h) {
+        for c in 0..channels {
+            let h = frame.across[c];
+            let v = frame.down[c];
+            if !within(1, 4, h) || !within(1, 4, v) {
                 return Self::none();
             }
-            if !within(1, 4, v) {
-                return Self::none();
-            }
-            wide = larger(wide, h);
-            high = larger(high, v);
+            wide = wide.max(h);
+            high = high.max(v);
             blocks += h * v;
-            c += 1;
         }
         if 10 < blocks {
             return Self::none();
@@ -276,13 +238,13 @@ impl Mcu {
         Self {
             across: wide,
             down: high,
-            blocks: blocks,
+            blocks,
         }
     }
 }
 
 // Where each table starts, by its id: quantizers, DC and AC tables. 0 where there is none.
-#[derive(Clone, Copy)]
+#[derive(Clone, Copy, Debug, PartialEq, Eq)]
 pub struct Tables {
     pub quants: [usize; 4],
     pub dcs: [usize; 4],
@@ -301,7 +263,7 @@ pub struct Header {
 
 // What inspect finds: the frame; the tables that stand when the scan is met; for each channel the ids of its Huffman tables (0 behind
 // the last channel); the first coded byte; the sizes and the work that follow from the frame.
-#[derive(Clone, Copy)]
+#[derive(Clone, Copy, Debug, PartialEq, Eq)]
 pub struct Record {
     pub frame: Frame,
     pub tables: Tables,
@@ -351,43 +313,31 @@ impl Header {
     pub fn fresh() -> Self
         ensures { result ≡ opening }
     {
-        let tables = Tables::none();
-        let frame = Frame::none();
         Self {
             at: 2,
             case: Case::Marker,
-            tables: tables,
-            frame: frame,
+            tables: Tables::none(),
+            frame: Frame::none(),
             interval: 0,
         }
     }
 
     // the same tables, frame and interval at another place
-    pub fn moved(self, at: usize, c: Case) -> Self
-        ensures { result ≡ moved self at c }
+    pub fn moved(self, at: usize, case: Case) -> Self
+        ensures { result ≡ moved self at case }
     {
-        let tables = self.tables;
-        let frame = self.frame;
-        Self {
-            at: at,
-            case: c,
-            tables: tables,
-            frame: frame,
-            interval: self.interval,
-        }
+        Self { at, case, ..self }
     }
 
     // behind a frame's segment
     pub fn with_frame(self, at: usize, frame: Frame) -> Self
         ensures { result ≡ with_frame self at frame }
     {
-        let tables = self.tables;
         Self {
-            at: at,
+            at,
             case: Case::Marker,
-            tables: tables,
-            frame: frame,
-            interval: self.interval,
+            frame,
+            ..self
         }
     }
 
@@ -395,14 +345,11 @@ impl Header {
     pub fn with_interval(self, at: usize, interval: usize) -> Self
         ensures { result ≡ with_interval self at interval }
     {
-        let tables = self.tables;
-        let frame = self.frame;
         Self {
-            at: at,
+            at,
             case: Case::Marker,
-            tables: tables,
-            frame: frame,
-            interval: interval,
+            interval,
+            ..self
         }
     }
 }
@@ -412,11 +359,9 @@ impl Record {
     pub fn none() -> Self
         ensures { result ≡ no_record }
     {
-        let frame = Frame::none();
-        let tables = Tables::none();
         Self {
-            frame: frame,
-            tables: tables,
+            frame: Frame::none(),
+            tables: Tables::none(),
             dcids: [0; 4],
             acids: [0; 4],
             interval: 0,
@@ -431,7 +376,7 @@ impl Record {
 }
 
 // The most bytes of input, the longest side, and the most samples of blocks or of the picture that a caller takes.
-#[derive(Clone, Copy)]
+#[derive(Clone, Copy, Debug, PartialEq, Eq)]
 pub struct Limits {
     pub input: usize,
     pub side: usize,
@@ -448,7 +393,7 @@ impl Limits {
 }
 
 // What a caller lets a call take. The header's price is 2 for each byte of the file and 1; a block's is 3136 and an output byte's 1.
-#[derive(Clone, Copy)]
+#[derive(Clone, Copy, Debug, PartialEq, Eq)]
 pub struct Budget {
     pub left: u64,
 }
@@ -463,7 +408,7 @@ impl Budget {
     pub fn fresh(left: u64) -> Self
         ensures { result ≡ record { left = left } }
     {
-        Self { left: left }
+        Self { left }
     }
 
     // a budget equal to the price suffices
@@ -477,11 +422,8 @@ impl Budget {
     pub fn less(self, price: u64) -> Self
         ensures { result ≡ record { left = self.left - price } }
     {
-        if self.left < price {
-            return Self { left: 0 };
-        }
         Self {
-            left: self.left - price,
+            left: self.left.saturating_sub(price),
         }
     }
 }
@@ -513,7 +455,7 @@ impl Level {
 }
 
 // The block and the place that an answer names, both 0 where it names none.
-#[derive(Clone, Copy)]
+#[derive(Clone, Copy, Debug, PartialEq, Eq)]
 pub struct Named {
     pub block: usize,
     pub place: usize,
@@ -543,10 +485,7 @@ impl Refusal {
             Self::ShortRoom => 7,
             Self::NotItsRecord => 8,
             Self::NoEndCode => 9,
-            Self::Scan(w) => {
-                let f = w.fault;
-                f.number()
-            }
+            Self::Scan(w) => w.fault.number(),
         }
     }
 
@@ -564,52 +503,28 @@ impl Refusal {
     }
 }
 
-#[derive(Clone, Copy)]
-pub enum Verdict {
-    Accepted,
-    Refused(Refusal),
-}
-
-impl Verdict {
-    // 0 where accepted
-    pub fn number(self) -> u8
-        ensures { result ≡ number self }
-    {
-        match self {
-            Self::Accepted => 0,
-            Self::Refused(x) => x.number(),
-        }
-    }
-
-    // where a scan broke; 0 and 0 for every other answer
-    pub fn named(self) -> Named
-        ensures { result ≡ named self }
-    {
-        match self {
-            Self::Accepted => Named::none(),
-            Self::Refused(x) => x.named(),
-        }
+// The number of an answer; 0 where it is accepted.
+pub fn number(verdict: Verdict) -> u8
+    ensures { result ≡ number verdict }
+{
+    match verdict {
+        Ok(()) => 0,
+        Err(x) => x.number(),
     }
 }
 
-// What reading the header answers: the record, which is zero in every field where it is refused.
-#[derive(Clone, Copy)]
-pub struct Head {
-    pub verdict: Verdict,
-    pub found: Record,
-}
-
-impl Head {
-    pub fn refused(x: Refusal) -> Self
-        ensures { result ≡ headed (stop x) }
-    {
-        let found = Record::none();
-        Self {
-            verdict: Verdict::Refused(x),
-            found: found,
-        }
+// Where a scan broke; 0 and 0 for every other answer.
+pub fn place_named(verdict: Verdict) -> Named
+    ensures { result ≡ named verdict }
+{
+    match verdict {
+        Ok(()) => Named::none(),
+        Err(x) => x.named(),
     }
 }
+
+// Whether a call accepted, or why it refused.
+pub type Verdict = Result<(), Refusal>;
 
 // What inspect answers.
 #[derive(Clone, Copy)]
@@ -635,17 +550,10 @@ pub struct Settling {
 }
 
 // A part of a file: its place and its length.
-#[derive(Clone, Copy)]
+#[derive(Clone, Copy, Debug, PartialEq, Eq)]
 pub struct Part {
     pub at: usize,
     pub length: usize,
-}
-
-// What looking for a comment in the header answers.
-#[derive(Clone, Copy)]
-pub enum Sought {
-    Absent,
-    There(Part),
 }
 
 // What has_comment answers.
@@ -656,46 +564,45 @@ pub struct Presence {
     pub there: bool,
 }
 
-// What reading a bit answers.
+// Behind a block that was read: the place after it, its first level, which predicts the channel's next one, and how many places its
+// levels reach.
 #[derive(Clone, Copy)]
-pub enum BitRead {
-    Got(u8, Bits),
-    Stop(Fault),
+pub struct BlockRead<P> {
+    pub after: P,
+    pub first: i32,
+    pub reach: usize,
 }
 
-// What reading a field or a symbol answers.
-#[derive(Clone, Copy)]
-pub enum NumberRead {
-    Got(usize, Bits),
-    Stop(Fault),
-}
-
-// What reading an amplitude answers.
-#[derive(Clone, Copy)]
-pub enum AmplitudeRead {
-    Got(i32, Bits),
-    Stop(Fault),
-}
-
-// What reading a block answers, beside its levels: the bit place after it, its first level, which predicts the channel's next
-// one, and how many places its levels reach.
-#[derive(Clone, Copy)]
-pub enum BlockRead {
-    Got(Bits, i32, usize),
-    Stop(Fault),
-}
-
-// What reading a whole scan answers.
-#[derive(Clone, Copy)]
-pub enum ScanRead {
-    Done,
-    Stop(Break),
-}
-
-// What settling a whole scan answers: its length, or that a code is wanting, or why and where it broke.
-#[derive(Clone, Copy)]
-pub enum ScanSettled {
-    Done(usize),
+// Why a scan is not settled: a code is wanting, or it broke.
+#[derive(Clone, Copy, Debug, PartialEq, Eq)]
+pub enum Unsettled {
     Lacking,
-    Stop(Break),
+    Broke(Break),
+}
+
+impl From<Break> for Unsettled {
+    ghost from_gives = { λ w e. e ≡ Broke w };
+
+    fn from(w: Break) -> Self {
+        Self::Broke(w)
+    }
+}
+
+impl From<Break> for Refusal {
+    ghost from_gives = { λ w e. e ≡ Scan w };
+
+    fn from(w: Break) -> Self {
+        Self::Scan(w)
+    }
+}
+
+impl From<Unsettled> for Refusal {
+    ghost from_gives = { λ u e. e ≡ refusal_of u };
+
+    fn from(u: Unsettled) -> Self {
+        match u {
+            Unsettled::Lacking => Self::NoEndCode,
+            Unsettled::Broke(w) => Self::Scan(w),
+        }
+    }
 }

@@ -5,17 +5,23 @@
 
 ghost use Rattle.std.specs.Prelude.{◌<◌, IfOk};
 
-use reading::{Head, Refusal};
+use reading::{Record, Refusal};
 use std::io;
+use tillsparrow_streams::Numbers;
+
+// a byte of the list, as a number
+fn byte(list: &[u8], place: usize) -> usize
+    ensures { result < 256 }
+{
+    usize::from(reading::at_or(list, place, 0))
+}
 
 // two bytes, high byte first
 fn number(list: &[u8], place: usize) -> usize
     ensures { result < 65536 }
 {
     if place < list.len() {
-        let high = tillsparrow_streams::wide(reading::byte_at(list, place)) as usize;
-        let low = tillsparrow_streams::wide(reading::byte_at(list, place + 1)) as usize;
-        256 * high + low
+        256 * byte(list, place) + byte(list, place + 1)
     } else {
         0
     }
@@ -25,13 +31,10 @@ fn number(list: &[u8], place: usize) -> usize
 fn copied(list: &[u8], from: usize, length: usize, file: &mut [u8; 1024], to: usize)
     requires { (from < 65536) × (length < 65536) × (to < 16777216) }
 {
-    let mut i: usize = 0;
-    while i < length {
-        let place = to + i;
-        if place < 1024 {
-            file[place] = reading::byte_at(list, from + i);
+    for i in 0..length {
+        if to + i < 1024 {
+            file[to + i] = reading::at_or(list, from + i, 0);
         }
-        i += 1;
     }
 }
 
@@ -39,14 +42,11 @@ fn copied(list: &[u8], from: usize, length: usize, file: &mut [u8; 1024], to: us
 fn joined(list: &[u8], at: usize, parts: usize, file: &mut [u8; 1024]) -> usize
     requires { (at < 16777216) × (parts < 256) }
 {
-    let mut length: usize = 0;
-    let mut k: usize = 0;
-    while k < parts {
-        let from = number(list, at + 4 * k);
+    let mut length = 0;
+    for k in 0..parts {
         let more = number(list, at + 4 * k + 2);
-        copied(list, from, more, file, length);
+        copied(list, number(list, at + 4 * k), more, file, length);
         length += more;
-        k += 1;
     }
     length
 }
@@ -54,56 +54,28 @@ fn joined(list: &[u8], at: usize, parts: usize, file: &mut [u8; 1024]) -> usize
 fn patched(list: &[u8], at: usize, patches: usize, file: &mut [u8; 1024])
     requires { (at < 16777216) × (patches < 256) }
 {
-    let mut k: usize = 0;
-    while k < patches {
+    for k in 0..patches {
         let place = number(list, at + 3 * k);
         if place < 1024 {
-            file[place] = reading::byte_at(list, at + 3 * k + 2);
+            file[place] = reading::at_or(list, at + 3 * k + 2, 0);
         }
-        k += 1;
     }
 }
 
 // ---- a line
 
-fn field(rt: &impl Print, x: u64) -> io::Result<()> {
-    print!(rt; " {x}")
-}
-
-fn fields(rt: &impl Print, entries: &[usize]) -> io::Result<()> {
-    let mut i: usize = 0;
-    while i < entries.len() {
-        field(rt, entries[i] as u64)?;
-        i += 1;
-    }
-    Ok(())
-}
-
 // a file that has no room is refused as too long, which no line of the list expects
-fn head_of(file: &[u8], length: usize, colour: bool) -> Head {
-    if file.len() < length {
-        return Head::refused(Refusal::TooLong);
-    }
-    jpeg_header::header(&file[0..length], colour)
+fn head_of(file: &[u8], length: usize, colour: bool) -> Result<Record, Refusal> {
+    let file = file.get(..length).ok_or(Refusal::TooLong)?;
+    jpeg_header::header(file, colour)
 }
 
-fn line(
-    rt: &impl Print,
-    index: u64,
-    file: &[u8; 1024],
-    length: usize,
-    colour: bool,
-) -> io::Result<()> {
-    let head = head_of(file, length, colour);
-    let verdict = head.verdict;
-    let number = verdict.number();
-    print!(rt; "{index}")?;
-    field(rt, number as u64)?;
-    if number == 0 {
-        let numbers = tillsparrow_streams::numbers(head.found);
-        fields(rt, &numbers)?;
+// a header's number, and the record of an accepted one
+fn fields(rt: &impl Print, head: Result<Record, Refusal>) -> io::Result<()> {
+    match head {
+        Ok(found) => println!(rt; " 0{}", Numbers::from(found)),
+        Err(x) => println!(rt; " {}", x.number()),
     }
-    println!(rt; "")
 }
 
 // ---- the list
@@ -113,14 +85,14 @@ fn vector(rt: &impl Print, list: &[u8], at: usize, index: u64) -> io::Result<usi
     requires { at < 1048576 }
     ensures { IfOk result (λ next. at < next) }
 {
-    let mut file = [0u8; 1024];
-    let parts = tillsparrow_streams::wide(reading::byte_at(list, at)) as usize;
+    let mut file = [0; 1024];
+    let parts = byte(list, at);
     let length = joined(list, at + 1, parts, &mut file);
     let behind = at + 1 + 4 * parts;
-    let colour = reading::byte_at(list, behind) != 0;
-    let patches = tillsparrow_streams::wide(reading::byte_at(list, behind + 1)) as usize;
+    let patches = byte(list, behind + 1);
     patched(list, behind + 2, patches, &mut file);
-    line(rt, index, &file, length, colour)?;
+    print!(rt; "{index}")?;
+    fields(rt, head_of(&file, length, byte(list, behind) != 0))?;
     Ok(behind + 2 + 3 * patches)
 }
 
@@ -129,7 +101,8 @@ fn run(rt: &impl Print, list: &[u8]) -> io::Result<()> {
         return Ok(());
     }
     let mut at = number(list, 0);
-    let mut index: u64 = 0;
+    let mut index = 0;
+    // the next vector's place follows from this one
     while at < list.len() {
         at = vector(rt, list, at, index)?;
         index += 1;
@@ -138,7 +111,7 @@ fn run(rt: &impl Print, list: &[u8]) -> io::Result<()> {
 }
 
 fn main(rt: HostRuntime) -> io::Result<()> {
-    let mut list = [0u8; 65536];
+    let mut list = [0; 65536];
     let length = tillsparrow_streams::read_full(&mut rt.stdin(), &mut list);
     run(&rt, &list[..length])
 }

@@ -10,10 +10,10 @@ use lib.ListN.{length}
 use Rattle.reading.specs.declared.Record.{Record}
 use Rattle.reading.specs.declared.Refusal.{Refusal}
 use Rattle.reading.specs.declared.Refusal.TheVariants.{Unsupported}
-use Rattle.reading.specs.declared.Verdict.TheVariants.{Accepted, Refused}
+use Rattle.std.specs.declared.result.Result.TheVariants.{Ok, Err}
 use Rattle.reading.specs.Calls.{inspect, decode}
 use Rattle.reading.proofs.Theorems.{inspect_accepts, inspected_decodes}
-use Rattle.tillsparrow_streams.specs.Lines.{line_of, picture_head}
+use Rattle.tillsparrow_streams.specs.declared.Line.TheVariants.{Picture}
 use Rattle.tillsparrow_streams.specs.Answers.{own_limits, ample, refusing}
 use Rattle.tillsparrow.specs.Answer.{Answered, unheld, leaving, reply, drawn, shown, viewed, answered}
 
@@ -25,9 +25,9 @@ module _ (s out scratch : List ℕ) where
   pub program_draws :
       65536 ≤ length out
       → 65536 ≤ length scratch
-      → (inspect s true own_limits ample).verdict ≡ Accepted
+      → (inspect s true own_limits ample).verdict ≡ Ok tt
       → unheld found.frame.channels ≡ false
-      → ((answered s out scratch).answer ≡ record { line = line_of (picture_head found); follow = found.output })
+      → ((answered s out scratch).answer ≡ record { line = Picture found; follow = found.output })
       × ((answered s out scratch).output ≡ (decode s found out scratch ample).output)
   unfolding answered
   program_draws wide high v one =
@@ -43,7 +43,7 @@ module _ (s out scratch : List ℕ) where
       seen = ap (viewed s out scratch found) v ∙ held
 
   pub program_turns_away :
-      (inspect s true own_limits ample).verdict ≡ Accepted
+      (inspect s true own_limits ample).verdict ≡ Ok tt
       → unheld found.frame.channels ≡ true
       → answered s out scratch ≡ leaving (refusing Unsupported) out scratch
   unfolding answered
@@ -54,7 +54,7 @@ module _ (s out scratch : List ℕ) where
 
   pub program_refuses :
       (x : Refusal)
-      → (inspect s true own_limits ample).verdict ≡ Refused x
+      → (inspect s true own_limits ample).verdict ≡ Err x
       → answered s out scratch ≡ leaving (refusing x) out scratch
   unfolding answered
   program_refuses x e = ap (viewed s out scratch found) e

@@ -1,14 +1,13 @@
 -- What the program answers to a file: the line of a refusal, or a picture behind its head.
-use Rattle.std.specs.Prelude.{ℕ, Bool, true, cond, List, eqb}
+use Rattle.std.specs.Prelude.{ℕ, Bool, true, cond, List, Ok, Err, eqb}
 use Rattle.reading.specs.declared.Record.{Record}
 use Rattle.reading.specs.declared.Refusal.TheVariants.{Unsupported}
-use Rattle.reading.specs.declared.Verdict.{Verdict}
-use Rattle.reading.specs.declared.Verdict.TheVariants.{Accepted, Refused}
+use Rattle.reading.specs.Verdicts.{Verdict}
 use Rattle.reading.specs.declared.Inspection.{Inspection}
 use Rattle.reading.specs.Tests.{◌or◌}
 use Rattle.reading.specs.Calls.{inspect, Decoded, decode}
 use Rattle.tillsparrow_streams.specs.declared.Answer.{Answer}
-use Rattle.tillsparrow_streams.specs.Lines.{line_of, picture_head}
+use Rattle.tillsparrow_streams.specs.declared.Line.TheVariants.{Picture}
 use Rattle.tillsparrow_streams.specs.Answers.{own_limits, ample, refusing, text_of}
 
 -- the answer with the two buffers
@@ -22,8 +21,8 @@ leaving answer out scratch = record { answer = answer; output = out; scratch = s
 
 -- accepted: the head of the picture, which stands at the start of the output
 abbrev pub reply : Record → Verdict → Answer
-reply r Accepted = record { line = line_of (picture_head r); follow = r.output }
-reply r (Refused x) = refusing x
+reply r (Ok u) = record { line = Picture r; follow = r.output }
+reply r (Err x) = refusing x
 
 abbrev pub drawn : Record → Decoded → Answered
 drawn r d = leaving (reply r d.answer.verdict) d.output d.scratch
@@ -39,8 +38,8 @@ shown s r out scratch =
 
 -- any number that inspect gives comes first
 abbrev pub viewed : List ℕ → List ℕ → List ℕ → Record → Verdict → Answered
-viewed s out scratch r Accepted = shown s r out scratch
-viewed s out scratch r (Refused x) = leaving (refusing x) out scratch
+viewed s out scratch r (Ok u) = shown s r out scratch
+viewed s out scratch r (Err x) = leaving (refusing x) out scratch
 
 -- colour is chosen, the limits are the buffers', and the budget always suffices
 unfoldable pub answered : List ℕ → List ℕ → List ℕ → Answered

@@ -5,7 +5,7 @@ use Rattle.reading.specs.Layout.{block_count, output_length, work_of}
 use Rattle.reading.specs.Transform.{coefficients, samples, clamped}
 use Rattle.reading.specs.Tests.{◌and◌}
 use Rattle.tillsparrow_streams.specs.Answers.{own_limits, ample}
-use Rattle.tillsparrow_streams.specs.Lines.{digits_in, refused, picture_head}
+use Rattle.tillsparrow_streams.specs.Lines.{digits_in, refused, picture_head, line_text}
 use Rattle.tillsparrow.specs.Answer.{answered, written}
 
 -- a file by the segments of its frame and its scan, each behind its marker, and its one coded byte: every level is 0
@@ -52,5 +52,5 @@ pub pieces :
     and answers [] (114 ∷ 101 ∷ 102 ∷ 117 ∷ 115 ∷ 101 ∷ 100 ∷ 32 ∷ 52 ∷ 10 ∷ [])
     and taken two and answers two (114 ∷ 101 ∷ 102 ∷ 117 ∷ 115 ∷ 101 ∷ 100 ∷ 32 ∷ 53 ∷ 10 ∷ [])
     and taken four and answers four (114 ∷ 101 ∷ 102 ∷ 117 ∷ 115 ∷ 101 ∷ 100 ∷ 32 ∷ 53 ∷ 10 ∷ []))
-unfolding answered inspect decode samples coefficients clamped block_count output_length work_of digits_in refused picture_head
+unfolding answered inspect decode samples coefficients clamped block_count output_length work_of digits_in refused picture_head line_text
 pieces = tt

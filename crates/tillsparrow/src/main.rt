@@ -2,22 +2,19 @@
 // else. What matters is in the libraries; here are three buffers and the two calls.
 #![tactic(auto)]
 
-ghost use Rattle.std.specs.Prelude.{◌≡◌, ◌≤◌, true, length, take, replicate};
+ghost use Rattle.std.specs.Prelude.{◌≡◌, true, replicate};
 ghost use Rattle.std.specs.Io.KnownBytes.{Appends};
 ghost use Rattle.tillsparrow.specs.Answer.{unheld, reply, leaving, shown, answered, written};
 
 use reading::{Budget, Limits, Record, Refusal, Verdict};
 use std::io::Write;
-use tillsparrow_streams::{Answer, Filled};
+use tillsparrow_streams::{Answer, Line};
 
 // Two or four channels, which neither PGM nor PPM holds.
 fn unheld(channels: usize) -> bool
     ensures { result ≡ unheld channels }
 {
-    if channels == 2 {
-        return true;
-    }
-    channels == 4
+    channels == 2 || channels == 4
 }
 
 // The picture of a record behind its head, or the refusal.
@@ -25,14 +22,11 @@ fn reply(found: Record, verdict: Verdict) -> Answer
     ensures { result ≡ reply found verdict }
 {
     match verdict {
-        Verdict::Refused(x) => Answer::refused(x),
-        Verdict::Accepted => {
-            let head = tillsparrow_streams::picture_head(found);
-            Answer {
-                line: head,
-                follow: found.output,
-            }
-        }
+        Ok(()) => Answer {
+            line: Line::Picture(found),
+            follow: found.output,
+        },
+        Err(x) => Answer::refused(x),
     }
 }
 
@@ -43,55 +37,50 @@ fn show(s: &[u8], found: Record, output: &mut [u8], scratch: &mut [u8]) -> Answe
     if unheld(found.frame.channels) {
         return Answer::refused(Refusal::Unsupported);
     }
-    let decoding = jpeg::decode(s, found, output, scratch, Budget::fresh(u64::MAX));
-    let drawn = decoding.verdict;
-    reply(found, drawn)
+    let drawn = jpeg::decode(s, found, output, scratch, Budget::fresh(u64::MAX));
+    reply(found, drawn.verdict)
 }
 
 // The limits are the buffers'; colour is chosen, and the budget always suffices.
+#[tactic(auto, unfolding(crate::specs::Answer::answered))]
 fn convert(s: &[u8], output: &mut [u8], scratch: &mut [u8]) -> Answer
     ensures { leaving result output.new scratch.new ≡ answered s.now output.old scratch.old }
 {
-    let inspection = jpeg::inspect(
+    let seen = jpeg::inspect(
         s,
         true,
         tillsparrow_streams::limits(),
         Budget::fresh(u64::MAX),
     );
-    let seen = inspection.verdict;
-    let found = inspection.found;
-    match seen {
-        Verdict::Refused(x) => Answer::refused(x),
-        Verdict::Accepted => show(s, found, output, scratch),
+    match seen.verdict {
+        Ok(()) => show(s, seen.found, output, scratch),
+        Err(x) => Answer::refused(x),
     }
 }
 
-// Writes the answer to the first n bytes that were read: whether they are there and it could be written.
-fn answer<W: Write>(stream: &mut W, buffer: &[u8], n: usize) -> bool
-    ensures room { result ≡ true → n ≤ length buffer.now }
-    ensures written { result ≡ true → Appends (W.contents stream.old) (W.contents stream.new)
-        (written (answered (take n buffer.now) (replicate 65536 0) (replicate 65536 0))) }
+// Writes the answer to a file: whether it could be written.
+fn answer<W: Write>(stream: &mut W, s: &[u8]) -> bool
+    ensures { result ≡ true → Appends (W.contents stream.old) (W.contents stream.new)
+        (written (answered s.now (replicate 65536 0) (replicate 65536 0))) }
 {
-    let mut output = [0u8; Limits::BUFFER];
-    let mut scratch = [0u8; Limits::BUFFER];
-    if buffer.len() < n {
-        return false;
-    }
-    let made = convert(&buffer[..n], &mut output, &mut scratch);
+    let mut output = [0; Limits::BUFFER];
+    let mut scratch = [0; Limits::BUFFER];
+    let made = convert(s, &mut output, &mut scratch);
     tillsparrow_streams::write(stream, made, &output)
 }
 
-// One byte more than the input limit is looked at, so that a longer file is seen to be longer.
+// One byte more than the input limit is looked at, so that a longer file is seen to be longer. Both programs have this function: as one
+// over a closure it would ask that the closure can be called, and a public function of the house asks for nothing.
 fn main(rt: HostRuntime) {
-    let mut input = [0u8; Limits::BUFFER + 1];
-    match tillsparrow_streams::fill(&mut rt.stdin(), &mut input) {
-        Filled::Failed => {
-            let _ = rt.stderr().write_all(&tillsparrow_streams::UNREAD);
-        }
-        Filled::Bytes(n) => {
-            if !answer(&mut rt.stdout(), &input, n) {
-                let _ = rt.stderr().write_all(&tillsparrow_streams::UNWRITTEN);
+    let mut input = [0; Limits::BUFFER + 1];
+    let fault = match tillsparrow_streams::fill(&mut rt.stdin(), &mut input) {
+        Ok(n) => {
+            if answer(&mut rt.stdout(), &input[..n]) {
+                return;
             }
+            tillsparrow_streams::UNWRITTEN
         }
-    }
+        Err(_) => tillsparrow_streams::UNREAD,
+    };
+    let _ = eprintln!(rt; "{fault}");
 }

@@ -2,7 +2,7 @@
 // nothing else. What matters is in the libraries; here are two buffers and the call.
 #![tactic(auto)]
 
-ghost use Rattle.std.specs.Prelude.{◌≡◌, ◌≤◌, true, length, take, replicate};
+ghost use Rattle.std.specs.Prelude.{◌≡◌, true, replicate};
 ghost use Rattle.std.specs.Io.KnownBytes.{Appends};
 ghost use Rattle.reading.specs.Calls.{settle};
 ghost use Rattle.tillsparrow_streams.specs.Answers.{own_limits, ample};
@@ -10,21 +10,18 @@ ghost use Rattle.tillsparrow_settle.specs.Answer.{reply, leaving, answered, writ
 
 use reading::{Budget, Limits, Verdict};
 use std::io::Write;
-use tillsparrow_streams::{Answer, Filled, Line};
+use tillsparrow_streams::{Answer, Line};
 
 // So many bytes of a settled file with no line before them, or the refusal.
 fn reply(length: usize, verdict: Verdict) -> Answer
     ensures { result ≡ reply length verdict }
 {
     match verdict {
-        Verdict::Refused(x) => Answer::refused(x),
-        Verdict::Accepted => {
-            let line = Line::empty();
-            Answer {
-                line: line,
-                follow: length,
-            }
-        }
+        Ok(()) => Answer {
+            line: Line::Empty,
+            follow: length,
+        },
+        Err(x) => Answer::refused(x),
     }
 }
 
@@ -38,36 +35,32 @@ fn convert(s: &[u8], output: &mut [u8]) -> Answer
         Budget::fresh(u64::MAX),
         output,
     );
-    let verdict = settling.verdict;
-    reply(settling.length, verdict)
+    reply(settling.length, settling.verdict)
 }
 
-// Writes the answer to the first n bytes that were read: whether they are there and it could be written. A settled file can be longer
-// than the file, so its buffer has four times the room.
-fn answer<W: Write>(stream: &mut W, buffer: &[u8], n: usize) -> bool
-    ensures room { result ≡ true → n ≤ length buffer.now }
-    ensures written { result ≡ true → Appends (W.contents stream.old) (W.contents stream.new)
-        (written (answered (settle (take n buffer.now) own_limits ample (replicate 262144 0)))) }
+// Writes the answer to a file: whether it could be written. A settled file can be longer than the file, so its buffer has four times the
+// room.
+fn answer<W: Write>(stream: &mut W, s: &[u8]) -> bool
+    ensures { result ≡ true → Appends (W.contents stream.old) (W.contents stream.new)
+        (written (answered (settle s.now own_limits ample (replicate 262144 0)))) }
 {
-    let mut output = [0u8; 4 * Limits::BUFFER];
-    if buffer.len() < n {
-        return false;
-    }
-    let made = convert(&buffer[..n], &mut output);
+    let mut output = [0; 4 * Limits::BUFFER];
+    let made = convert(s, &mut output);
     tillsparrow_streams::write(stream, made, &output)
 }
 
-// One byte more than the input limit is looked at, so that a longer file is seen to be longer.
+// One byte more than the input limit is looked at, so that a longer file is seen to be longer. Both programs have this function: as one
+// over a closure it would ask that the closure can be called, and a public function of the house asks for nothing.
 fn main(rt: HostRuntime) {
-    let mut input = [0u8; Limits::BUFFER + 1];
-    match tillsparrow_streams::fill(&mut rt.stdin(), &mut input) {
-        Filled::Failed => {
-            let _ = rt.stderr().write_all(&tillsparrow_streams::UNREAD);
-        }
-        Filled::Bytes(n) => {
-            if !answer(&mut rt.stdout(), &input, n) {
-                let _ = rt.stderr().write_all(&tillsparrow_streams::UNWRITTEN);
+    let mut input = [0; Limits::BUFFER + 1];
+    let fault = match tillsparrow_streams::fill(&mut rt.stdin(), &mut input) {
+        Ok(n) => {
+            if answer(&mut rt.stdout(), &input[..n]) {
+                return;
             }
+            tillsparrow_streams::UNWRITTEN
         }
-    }
+        Err(_) => tillsparrow_streams::UNREAD,
+    };
+    let _ = eprintln!(rt; "{fault}");
 }

@@ -1,11 +1,11 @@
--- A number in decimal: the text that std prints is the definition's, and a number of 64 bits has at most 20 digits. Assumes nothing.
+-- A number in decimal: the text that std prints is the definition's. Assumes nothing.
 use Prim.Native.Nat.{ℕ, suc, ◌^◌, ◌≤◌, ◌<◌}
-use mathlib.Core.Path.{◌≡◌, sym, subst}
+use mathlib.Core.Path.{◌≡◌, sym}
 use native.Mathlib.Omega.{arith}
 use lib.ListN.{length}
 use Rattle.std.proofs.Common.{rules}
 use Rattle.std.specs.Fmt.{decimal as printed}
-use Rattle.std.proofs.lemmas.Fmt.{decimal_from_appends, length-decimal-le, length-decimal-le_succ}
+use Rattle.std.proofs.lemmas.Fmt.{decimal_from_appends, length-decimal-le_succ}
 use Rattle.tillsparrow_streams.specs.Lines.{digits_in, decimal}
 
 pub decimal_is : (n : ℕ) → n < 2 ^ 64 → printed n ≡ decimal n
@@ -13,6 +13,3 @@ unfolding digits_in
 decimal_is n h =
     let short : length (printed n) ≤ suc n = omega (arith, length-decimal-le_succ n h) in
     sym (decimal_from_appends digits_in (search rules) (suc n) n h short)
-
-pub decimal_short : (n : ℕ) → n < 2 ^ 64 → length (decimal n) ≤ 20
-decimal_short n h = subst (λ l. length l ≤ 20) (decimal_is n h) (length-decimal-le 20 n (omega arith) (omega arith) h)

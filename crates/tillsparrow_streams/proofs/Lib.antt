@@ -1,4 +1,4 @@
 -- Laws that belong to no one function.
 pub mod Digits
-pub mod Lines
 pub mod Behind
+pub mod Lines

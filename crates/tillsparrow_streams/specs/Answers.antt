@@ -3,9 +3,9 @@ use Rattle.std.specs.Prelude.{ℕ, ◌-◌, ◌^◌, List, ◌++◌, take}
 use Rattle.reading.specs.declared.Limits.{Limits}
 use Rattle.reading.specs.declared.Budget.{Budget}
 use Rattle.reading.specs.declared.Refusal.{Refusal}
-use Rattle.reading.specs.Calls.{number_of}
 use Rattle.tillsparrow_streams.specs.declared.Answer.{Answer}
-use Rattle.tillsparrow_streams.specs.Lines.{line_of, refused}
+use Rattle.tillsparrow_streams.specs.declared.Line.TheVariants.{Refused}
+use Rattle.tillsparrow_streams.specs.Lines.{line_text}
 
 -- the buffers hold 65,536 bytes, and no frame has a longer side
 abbrev pub own_limits : Limits
@@ -17,8 +17,8 @@ ample = record { left = 2 ^ 64 - 1 }
 
 -- the line of a refusal, and nothing behind it
 abbrev pub refusing : Refusal → Answer
-refusing x = record { line = line_of (refused (number_of x)); follow = 0 }
+refusing x = record { line = Refused x; follow = 0 }
 
 -- what is written of an answer: its line, and the bytes of the output that follow it
 abbrev pub text_of : Answer → List ℕ → List ℕ
-text_of a output = take a.line.length a.line.bytes ++ take a.follow output
+text_of a output = line_text a.line ++ take a.follow output

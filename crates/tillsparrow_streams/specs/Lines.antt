@@ -1,8 +1,10 @@
 -- The lines that the programs write: a refusal's and the head of a picture; and a text put into a line.
-use Rattle.std.specs.Prelude.{ℕ, zero, suc, ◌+◌, ◌-◌, ◌/◌, ◌%◌, min, ◌≡◌, refl, cond, List, [], ◌∷◌, ◌++◌, ltb, eqb, length, replicate}
+use Rattle.std.specs.Prelude.{ℕ, zero, suc, ◌+◌, ◌-◌, ◌/◌, ◌%◌, min, ◌≡◌, refl, cond, List, [], ◌∷◌, ◌++◌, ltb, eqb, length}
 use Rattle.std.proofs.Math.Seq.{paste}
 use Rattle.reading.specs.declared.Record.{Record}
+use Rattle.reading.specs.Calls.{number_of}
 use Rattle.tillsparrow_streams.specs.declared.Line.{Line}
+use Rattle.tillsparrow_streams.specs.declared.Line.TheVariants.{Empty, Refused, Picture}
 
 -- ---- texts
 
@@ -47,9 +49,11 @@ square r one wide high = rw (one, wide, high) refl
 
 -- ---- lines
 
--- a text as a line: zeros behind it, and its length
-abbrev pub line_of : List ℕ → Line
-line_of text = record { bytes = text ++ replicate (64 - length text) 0; length = length text }
+-- what a line says
+unfoldable pub line_text : Line → List ℕ
+line_text Empty = []
+line_text (Refused x) = refused (number_of x)
+line_text (Picture r) = picture_head r
 
 -- how many bytes of a text have room in a line from a place on
 abbrev pub fitting : List ℕ → ℕ → List ℕ → ℕ
@@ -58,8 +62,3 @@ fitting line at text = min (length text) (length line - at)
 -- the line with those bytes in it
 abbrev pub placed : List ℕ → ℕ → List ℕ → List ℕ
 placed line at text = paste line at text (fitting line at text)
-
--- a line with a text behind its own, as much of it as there is room for
-abbrev pub line_with : Line → List ℕ → Line
-line_with l text =
-    record { bytes = placed l.bytes l.length text; length = l.length + fitting l.bytes l.length text }

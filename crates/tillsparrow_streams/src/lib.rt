@@ -1,50 +1,44 @@
-// What the programs share: a stream read whole, an answer written, the lines of a refusal and of a picture's head, a text put into
-// a line, a record as its numbers, a byte as a number, and the limits that they run with.
+// What the programs share: a stream read, an answer written, the lines of a refusal and of a picture's head, a text put into a buffer,
+// a record as its numbers, and the limits that they run with.
 #![tactic(auto)]
 
-ghost use Rattle.std.specs.Prelude.{◌+◌, ◌<◌, ◌≤◌, ◌≡◌, true, [], length, take};
+ghost use Rattle.std.specs.Prelude.{◌+◌, ◌<◌, ◌≤◌, ◌≡◌, OnOk, true, length, take};
 ghost use Rattle.std.specs.Io.KnownBytes.{Appends, Consumes};
 ghost use Rattle.tillsparrow_streams.specs.Read.{Fills, Took};
-ghost use Rattle.tillsparrow_streams.specs.Lines.{decimal, refused, kind_of, picture_head, line_of, fitting, placed, line_with};
+ghost use Rattle.tillsparrow_streams.specs.Lines.{refused, picture_head, line_text, fitting, placed};
 ghost use Rattle.tillsparrow_streams.specs.Answers.{own_limits, refusing, text_of};
 ghost use Rattle.tillsparrow_streams.specs.Numbers.{four_at, numbers_of};
 
-use itoa::Buffer;
 use reading::{Limits, Record, Refusal};
 use std::io::{Read, Write};
+use std::{fmt, io};
 
 // What a program says on standard error where it cannot go on.
-pub const UNREAD: [u8; 38] = *b"tillsparrow: the input cannot be read\n";
+pub const UNREAD: &str = "tillsparrow: the input cannot be read";
 
-pub const UNWRITTEN: [u8; 42] = *b"tillsparrow: the output cannot be written\n";
+pub const UNWRITTEN: &str = "tillsparrow: the output cannot be written";
 
-// What was read of a stream: so many bytes, or a read failed.
-#[derive(Clone, Copy)]
-pub enum Filled {
-    Bytes(usize),
-    Failed,
+// A read of a stream failed, behind so many bytes.
+#[derive(Clone, Copy, Debug, PartialEq, Eq)]
+pub struct Unread {
+    pub behind: usize,
 }
 
-// Reads a stream until it ends or the buffer is full.
-pub fn fill<R: Read>(stream: &mut R, buffer: &mut [u8]) -> Filled
+// Reads a stream until it ends or the buffer is full: how many bytes stand at the buffer's start.
+pub fn fill<R: Read>(stream: &mut R, buffer: &mut [u8]) -> Result<usize, Unread>
     ensures room { Fills (length buffer.new) result }
     ensures bytes { Took (R.remaining stream.old) (R.remaining stream.new) buffer.new result }
 {
-    let mut n = 0usize;
-    'reads: loop {
-        if buffer.len() <= n {
-            break 'reads Filled::Bytes(n);
-        }
+    let mut n = 0;
+    // a read takes as many bytes as the stream gives at once
+    while n < buffer.len() {
         match stream.read(&mut buffer[n..]) {
-            Err(_) => break 'reads Filled::Failed,
-            Ok(more) => {
-                if more == 0 {
-                    break 'reads Filled::Bytes(n);
-                }
-                n = n + more;
-            }
+            Ok(0) => break,
+            Ok(more) => n += more,
+            Err(_) => return Err(Unread { behind: n }),
         }
     }
+    Ok(n)
 }
 
 // Reads a stream until the buffer is full, the stream ends or a read fails: how many bytes stand at the buffer's start.
@@ -52,20 +46,9 @@ pub fn read_full<R: Read>(stream: &mut R, buffer: &mut [u8]) -> usize
     ensures room { result ≤ length buffer.new }
     ensures bytes { Consumes (R.remaining stream.old) (R.remaining stream.new) (take result buffer.new) }
 {
-    let mut n = 0usize;
-    'reads: loop {
-        if buffer.len() <= n {
-            break 'reads n;
-        }
-        match stream.read(&mut buffer[n..]) {
-            Err(_) => break 'reads n,
-            Ok(more) => {
-                if more == 0 {
-                    break 'reads n;
-                }
-                n = n + more;
-            }
-        }
+    match fill(stream, buffer) {
+        Ok(n) => n,
+        Err(unread) => unread.behind,
     }
 }
 
@@ -74,10 +57,7 @@ pub fn write_first<W: Write>(stream: &mut W, bytes: &[u8], n: usize) -> bool
     ensures room { result ≡ true → n ≤ length bytes.now }
     ensures written { result ≡ true → Appends (W.contents stream.old) (W.contents stream.new) (take n bytes.now) }
 {
-    if bytes.len() < n {
-        return false;
-    }
-    stream.write_all(&bytes[..n]).is_ok()
+    n <= bytes.len() && stream.write_all(&bytes[..n]).is_ok()
 }
 
 // Puts a text into a line from a place on, as much of it as there is room for; answers the place behind it.
@@ -85,91 +65,58 @@ pub fn put(line: &mut [u8], at: usize, text: &[u8]) -> usize
     ensures behind { result ≡ at + fitting line.old at text.now }
     ensures written { line.new ≡ placed line.old at text.now }
 {
-    let mut next = at;
-    let mut i = 0usize;
-    while i < text.len() {
-        if line.len() <= next {
-            return next;
-        }
-        line[next] = text[i];
-        next += 1;
-        i += 1;
+    if line.len() <= at {
+        return at;
     }
-    next
+    let n = text.len().min(line.len() - at);
+    line[at..at + n].copy_from_slice(&text[..n]);
+    at + n
 }
 
-// A text with zeros behind it, and how long it is.
-#[derive(Clone, Copy)]
-pub struct Line {
-    pub bytes: [u8; Line::ROOM],
-    pub length: usize,
-}
-
-impl Line {
-    // the head of a picture has at most 49 bytes, whatever its record
-    const ROOM: usize = 64;
-
-    // no text
-    pub fn empty() -> Self
-        ensures { result ≡ line_of [] }
-    {
-        Self {
-            bytes: [0; Self::ROOM],
-            length: 0,
-        }
-    }
-
-    // a text behind this one, as much of it as there is room for
-    fn with_text(self, text: &[u8]) -> Self
-        ensures { result ≡ line_with self text.now }
-    {
-        let mut bytes = self.bytes;
-        let length = put(&mut bytes, self.length, text);
-        Self {
-            bytes: bytes,
-            length: length,
-        }
-    }
-
-    // a number's digits behind it
-    fn with_number(self, n: u64) -> Self
-        ensures { result ≡ line_with self (decimal n) }
-    {
-        let mut digits = Buffer::new();
-        self.with_text(digits.format(n).as_bytes())
-    }
+// What stands before the bytes of its output that a program writes: nothing, `refused N`, or the head of a record's picture.
+#[derive(Clone, Copy, Debug, PartialEq, Eq)]
+pub enum Line {
+    Empty,
+    Refused(Refusal),
+    Picture(Record),
 }
 
 // `refused N` and a newline.
-fn refusal(number: u8) -> Line
-    ensures { result ≡ line_of (refused number) }
+fn write_refusal<W: Write>(stream: &mut W, number: u8) -> io::Result<()>
+    ensures { OnOk result (Appends (W.contents stream.old) (W.contents stream.new) (refused number)) }
 {
-    let word = Line::empty().with_text(b"refused ");
-    word.with_number(number as u64).with_text(b"\n")
+    writeln!(stream, "refused {number}")
 }
 
-// P5 for one channel, else P6.
-fn kind(channels: usize) -> Line
-    ensures { result ≡ line_of (kind_of channels) }
+// The kind of a picture, its sides, and 255, the largest sample.
+fn write_head<W: Write>(stream: &mut W, found: Record) -> io::Result<()>
+    ensures { OnOk result (Appends (W.contents stream.old) (W.contents stream.new) (picture_head found)) }
 {
-    if channels == 1 {
-        return Line::empty().with_text(b"P5\n");
+    let kind = if found.frame.channels == 1 {
+        "P5"
+    } else {
+        "P6"
+    };
+    writeln!(
+        stream,
+        "{kind}\n{} {}\n255",
+        found.frame.width, found.frame.height
+    )
+}
+
+#[tactic(auto, unfolding(crate::specs::Lines::line_text))]
+fn write_line<W: Write>(stream: &mut W, line: Line) -> io::Result<()>
+    ensures { OnOk result (Appends (W.contents stream.old) (W.contents stream.new) (line_text line)) }
+{
+    match line {
+        Line::Empty => Ok(()),
+        Line::Refused(x) => write_refusal(stream, x.number()),
+        Line::Picture(found) => write_head(stream, found),
     }
-    Line::empty().with_text(b"P6\n")
-}
-
-// What stands before the bytes of a picture: its kind, its sides, and 255, the largest sample.
-pub fn picture_head(found: Record) -> Line
-    ensures { result ≡ line_of (picture_head found) }
-{
-    let frame = found.frame;
-    let wide = kind(frame.channels).with_number(frame.width as u64);
-    let high = wide.with_text(b" ").with_number(frame.height as u64);
-    high.with_text(b"\n255\n")
 }
 
 // What a program answers: a line, and how many bytes of its output follow it.
-#[derive(Clone, Copy)]
+#[derive(Clone, Copy, Debug, PartialEq, Eq)]
 pub struct Answer {
     pub line: Line,
     pub follow: usize,
@@ -180,9 +127,8 @@ impl Answer {
     pub fn refused(x: Refusal) -> Self
         ensures { result ≡ refusing x }
     {
-        let line = refusal(x.number());
         Self {
-            line: line,
+            line: Line::Refused(x),
             follow: 0,
         }
     }
@@ -193,19 +139,7 @@ pub fn write<W: Write>(stream: &mut W, answer: Answer, output: &[u8]) -> bool
     ensures room { result ≡ true → answer.follow ≤ length output.now }
     ensures written { result ≡ true → Appends (W.contents stream.old) (W.contents stream.new) (text_of answer output.now) }
 {
-    let line = answer.line;
-    let bytes = line.bytes;
-    if !write_first(stream, &bytes, line.length) {
-        return false;
-    }
-    write_first(stream, output, answer.follow)
-}
-
-// A byte as a number.
-pub fn wide(x: u8) -> u64
-    ensures { (result ≡ x) × (result < 256) }
-{
-    x as u64
+    write_line(stream, answer.line).is_ok() && write_first(stream, output, answer.follow)
 }
 
 // The limits of a program with buffers of 65,536 bytes.
@@ -235,37 +169,47 @@ fn four(list: &mut [usize; 46], at: usize, entries: [usize; 4])
     requires { at + 3 < 46 }
     ensures { list.new ≡ four_at list.old at entries }
 {
-    list[at] = entries[0];
-    list[at + 1] = entries[1];
-    list[at + 2] = entries[2];
-    list[at + 3] = entries[3];
+    list[at..at + 4].copy_from_slice(&entries);
 }
 
-// A record's 46 numbers in their order.
-pub fn numbers(found: Record) -> [usize; 46]
-    ensures { result ≡ numbers_of found }
-{
-    let frame = found.frame;
-    let tables = found.tables;
-    let mut list = [0usize; 46];
-    list[0] = frame.width;
-    list[1] = frame.height;
-    list[2] = frame.channels;
-    four(&mut list, 3, frame.across);
-    four(&mut list, 7, frame.down);
-    four(&mut list, 11, frame.ids);
-    four(&mut list, 15, frame.qids);
-    four(&mut list, 19, found.dcids);
-    four(&mut list, 23, found.acids);
-    four(&mut list, 27, tables.quants);
-    four(&mut list, 31, tables.dcs);
-    four(&mut list, 35, tables.acs);
-    list[39] = found.interval;
-    list[40] = found.start;
-    list[41] = found.blocks;
-    list[42] = found.scratch;
-    list[43] = found.output;
-    list[44] = found.work as usize;
-    list[45] = if found.colour { 1 } else { 0 };
-    list
+// A record's 46 numbers in their order; written, a blank stands before each.
+#[derive(Clone, Copy)]
+pub struct Numbers(pub [usize; 46]);
+
+#[tactic(auto, unfolding(crate::specs::Numbers::numbers_of))]
+impl From<Record> for Numbers {
+    ghost from_gives = { λ found numbers. numbers.0 ≡ numbers_of found };
+
+    fn from(found: Record) -> Self {
+        let mut list = [0; 46];
+        list[0] = found.frame.width;
+        list[1] = found.frame.height;
+        list[2] = found.frame.channels;
+        four(&mut list, 3, found.frame.across);
+        four(&mut list, 7, found.frame.down);
+        four(&mut list, 11, found.frame.ids);
+        four(&mut list, 15, found.frame.qids);
+        four(&mut list, 19, found.dcids);
+        four(&mut list, 23, found.acids);
+        four(&mut list, 27, found.tables.quants);
+        four(&mut list, 31, found.tables.dcs);
+        four(&mut list, 35, found.tables.acs);
+        list[39] = found.interval;
+        list[40] = found.start;
+        list[41] = found.blocks;
+        list[42] = found.scratch;
+        list[43] = found.output;
+        list[44] = found.work as usize;
+        list[45] = usize::from(found.colour);
+        Self(list)
+    }
+}
+
+impl fmt::Display for Numbers {
+    fn fmt<W: fmt::Write>(&self, f: &mut fmt::Formatter<W>) -> fmt::Result {
+        for x in self.0 {
+            write!(f, " {x}")?;
+        }
+        Ok(())
+    }
 }

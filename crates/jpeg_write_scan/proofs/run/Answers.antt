@@ -1,32 +1,41 @@
--- `run`: what each way out of the pass says, and that one MCU more keeps what is still to come (ScanPassed). What a fault is called is
--- found by `cc`, which needs no name of the call.
+-- `run`: what each way out of the pass says, and that one MCU more keeps what is still to come (ScanFollowed).
 use mathlib.Core.Path.{sym, ◌∙◌, ap}
-use native.Mathlib.Omega.{arith}
 use borrow.Author.Rules.{rules}
-use Rattle.jpeg_write_bits.specs.declared.Outcome.TheVariants.{Done}
-use Rattle.jpeg_write_scan.proofs.ScanPassed.{told_by, begin, ended_done, ended_not, stopped, gained, broken, further}
+use Rattle.std.specs.Prelude.{Err}
+use Rattle.std.proofs.lemmas.Result.{err_from_is_err_and}
+use Rattle.jpeg_write_scan.proofs.ScanFollowed.{mcus, mcu_inside, mcus_all, begin, ended_done, ended_not, broken, further}
 use Rattle.jpeg_write_scan.proofs.run.Goals as goal
 
-pub mcus-init : goal.mcus-init
-mcus-init c = begin _ _ _ c.fresh-cursor.ensures (ap Done c.fresh.ensures)
+pub loop-m-init : goal.loop-m-init
+loop-m-init g c = begin _ _ _ _ c.fresh.ensures c.fresh-2.ensures
 
-pub mcus-smaller : goal.mcus-smaller
-mcus-smaller c =
-    omega (arith, gained c.mcus.invariant c.if-blocks-cursor.false c.restart-a.ensures c.in-No.is c.mark-marked.ensures c.mcu-b.ensures c.in-No-g.is, c.if-blocks-cursor.false, c.requires.1)
+pub returns-in_err-at : goal.returns-in_err-at
+returns-in_err-at g c =
+    let e = g.E.Engine in
+    let n = e.plan_of c.args.engine.now in
+    let i = mcu_inside n c.requires.1 (c.div_ceil-m-end.ensures ∙ ap mcus c.plan-plan.ensures) c.loop-m-test.true in
+    let p = err_from_is_err_and c.from_residual.result c.from_residual.ensures.1 in
+    broken _ e.says c.loop-m.invariant i c.in_err-at.ensures (p.1 ∙ ap Err p.2)
 
-pub mcus-preserved : goal.mcus-preserved
-mcus-preserved c = further c.mcus.invariant c.if-blocks-cursor.false c.restart-a.ensures c.in-No.is c.mark-marked.ensures c.mcu-b.ensures (search rules) c.in-No-g.is
+pub loop-m-preserved : goal.loop-m-preserved
+loop-m-preserved g c =
+    let e = g.E.Engine in
+    let n = e.plan_of c.args.engine.now in
+    let i = mcu_inside n c.requires.1 (c.div_ceil-m-end.ensures ∙ ap mcus c.plan-plan.ensures) c.loop-m-test.true in
+    further _ e.says c.loop-m.invariant i c.in_ok-at.ensures
 
-pub returns-then-at_end : goal.returns-then-at_end
-returns-then-at_end c = ended_done c.mcus.invariant c.if-blocks-cursor.true (sym c.at_end.ensures ∙ c.if-at_end.true) (search rules) c.last.ensures
+pub returns-then-not-at_end : goal.returns-then-not-at_end
+returns-then-not-at_end g c =
+    let e = g.E.Engine in
+    let n = e.plan_of c.args.engine.now in
+    let x = c.loop-m.invariant in
+    let all = mcus_all n c.requires.1 (c.div_ceil-m-end.ensures ∙ ap mcus c.plan-plan.ensures) c.loop-m-test.false in
+    ended_not _ e.says x all (sym (c.if-not-at_end.ensures x.here.bits x.follows.met)) (c.broke.ensures x.here x.here x.follows x.follows)
 
-pub returns-else-at_end : goal.returns-else-at_end
-returns-else-at_end c = told_by (cc) (ended_not c.mcus.invariant c.if-blocks-cursor.true (sym c.at_end.ensures ∙ c.if-at_end.false))
-
-pub returns-in-Yes : goal.returns-in-Yes
-returns-in-Yes c = told_by (cc) (stopped c.mcus.invariant c.if-blocks-cursor.false c.restart-a.ensures c.in-Yes.is)
-
-pub returns-in-Yes-g : goal.returns-in-Yes-g
-returns-in-Yes-g c =
-    told_by c.broke_in.ensures
-    (broken c.mcus.invariant c.if-blocks-cursor.false c.restart-a.ensures c.in-No.is c.mark-marked.ensures c.mcu-b.ensures (search rules) c.in-Yes-g.is)
+pub returns : goal.returns
+returns g c =
+    let e = g.E.Engine in
+    let n = e.plan_of c.args.engine.now in
+    let x = c.loop-m.invariant in
+    let all = mcus_all n c.requires.1 (c.div_ceil-m-end.ensures ∙ ap mcus c.plan-plan.ensures) c.loop-m-test.false in
+    ended_done _ e.says x all (sym (c.if-not-at_end.ensures x.here.bits x.follows.met)) (search rules) c.last.ensures

@@ -1,10 +1,6 @@
--- `run`: before each MCU what is still to come is what was to come at the start (ScanPassed).
-use Rattle.std.proofs.Common.{◌-◌}
-use Rattle.jpeg_write_scan.proofs.ScanPassed.{Walk}
+-- `run`: before each MCU what is still to come is what was to come at the start (ScanFollowed).
+use Rattle.jpeg_write_scan.proofs.ScanFollowed.{Walk}
 use Rattle.jpeg_write_scan.proofs.run.Given as goal
 
-abbrev pub invariant-mcus : goal.invariant-mcus
-invariant-mcus l = Walk l.s l.plan l.fn.out l.out l.cursor l.ink l.m
-
-abbrev pub decreases-mcus : goal.decreases-mcus
-decreases-mcus l = l.plan.blocks - l.cursor.done
+abbrev pub invariant-loop-m : goal.invariant-loop-m
+invariant-loop-m g l = let e = g.E.Engine in Walk (e.meets l.engine) (e.file l.engine) (e.plan_of l.engine) l.fn.out l.out l.at l.m

@@ -2,7 +2,7 @@
 -- gives.
 -- It is here for the code: a contract of an inner function cites it, and nothing in it needs to be believed by someone who reads
 -- the theorems of the calls.
-use Rattle.std.specs.Prelude.{ℕ, ◌^◌, Bool, cond, List, leb, ltb, length, ℤ}
+use Rattle.std.specs.Prelude.{ℕ, ◌^◌, Bool, cond, List, leb, ltb, length, ℤ, Result, Ok, Err}
 use Rattle.std.proofs.Math.Option.{Option, none, some}
 use Rattle.reading.specs.declared.Bits.{Bits}
 use Rattle.reading.specs.declared.Break.{Break}
@@ -10,8 +10,10 @@ use Rattle.reading.specs.declared.Fault.{Fault}
 use Rattle.reading.specs.declared.Fault.TheVariants.{Broken}
 use Rattle.reading.specs.declared.Record.{Record}
 use Rattle.reading.specs.declared.ScanCursor.{ScanCursor}
-use Rattle.reading.specs.declared.ScanSettled.{ScanSettled}
-use Rattle.reading.specs.declared.ScanSettled.TheVariants as answer
+use Rattle.reading.specs.declared.Refusal.{Refusal}
+use Rattle.reading.specs.declared.Refusal.TheVariants.{NoEndCode, Scan}
+use Rattle.reading.specs.declared.Unsettled.{Unsettled}
+use Rattle.reading.specs.declared.Unsettled.TheVariants.{Lacking, Broke}
 use Rattle.reading.specs.Tests.{◌and◌, over}
 use Rattle.reading.specs.Code.Mcus.{sampled}
 use Rattle.reading.specs.Bits.{first_bit}
@@ -19,15 +21,15 @@ use Rattle.reading.specs.Scan.{Plan, plan_of, no_predictors, Cursor, Scanned, wh
 use Rattle.reading.specs.Settled.{settled_scan}
 
 -- a scan before its first block: the bit place, four predictors and the count of blocks done
-abbrev pub at_start : ℕ → ScanCursor
+abbrev pub at_start : ℕ → ScanCursor Bits
 at_start at = record { bits = first_bit at; predictors = no_predictors; done = 0 }
 
 -- the cursor of the rules
-abbrev pub cursor_of : ScanCursor → Cursor Bits
+abbrev pub cursor_of : ScanCursor Bits → Cursor Bits
 cursor_of q = record { bits = q.bits; predictors = q.predictors; done = q.done }
 
 -- a fault in the turn that begins at a cursor
-abbrev pub broke_at : ScanCursor → Fault → Break
+abbrev pub broke_at : ScanCursor Bits → Fault → Break
 broke_at q f = record { fault = f; block = q.done; place = q.bits.at }
 
 -- what is said of a scan that is not read
@@ -55,10 +57,15 @@ unfolding scan_of settled_scan
 settled_of s r = cond (ltb r.blocks (2 ^ 32)) (settled_read (plan_of s r) (scan_of s r)) (broke nowhere)
 
 -- what is answered of it
-unfoldable pub scan_settled : Scanned Bits (Option (List ℕ)) → ScanSettled
-scan_settled (whole none b) = answer.Lacking
-scan_settled (whole (some t) b) = answer.Done (length t)
-scan_settled (broke w) = answer.Stop w
+unfoldable pub scan_settled : Scanned Bits (Option (List ℕ)) → Result ℕ Unsettled
+scan_settled (whole none b) = Err Lacking
+scan_settled (whole (some t) b) = Ok (length t)
+scan_settled (broke w) = Err (Broke w)
+
+-- the refusal of a file whose scan is not settled
+abbrev pub refusal_of : Unsettled → Refusal
+refusal_of Lacking = NoEndCode
+refusal_of (Broke w) = Scan w
 
 -- what lies in the buffer then: the settled scan over the old bytes where there is room for it, else the old bytes
 unfoldable pub laid_over : Scanned Bits (Option (List ℕ)) → List ℕ → List ℕ

@@ -1,9 +1,6 @@
--- Each turn leaves fewer parts, and a part has fewer than 65,536 bytes.
-use Rattle.std.proofs.Common.{◌-◌, ◌*◌, ◌≤◌}
+-- A part has fewer than 65,536 bytes.
+use Rattle.std.proofs.Common.{◌*◌, ◌≤◌}
 use Rattle.test_header.proofs.joined.Given as goal
 
 abbrev pub invariant-loop-k : goal.invariant-loop-k
-invariant-loop-k l = (l.k ≤ l.parts) × (l.length ≤ 65535 * l.k)
-
-abbrev pub decreases-loop-k : goal.decreases-loop-k
-decreases-loop-k l = l.parts - l.k
+invariant-loop-k l = l.length ≤ 65535 * l.k

@@ -3,10 +3,10 @@ use Rattle.std.proofs.Common.{length, take, ◌-◌, ◌≤◌, ◌≡◌}
 use Rattle.std.specs.Io.KnownBytes.{Consumes}
 use Rattle.tillsparrow_streams.proofs.fill.Given as goal
 
-abbrev pub invariant-reads : goal.invariant-reads
-invariant-reads g l =
+abbrev pub invariant-loop-n : goal.invariant-loop-n
+invariant-loop-n g l =
     (length l.buffer ≡ length l.initial.buffer) × (l.n ≤ length l.buffer)
     × Consumes (g.R.Read.remaining l.initial.stream) (g.R.Read.remaining l.stream) (take l.n l.buffer)
 
-abbrev pub decreases-reads : goal.decreases-reads
-decreases-reads g l = length l.buffer - l.n
+abbrev pub decreases-loop-n : goal.decreases-loop-n
+decreases-loop-n g l = length l.buffer - l.n

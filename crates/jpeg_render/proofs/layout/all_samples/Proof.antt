@@ -10,22 +10,22 @@ use Rattle.jpeg_render.proofs.layout.all_samples.Statement.{statement}
 use Rattle.jpeg_render.proofs.layout.all_samples.Tie as tie
 
 -- the MCUs of a picture, and its blocks, in the rules' words
-mcus_are : (c : tie.After-mcus-down)
-    → c.mcus-across.result * c.mcus-down.result
+mcus_are : (c : tie.After-mcus-2)
+    → c.mcus.result * c.mcus-2.result
     ≡ mcus_across (shape_of c.args.frame) * mcus_down (shape_of c.args.frame)
 mcus_are c =
     let start = c.before.before in
-    ap₂ (λ (x y : ℕ). x * y) (across_asked _ start.requires.0 start.requires.1 c.mcus-across.ensures) (down_asked _ start.requires.0 start.requires.1 c.mcus-down.ensures)
+    ap₂ (λ (x y : ℕ). x * y) (across_asked _ start.requires.0 start.requires.1 c.mcus.ensures) (down_asked _ start.requires.0 start.requires.1 c.mcus-2.ensures)
 
-product_is : (c : tie.After-mcus-down)
-    → c.mcus-across.result * c.mcus-down.result * c.args.m.blocks
+product_is : (c : tie.After-mcus-2)
+    → c.mcus.result * c.mcus-2.result * c.args.m.blocks
     ≡ mcus_across (shape_of c.args.frame) * mcus_down (shape_of c.args.frame) * areas (shape_of c.args.frame).factors
 product_is c = ap₂ (λ (x y : ℕ). x * y) (mcus_are c) (blocks_is _ c.requires.0 c.requires.1)
 
-mcus_requires : tie.Need-mcus-across-requires
+mcus_requires : tie.Need-mcus-requires
 mcus_requires c κs = search rules
 
-mcus_requires_2 : tie.Need-mcus-down-requires
+mcus_requires_2 : tie.Need-mcus-requires-2
 mcus_requires_2 c κs = search rules
 
 mul_result : tie.Need-overflow_mul-result

@@ -50,10 +50,10 @@ element_copy_out_spread_6 c = search rules
 spread_requires_3 : tie.Need-spread-requires-3
 spread_requires_3 c κs = (c.requires.lanes 2 (omega arith), refl)
 
-mul_e : tie.Need-overflow_mul-e
+mul_e : tie.Need-overflow_mul-n
 mul_e c = omega (arith, few_pixels c.requires)
 
-add_e : tie.Need-overflow_add-e
+add_e : tie.Need-overflow_add-at
 add_e c =
     let start = c.before.before.before.before.before.before.before.before.before.before.before.before.before.before in
     omega (arith, start.requires.room, start.well_formed)

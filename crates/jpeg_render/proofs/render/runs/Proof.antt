@@ -14,10 +14,10 @@ use Rattle.jpeg_render.proofs.render.runs.Tie as tie
 gather_requires : tie.Need-gather-requires
 gather_requires c κs = search rules
 
-mul_e : tie.Need-overflow_mul-e
+mul_e : tie.Need-overflow_mul-n
 mul_e c = omega (arith, c.requires)
 
-add_e : tie.Need-overflow_add-e
+add_e : tie.Need-overflow_add-at
 add_e c = omega (arith, c.requires, c.well_formed)
 
 sub_run : tie.Need-slice_bounds-run-count

@@ -1,0 +1,10 @@
+-- `filled`: before each byte, those still to come fill the cursor as all of them do.
+use Rattle.std.proofs.Common.{◌-◌}
+use Rattle.jpeg_bits_wide.proofs.Filling.{cursor, Filling}
+use Rattle.jpeg_bits_wide.proofs.filled.Given as goal
+
+abbrev pub invariant-more : goal.invariant-more
+invariant-more l = Filling l.s l.fn.w (cursor l.at l.acc l.left)
+
+abbrev pub decreases-more : goal.decreases-more
+decreases-more l = 57 - l.left

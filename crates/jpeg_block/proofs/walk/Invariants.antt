@@ -1,0 +1,13 @@
+-- `walk`: at each place the block is what is still to be read there, behind the levels that stand (`Walk`, of Remaining).
+use Rattle.std.proofs.Common.{◌≡◌, ◌-◌, cond, eqb}
+use Rattle.jpeg_block.proofs.Remaining.{Walk}
+use Rattle.jpeg_block.proofs.walk.Given as goal
+
+abbrev pub invariant-walk : goal.invariant-walk
+invariant-walk l = record {
+  base : l.base ≡ cond (eqb l.place 0) l.dc l.ac;
+  walk : Walk l.t l.s l.dc l.ac l.pred l.initial.here l.here l.place l.reach l.levels;
+}
+
+abbrev pub decreases-walk : goal.decreases-walk
+decreases-walk l = 64 - l.place

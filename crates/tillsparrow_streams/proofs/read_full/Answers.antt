@@ -1,8 +1,0 @@
-use Rattle.std.proofs.Common.{rules}
-use Rattle.tillsparrow_streams.proofs.Behind.{more_read}
-use Rattle.tillsparrow_streams.proofs.read_full.Goals as goal
-
-pub reads-preserved : goal.reads-preserved
-reads-preserved g c =
-    let before = c.reads in
-    (search rules, search rules, more_read _ _ _ before.n _ c.in-Ok.more before.buffer _ before.invariant.1 c.in-Ok.ensures.bound.0 before.invariant.2 c.in-Ok.ensures.bytes.0)
