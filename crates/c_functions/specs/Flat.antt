@@ -1,6 +1,7 @@
 -- The calls for C: decode by 46 numbers, and the answers with their numbers.
 use Rattle.std.specs.Prelude.{ℕ, ◌+◌, cond, List, ltb, length, ℤ}
 use Rattle.reading.specs.declared.Budget.{Budget}
+use Rattle.reading.specs.declared.Decoding.{Decoding}
 use Rattle.reading.specs.declared.Inspection.{Inspection}
 use Rattle.reading.specs.declared.Part.{Part}
 use Rattle.reading.specs.declared.Presence.{Presence}
@@ -53,9 +54,11 @@ pub record Drawn : Type 0 where
 abbrev pub drawn : Decoded → List ℕ → List ℕ → Drawn
 drawn answer out scratch = record { answer = answer; output = out; scratch = scratch }
 
+abbrev pub flat_decoding : Decoding → Decoded
+flat_decoding q = record { number = calls.number q.verdict; left = q.budget.left }
+
 abbrev pub decoded : calls.Decoded → Drawn
-decoded d =
-    drawn (record { number = calls.number d.answer.verdict; left = d.answer.budget.left }) d.output d.scratch
+decoded d = drawn (flat_decoding d.answer) d.output d.scratch
 
 -- ---- comments
 

@@ -4,12 +4,14 @@
 
 ghost use Rattle.std.specs.Prelude.{◌≡◌};
 ghost use Rattle.reading.specs.Calls.{inspect};
-ghost use Rattle.c_functions.specs.Flat.{inspected, drawn, decoded, decode_flat, flat_part, flat_presence};
+ghost use Rattle.c_functions.specs.Flat.{inspected, flat_decoding, drawn, decoded, decode_flat, flat_part, flat_presence};
 ghost use Rattle.reading.specs.Comments.{comment_part, has_comment};
 
 use c_record::FlatRecord;
-use reading::{Budget, Limits, Part};
+use reading::{Budget, Decoding, Inspection, Limits, Part, Presence};
 
+// What C sees of an answer, here and below: C has no enum that holds a refusal, so `number` is 0 or the refusal's, `left` what is left of
+// the budget, `block` and `place` are 0 but where a scan broke, and a yes or no is 1 or 0.
 #[repr(C)]
 #[derive(Clone, Copy)]
 pub struct Inspected {
@@ -20,11 +22,37 @@ pub struct Inspected {
     pub found: FlatRecord,
 }
 
+impl From<Inspection> for Inspected {
+    ghost from_gives = { λ seen numbers. numbers ≡ inspected seen };
+
+    fn from(seen: Inspection) -> Self {
+        let named = reading::place_named(seen.verdict);
+        Self {
+            number: usize::from(reading::number(seen.verdict)),
+            left: seen.budget.left,
+            block: named.block,
+            place: named.place,
+            found: FlatRecord::from(seen.found),
+        }
+    }
+}
+
 #[repr(C)]
 #[derive(Clone, Copy)]
 pub struct Decoded {
     pub number: usize,
     pub left: u64,
+}
+
+impl From<Decoding> for Decoded {
+    ghost from_gives = { λ seen numbers. numbers ≡ flat_decoding seen };
+
+    fn from(seen: Decoding) -> Self {
+        Self {
+            number: usize::from(reading::number(seen.verdict)),
+            left: seen.budget.left,
+        }
+    }
 }
 
 // A part of the bytes: its place and its length.
@@ -35,6 +63,17 @@ pub struct FlatPart {
     pub length: usize,
 }
 
+impl From<Part> for FlatPart {
+    ghost from_gives = { λ part numbers. numbers ≡ flat_part part };
+
+    fn from(part: Part) -> Self {
+        Self {
+            at: part.at,
+            length: part.length,
+        }
+    }
+}
+
 #[repr(C)]
 #[derive(Clone, Copy)]
 pub struct FlatPresence {
@@ -43,6 +82,21 @@ pub struct FlatPresence {
     pub block: usize,
     pub place: usize,
     pub there: usize,
+}
+
+impl From<Presence> for FlatPresence {
+    ghost from_gives = { λ seen numbers. numbers ≡ flat_presence seen };
+
+    fn from(seen: Presence) -> Self {
+        let named = reading::place_named(seen.verdict);
+        Self {
+            number: usize::from(reading::number(seen.verdict)),
+            left: seen.budget.left,
+            block: named.block,
+            place: named.place,
+            there: usize::from(seen.there),
+        }
+    }
 }
 
 // What a file holds.
@@ -57,24 +111,12 @@ pub extern "C" fn tillsparrow_inspect(
 ) -> Inspected
     ensures { result ≡ inspected (inspect bytes.now colour (record { input = input; side = side; output = output }) (record { left = budget })) }
 {
-    let seen = jpeg::inspect(
-        bytes,
-        colour,
-        Limits {
-            input,
-            side,
-            output,
-        },
-        Budget::fresh(budget),
-    );
-    let named = reading::place_named(seen.verdict);
-    Inspected {
-        number: usize::from(reading::number(seen.verdict)),
-        left: seen.budget.left,
-        block: named.block,
-        place: named.place,
-        found: FlatRecord::from(seen.found),
-    }
+    let limits = Limits {
+        input,
+        side,
+        output,
+    };
+    Inspected::from(jpeg::inspect(bytes, colour, limits, Budget::fresh(budget)))
 }
 
 // The picture and the block samples of a file whose record is given; any numbers may come in.
@@ -88,17 +130,13 @@ pub extern "C" fn tillsparrow_decode(
 ) -> Decoded
     ensures { drawn result output.new scratch.new ≡ decoded (decode_flat bytes.now found output.old scratch.old (record { left = budget })) }
 {
-    let seen = jpeg::decode(
+    Decoded::from(jpeg::decode(
         bytes,
         c_record::asked(found),
         output,
         scratch,
         Budget::fresh(budget),
-    );
-    Decoded {
-        number: usize::from(reading::number(seen.verdict)),
-        left: seen.budget.left,
-    }
+    ))
 }
 
 // Where the text of comment i stands in the bytes.
@@ -106,8 +144,7 @@ pub extern "C" fn tillsparrow_decode(
 pub extern "C" fn tillsparrow_comment(bytes: &[u8], i: usize) -> FlatPart
     ensures { result ≡ flat_part (comment_part bytes.now i) }
 {
-    let Part { at, length } = jpeg_comment::comment_part(bytes, i);
-    FlatPart { at, length }
+    FlatPart::from(jpeg_comment::comment_part(bytes, i))
 }
 
 // Whether comment i is there, at inspect's price and with its numbers.
@@ -122,22 +159,10 @@ pub extern "C" fn tillsparrow_has_comment(
 ) -> FlatPresence
     ensures { result ≡ flat_presence (has_comment bytes.now i (record { input = input; side = side; output = output }) (record { left = budget })) }
 {
-    let seen = jpeg_comment::has_comment(
-        bytes,
-        i,
-        Limits {
-            input,
-            side,
-            output,
-        },
-        Budget::fresh(budget),
-    );
-    let named = reading::place_named(seen.verdict);
-    FlatPresence {
-        number: usize::from(reading::number(seen.verdict)),
-        left: seen.budget.left,
-        block: named.block,
-        place: named.place,
-        there: usize::from(seen.there),
-    }
+    let limits = Limits {
+        input,
+        side,
+        output,
+    };
+    FlatPresence::from(jpeg_comment::has_comment(bytes, i, limits, Budget::fresh(budget)))
 }

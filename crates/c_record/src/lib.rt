@@ -7,7 +7,7 @@ ghost use Rattle.c_record.specs.Flat.{flat, record_of};
 
 use reading::{Frame, Record, Tables};
 
-// A record as numbers of 64 bits, in this order; `include/tillsparrow.h` has the same. The colour choice is 0 or 1.
+// A record as numbers of 64 bits, in this order; `include/tillsparrow.h` has the same. The colour choice is 0 or 1, as C has it.
 #[repr(C)]
 #[derive(Clone, Copy)]
 pub struct FlatRecord {
@@ -32,6 +32,9 @@ pub struct FlatRecord {
     pub colour: usize,
 }
 
+// The fields stand in this impl and in the next: the one struct that C sees and a record with a frame and tables of its own have no part in
+// common, and an impl that a macro of the house's own writes is refused. An array goes over by a name that a pattern gives it, since the check
+// takes no field that is an array straight into a literal.
 impl From<Record> for FlatRecord {
     ghost from_gives = { λ found numbers. numbers ≡ flat found };
 

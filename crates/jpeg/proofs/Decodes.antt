@@ -14,10 +14,8 @@ use Rattle.reading.specs.declared.Record.{Record}
 use Rattle.reading.specs.declared.Refusal.{Refusal}
 use Rattle.reading.specs.declared.Refusal.TheVariants.{OverBudget, ShortRoom, NotItsRecord}
 use Rattle.reading.specs.Scan.{Scanned, whole, broke}
-use Rattle.reading.specs.Header.{Stage, more, done, stop, header}
-use Rattle.reading.specs.Code.Heads.{headed}
 use Rattle.reading.specs.Scan.{levels}
-use Rattle.reading.specs.Reading.{accepted, scanned, read_from, reading, samples_of}
+use Rattle.reading.specs.Reading.{accepted, scanned, reading, samples_of}
 use Rattle.reading.specs.Judging.{Judged, accepts, refuses, onward, pay}
 use Rattle.reading.specs.Calls.{header_price, same, short_room, its_levels, Decoded, undecoded, decoded_with, decoded, decode}
 use Rattle.reading.proofs.Equal.{records_equal}

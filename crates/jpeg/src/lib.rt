@@ -58,13 +58,9 @@ fn draw(s: &[u8], read: Record, found: Record, out: &mut [u8], scratch: &mut [u8
     if !jpeg_record::same(read, found) {
         return Err(Refusal::NotItsRecord);
     }
-    match jpeg_scan::draw(s, found, scratch) {
-        Ok(()) => {
-            jpeg_render::picture(found.frame, found.colour, &scratch[..found.scratch], out);
-            Ok(())
-        }
-        Err(_) => Err(Refusal::NotItsRecord),
-    }
+    jpeg_scan::draw(s, found, scratch).map_err(|_| Refusal::NotItsRecord)?;
+    jpeg_render::picture(found.frame, found.colour, &scratch[..found.scratch], out);
+    Ok(())
 }
 
 // Decode behind its price: the header, by the record's colour choice, and 8 where it gives no record.
@@ -73,10 +69,8 @@ fn draw_file(s: &[u8], found: Record, out: &mut [u8], scratch: &mut [u8]) -> Ver
     requires { short_room found out.old scratch.old ≡ false }
     ensures { (rest : Budget) → leaving (answered (judged result rest)) out.new scratch.new ≡ file_drawn s.now found out.old scratch.old rest }
 {
-    match jpeg_header::header(s, found.colour) {
-        Ok(read) => draw(s, read, found, out, scratch),
-        Err(_) => Err(Refusal::NotItsRecord),
-    }
+    let read = jpeg_header::header(s, found.colour).map_err(|_| Refusal::NotItsRecord)?;
+    draw(s, read, found, out, scratch)
 }
 
 // Decode's tests in their order, and what it leaves of the budget.
@@ -124,16 +118,6 @@ fn settled(s: &[u8], limits: Limits, budget: &mut Budget, out: &mut [u8]) -> Res
 pub fn settle(s: &[u8], limits: Limits, mut budget: Budget, out: &mut [u8]) -> Settling
     ensures { remade result out.new ≡ settle s.now limits budget out.old }
 {
-    match settled(s, limits, &mut budget, out) {
-        Ok(length) => Settling {
-            verdict: Ok(()),
-            budget,
-            length,
-        },
-        Err(unfiled) => Settling {
-            verdict: Err(unfiled.refusal),
-            budget,
-            length: unfiled.length,
-        },
-    }
+    let filed = settled(s, limits, &mut budget, out);
+    jpeg_settle::answered(filed, budget)
 }

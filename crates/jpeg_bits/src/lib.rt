@@ -44,18 +44,16 @@ fn fresh(s: &[u8], at: usize) -> Result<(u8, Bits), Fault>
 pub fn bit(s: &[u8], b: Bits) -> Result<(u8, Bits), Fault>
     ensures { read_of result ≡ one s.now b }
 {
-    match b.left {
-        // one test for nearly every bit
-        1..=8 => {
-            let left = b.left - 1;
-            Ok(((b.byte >> left) % 2, Bits { left, ..b }))
-        }
-        0 => fresh(s, b.at),
-        _ => {
-            let left = b.left - 1;
-            Ok((0, Bits { left, ..b }))
-        }
+    // one test for nearly every bit, so that it is made first
+    if (1..=8).contains(&b.left) {
+        let left = b.left - 1;
+        return Ok(((b.byte >> left) % 2, Bits { left, ..b }));
     }
+    if b.left == 0 {
+        return fresh(s, b.at);
+    }
+    let left = b.left - 1;
+    Ok((0, Bits { left, ..b }))
 }
 
 // The number v, and behind it k bits of a byte: those above its lowest `rest`. Above a byte there are zeros.

@@ -1,6 +1,8 @@
 -- What is to come at a cursor, as a plain list of bits and the bytes from the next marker on: filling up leaves it as it is, taking n bits takes
 -- the first n from it, and where none is left and no data byte comes the next bit is a fault.
-use Rattle.std.proofs.Common.{◌≡◌, ℕ, zero, suc, ◌+◌, ◌-◌, ◌*◌, ◌/◌, ◌%◌, ◌^◌, ◌<◌, ◌≤◌, Bool, true, false, eqb, leb, ◌⊎◌, List, [], ◌∷◌, ◌++◌, drop, sym, refl, ap, ◌∙◌, subst, ap₂, inl, inr, ⊎_elim, append_assoc, mod-lt, mod-eq_of_lt, mul_assoc, mul_comm, add-mul, arith, lit<, pow_pos, pow-add, shl_lt, shr-shr, shr_lt, leb-false, leb-true, Some, None}
+use Rattle.std.proofs.Common.{◌≡◌, ℕ, zero, suc, ◌+◌, ◌-◌, ◌*◌, ◌/◌, ◌%◌, ◌^◌, ◌<◌, ◌≤◌, Bool, true, false, eqb, leb, ◌⊎◌, List, [], ◌∷◌}
+use Rattle.std.proofs.Common.{◌++◌, drop, sym, refl, ap, ◌∙◌, subst, ap₂, inl, inr, ⊎_elim, append_assoc, mod-lt, mod-eq_of_lt, mul_assoc}
+use Rattle.std.proofs.Common.{mul_comm, add-mul, arith, lit<, pow_pos, pow-add, shl_lt, shr-shr, shr_lt, leb-false, leb-true, Some, None}
 use Rattle.std.specs.Prelude as Std
 use mathlib.Core.Path.{subst⁻¹}
 use mathlib.Core.Option.{some}
@@ -136,7 +138,9 @@ byte_more_lem s bytes w p = room (leb w.left 56) refl
             zero_byte : (t : Bool) → eqb y 0 ≡ t → Byte s w (behind_full w (some y))
             zero_byte true z =
                 rw z (data_byte 255 (w.at + 2) (lit< tt)
-                (ap unstuff (e ∙ ap (λ k. x ∷ k) f) ∙ rw (q, z) (ap (λ k. ahead (bits_of 8 255) (unstuff k)) (sym (drop_two s w.at ∙ ap (λ k. rest_of (rest_of k)) (e ∙ ap (λ k. x ∷ k) f))))))
+                (ap unstuff (e ∙ ap (λ k. x ∷ k) f)
+                ∙ rw (q, z) (ap (λ k. ahead (bits_of 8 255) (unstuff k))
+                (sym (drop_two s w.at ∙ ap (λ k. rest_of (rest_of k)) (e ∙ ap (λ k. x ∷ k) f))))))
             zero_byte false z = rw z (stays refl (record { none_left = rw (e, f, q, z) refl }))
 
         test : (t : Bool) → eqb x 255 ≡ t → Byte s w (behind_byte s w (some x))

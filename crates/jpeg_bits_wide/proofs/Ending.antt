@@ -1,5 +1,6 @@
 -- Bit by bit, and where no bit is left, at a proper cursor.
-use Rattle.std.proofs.Common.{◌≡◌, ℕ, zero, suc, ◌+◌, ◌-◌, ◌*◌, ◌/◌, ◌%◌, ◌^◌, ◌<◌, ◌≤◌, List, [], ◌∷◌, length, drop, refl, ap, ◌∙◌, append-nil, le_of_suc-le-suc, not-suc-le-zero, arith, length-drop, eq-eqb, ne_eqb, le-leb}
+use Rattle.std.proofs.Common.{◌≡◌, ℕ, zero, suc, ◌+◌, ◌-◌, ◌*◌, ◌/◌, ◌%◌, ◌^◌, ◌<◌, ◌≤◌, List, [], ◌∷◌, length, drop, refl, ap}
+use Rattle.std.proofs.Common.{◌∙◌, append-nil, le_of_suc-le-suc, not-suc-le-zero, arith, length-drop, eq-eqb, ne_eqb, le-leb}
 use borrow.Author.Tests.{lt-leb}
 use Rattle.reading.specs.declared.Fault.TheVariants.{RanOut, Bare}
 use Rattle.reading.specs.Reader.{got, fault}

@@ -1,6 +1,7 @@
 -- A wide cursor and a bit place of the file that meet: what is read at the one is read at the other, and they meet behind it. And two bit
 -- places that meet one cursor read alike.
-use Rattle.std.proofs.Common.{◌≡◌, ℕ, ◌-◌, ◌/◌, ◌%◌, ◌^◌, ◌<◌, ◌≤◌, Bool, true, false, cond, leb, List, drop, ℤ, sym, refl, ap, ◌∙◌, ap₂, ⊎_elim, mod-eq_of_lt, arith, lit<, pow_mono, leb-false, leb-true}
+use Rattle.std.proofs.Common.{◌≡◌, ℕ, ◌-◌, ◌/◌, ◌%◌, ◌^◌, ◌<◌, ◌≤◌, List, drop, ℤ, sym}
+use Rattle.std.proofs.Common.{refl, ap, ◌∙◌, ap₂, mod-eq_of_lt, arith, lit<, pow_mono}
 use mathlib.Core.Path.{subst⁻¹}
 use Rattle.reading.specs.declared.Bits.{Bits}
 use Rattle.reading.specs.declared.Fault.{Fault}
@@ -14,7 +15,7 @@ use Rattle.reading.proofs.Unstuffed.{Pending, one_alike, plain_mark, plain_sourc
 use Rattle.reading.proofs.FileBytes.{AllBytes}
 use Rattle.jpeg_bits_wide.specs.declared.Wide.{Wide}
 use Rattle.jpeg_bits_wide.specs.Cursor.{Proper, to_come, Meets, fresh, filled, topped, taken, fault_at, narrowed}
-use Rattle.jpeg_bits_wide.proofs.Coming.{Bared, Enough, Ready, fresh_proper, high_is, filled_ready, topped_ready, taken_proper, amplitude_taken}
+use Rattle.jpeg_bits_wide.proofs.Coming.{Bared, Ready, fresh_proper, high_is, filled_ready, topped_ready, taken_proper, amplitude_taken}
 use Rattle.jpeg_bits_wide.proofs.Ending.{amplitude_short}
 
 -- ---- answers that are alike
@@ -87,14 +88,8 @@ module _ {s : List ℕ} {b : Bits} {w : Wide} (bytes : AllBytes s) (m : Meets s 
   pub filled_meets : Meets s b (filled s w)
   filled_meets = still_meets (filled_ready s bytes w m.proper)
 
-  pub filled_full : Enough s 57 (filled s w)
-  filled_full = (filled_ready s bytes w m.proper).enough
-
   pub topped_meets : Meets s b (topped s w)
   topped_meets = still_meets (topped_ready s bytes w m.proper)
-
-  pub topped_full : Enough s 32 (topped s w)
-  topped_full = (topped_ready s bytes w m.proper).enough
 
 -- ---- bits that are there, or are not
 
@@ -121,26 +116,6 @@ module _ {s : List ℕ} {b : Bits} {w : Wide} (m : Meets s b w) where
     amplitude_stops h none =
         over_plain (fault (fault_at s w.at))
         (subst⁻¹ (λ y. Alike (Stands s) (fault (fault_at s w.at)) y) (amplitude_short s w none n h) refl)
-
-    -- a value where all its bits are there, or no data byte comes
-    pub amplitude_plain :
-        Enough s n w
-        → Alike (Meets s) (amplitude (one s) n b)
-        (cond (leb n w.left) (got (meaning n (w.acc / 2 ^ (64 - n))) (taken n w)) (fault (fault_at s w.at)))
-    amplitude_plain e = go (leb n w.left) refl
-      where
-        none : w.left < n → Bared s w.at
-        none h = ⊎_elim (λ k. absurd (over k h)) (λ k. k) e
-          where
-            over : n ≤ w.left → w.left < n → ⊥
-            over k i = omega arith
-
-        go :
-            (t : Bool)
-            → leb n w.left ≡ t
-            → Alike (Meets s) (amplitude (one s) n b) (cond t (got (meaning n (w.acc / 2 ^ (64 - n))) (taken n w)) (fault (fault_at s w.at)))
-        go true q = amplitude_meets (leb-true n w.left q)
-        go false q = amplitude_stops (leb-false n w.left q) (none (leb-false n w.left q))
 
 -- ---- markers and the end
 

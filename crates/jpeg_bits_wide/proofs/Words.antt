@@ -1,5 +1,7 @@
 -- Four data bytes as one number, and that they are four bytes more.
-use Rattle.std.proofs.Common.{◌≡◌, ℕ, ◌+◌, ◌-◌, ◌*◌, ◌%◌, ◌^◌, ◌<◌, ◌≤◌, Bool, true, false, cond, ◌||◌, ◌==◌, List, [], ◌∷◌, length, get_or, take, drop, Some, None, w32, sym, refl, ap, ◌∙◌, ap₂, add_assoc, mul_assoc, add-mul, arith, pow-add, shl_exact, ltb-false, le-ltb, lt-ltb, le-leb, drop-cons, slice_range, add-one}
+use Rattle.std.proofs.Common.{◌≡◌, ℕ, ◌+◌, ◌-◌, ◌*◌, ◌%◌, ◌^◌, ◌<◌, ◌≤◌, Bool, true, false, cond, ◌||◌, ◌==◌, List, [], ◌∷◌, length}
+use Rattle.std.proofs.Common.{get_or, take, drop, Some, None, w32, sym, refl, ap, ◌∙◌, ap₂, add_assoc, mul_assoc, add-mul, arith}
+use Rattle.std.proofs.Common.{pow-add, shl_exact, ltb-false, le-ltb, lt-ltb, le-leb, drop-cons, slice_range, add-one}
 use Rattle.std.proofs.lemmas.List.{take_rest}
 use Rattle.std.specs.Prelude as Std
 use Rattle.std.specs.List.{list_any}
@@ -13,20 +15,14 @@ use Rattle.jpeg_bits_wide.proofs.Filling.{more_data, cursor}
 
 -- ---- the number
 
--- one of four tests holds, or none: the chain of the tests stops, or comes to its end
-stopped : {A : Type 0} (p q r t : Bool) (n x : A) → p || (q || (r || (t || false))) ≡ true → n ≡ cond p n (cond q n (cond r n (cond t n x)))
-stopped true q r t n x h = refl
-stopped false true r t n x h = refl
-stopped false false true t n x h = refl
-stopped false false false true n x h = refl
-stopped false false false false n x h = cc
-
-ended : {A : Type 0} (p q r t : Bool) (n x : A) → p || (q || (r || (t || false))) ≡ false → x ≡ cond p n (cond q n (cond r n (cond t n x)))
-ended true q r t n x h = cc
-ended false true r t n x h = cc
-ended false false true t n x h = cc
-ended false false false true n x h = cc
-ended false false false false n x h = refl
+-- one of four tests holds, or none: the chain of the tests goes the same way
+chained : {A : Type 0} (u p q r t : Bool) (n x : A) → u ≡ p || (q || (r || (t || false)))
+    → cond u n x ≡ cond p n (cond q n (cond r n (cond t n x)))
+chained u true q r t n x h = rw h refl
+chained u false true r t n x h = rw h refl
+chained u false false true t n x h = rw h refl
+chained u false false false true n x h = rw h refl
+chained u false false false false n x h = rw h refl
 
 one_of : (s : List ℕ) (i j : ℕ) → j ≡ i + 1 → i < length s → drop i s ≡ get_or s i 0 ∷ drop j s
 one_of s i j e h = drop-cons s i 0 h ∙ ap (λ k. get_or s i 0 ∷ drop k s) (sym (e ∙ add-one i))
@@ -54,16 +50,16 @@ module _ (s : List ℕ) (at : ℕ) where
       unfolding word_at
       word_marked h =
           rw (le-ltb _ _ room)
-          (stopped (get_or s at 0 == 255) (get_or s (at + 1) 0 == 255) (get_or s (at + 2) 0 == 255) (get_or s (at + 3) 0 == 255) None _
-          (sym (rw bytes_are at h)))
+          (chained true (get_or s at 0 == 255) (get_or s (at + 1) 0 == 255) (get_or s (at + 2) 0 == 255) (get_or s (at + 3) 0 == 255) None _
+          (rw bytes_are at h))
 
       pub word_whole : false ≡ list_any (λ x. x == 255) bytes → Some (from_be_bytes w32 bytes) ≡ word_at s at
       unfolding word_at
       word_whole h =
           rw (le-ltb _ _ room)
           (rw bytes_are
-          (ended (get_or s at 0 == 255) (get_or s (at + 1) 0 == 255) (get_or s (at + 2) 0 == 255) (get_or s (at + 3) 0 == 255) None _
-          (sym (rw bytes_are at h))))
+          (chained false (get_or s at 0 == 255) (get_or s (at + 1) 0 == 255) (get_or s (at + 2) 0 == 255) (get_or s (at + 3) 0 == 255) None _
+          (rw bytes_are at h)))
 
 -- what a number says
 pub record Four (s : List ℕ) (at v : ℕ) : Type 0 where

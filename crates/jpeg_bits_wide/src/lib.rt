@@ -50,11 +50,11 @@ pub fn filled(s: &[u8], w: Wide) -> Wide
         mut acc,
         mut left,
     } = w;
-    'more: while left <= 56 && at < s.len() {
+    while left <= 56 && at < s.len() {
         let x = s[at];
         if x == 255 {
             if s.len() - at < 2 || s[at + 1] != 0 {
-                break 'more;
+                break;
             }
             at += 2;
         } else {

@@ -10,7 +10,8 @@ ghost use Rattle.reading.specs.Code.Answers.{read_of};
 
 use reading::{Bits, Fault, Level};
 
-// What n bits that make v mean: negative in the lower half. With no bits v is 0, and so is what it means.
+// What n bits that make v mean: negative in the lower half. With no bits v is 0, and so is what it means. jpeg_bits_wide has a `meant` of
+// its own, which is public and so asks nothing; this one asks that the bits fit, and takes no remainder.
 fn meant(v: usize, n: usize) -> i32
     requires { (n ≤ 16) × (v < 2 ^ n) }
     ensures { result ≡ meaning n v }
@@ -34,5 +35,5 @@ pub fn amplitude(s: &[u8], b: Bits, n: usize) -> Result<(i32, Bits), Fault>
 pub fn predictable(level: i64) -> bool
     ensures { result ≡ predictable level }
 {
-    Level::LEAST <= level && level <= Level::MOST
+    (Level::LEAST..=Level::MOST).contains(&level)
 }

@@ -109,34 +109,25 @@ module _
   block_never z e other x levels = promised t dc ac look c s from p x levels (never_meets z e other x levels)
 
   -- behind the first level
-  goes_meets :
-      {at : ℕ} {z : ℤ} {q : Wide}
-      → r ≡ Ok (Put at z q)
-      → {before : List ℤ} (x : Result (BlockRead Wide) Fault) (levels : List ℤ)
-      → before ≡ set (zeros 64) 0 z
-      → RestMeets t ac look (n + 512) s q before x levels
-      → BlockMeets t dc ac look c s from p x levels
-  unfolding BlockMeets
-  goes_meets {at} {z} {q} e x levels first rest tabled b m =
-      let a = at_first e tabled b m in
-      let none : at ≡ 0 = subst AtFirst a.is (first_leads t s dc p b) in
-      rest (record {
-        dc = dc;
-        p = p;
-        z = z;
-        b = b;
-        here = a.behind;
-        read = a.is ∙ ap (λ k. got (puts k z) a.behind) none;
-        first = first;
-        meets = a.meets;
-        looks = λ acc fits. ap (λ k. looked 9 look (k + 512) acc) part ∙ part_looks look c 512 acc ∙ tabled.laters acc fits;
-      })
+  module _
+      {at : ℕ} {z : ℤ} {q : Wide} (e : r ≡ Ok (Put at z q)) {before : List ℤ} (x : Result (BlockRead Wide) Fault) (levels : List ℤ)
+      (first : before ≡ set (zeros 64) 0 z) (rest : RestMeets t ac look (n + 512) s q before x levels) where
+    goes_meets : BlockMeets t dc ac look c s from p x levels
+    unfolding BlockMeets
+    goes_meets tabled b m =
+        let a = at_first e tabled b m in
+        let none : at ≡ 0 = subst AtFirst a.is (first_leads t s dc p b) in
+        rest (record {
+          dc = dc;
+          p = p;
+          z = z;
+          b = b;
+          here = a.behind;
+          read = a.is ∙ ap (λ k. got (puts k z) a.behind) none;
+          first = first;
+          meets = a.meets;
+          looks = λ acc fits. ap (λ k. looked 9 look (k + 512) acc) part ∙ part_looks look c 512 acc ∙ tabled.laters acc fits;
+        })
 
-  pub block_goes :
-      {at : ℕ} {z : ℤ} {q : Wide}
-      → r ≡ Ok (Put at z q)
-      → {before : List ℤ} (x : Result (BlockRead Wide) Fault) (levels : List ℤ)
-      → before ≡ set (zeros 64) 0 z
-      → RestMeets t ac look (n + 512) s q before x levels
-      → Promised t dc ac look c s from p x levels
-  block_goes e x levels first rest = promised t dc ac look c s from p x levels (goes_meets e x levels first rest)
+    pub block_goes : Promised t dc ac look c s from p x levels
+    block_goes = promised t dc ac look c s from p x levels goes_meets

@@ -44,7 +44,7 @@ fn step(
     }
 }
 
-// Where the entries of a channel begin.
+// Where the entries of a channel begin: those of all four are one array, as memory is fixed.
 fn part(c: usize) -> usize
     ensures { result ≡ part_of c }
 {
@@ -113,7 +113,7 @@ fn rest(
     } = w;
     let mut place = 1usize;
     let mut reach = 1usize;
-    'walk: while place < 64 {
+    while place < 64 {
         Wide { at, acc, left } = jpeg_bits_wide::topped(s, Wide { at, acc, left });
         let e = jpeg_huffman_table::entry(look, from, acc);
         let total = e / 256;
@@ -127,17 +127,17 @@ fn rest(
             left -= total;
             place = k + 1;
             reach = place;
-            continue 'walk;
+            continue;
         }
         if ends(total, left, e % 256) {
             acc = behind;
             left -= total;
-            break 'walk;
+            break;
         }
         match step(t, ac, s, Wide { at, acc, left }, place, 0)? {
             Step::End(q) => {
                 Wide { at, acc, left } = q;
-                break 'walk;
+                break;
             }
             Step::Skip(q) => {
                 Wide { at, acc, left } = q;

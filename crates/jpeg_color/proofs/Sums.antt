@@ -37,7 +37,8 @@ up n (negsuc a) = go (ltb (65536 * n) (suc a)) refl (ltb n (suc (a / 65536))) re
     not_below h k = omega arith
 
     go : (s : Bool) → ltb (65536 * n) (suc a) ≡ s → (t : Bool) → ltb n (suc (a / 65536)) ≡ t
-        → shr_z (cond s (negsuc (suc a - suc (65536 * n))) (pos (65536 * n - suc a))) 65536 ≡ cond t (negsuc (suc (a / 65536) - suc n)) (pos (n - suc (a / 65536)))
+        → shr_z (cond s (negsuc (suc a - suc (65536 * n))) (pos (65536 * n - suc a))) 65536
+        ≡ cond t (negsuc (suc (a / 65536) - suc n)) (pos (n - suc (a / 65536)))
     go true p true q = ap negsuc (below (ltb-true (65536 * n) (suc a) p))
     go true p false q = absurd (not_above (ltb-true (65536 * n) (suc a) p) (ltb-false n (suc (a / 65536)) q))
     go false p true q = absurd (not_below (ltb-false (65536 * n) (suc a) p) (ltb-true n (suc (a / 65536)) q))
@@ -46,7 +47,9 @@ up n (negsuc a) = go (ltb (65536 * n) (suc a)) refl (ltb n (suc (a / 65536))) re
 -- whole multiples of 65536 pass by it
 pub passes : (k z : ℤ) → shr_z (pos 65536 *ℤ k +ℤ z) 65536 ≡ k +ℤ shr_z z 65536
 passes (pos n) z = up n z
-passes (negsuc n) z = sym (ap (λ x. negsuc n +ℤ x) back ∙ sym (+ℤ_assoc (negsuc n) (pos (suc n)) (shr_z w 65536)) ∙ ap (λ x. x +ℤ shr_z w 65536) (+ℤ_invl (pos (suc n))) ∙ +ℤ_idl (shr_z w 65536))
+passes (negsuc n) z =
+    sym (ap (λ x. negsuc n +ℤ x) back ∙ sym (+ℤ_assoc (negsuc n) (pos (suc n)) (shr_z w 65536))
+    ∙ ap (λ x. x +ℤ shr_z w 65536) (+ℤ_invl (pos (suc n))) ∙ +ℤ_idl (shr_z w 65536))
   where
     m : ℤ
     m = pos (65536 * suc n)
@@ -70,7 +73,8 @@ byte h = plain 255 (omega arith) tt
 pub difference : {n : ℕ} → Fits w8 n → Held w32 (to_z w32 (of_z w32 (to_z w32 n -ℤ pos 128))) (pos n -ℤ pos 128) 383
 difference h = less (byte h) (number 128) tt
 
-pub floor : {x z : ℤ} {m : ℕ} → Held w32 x z m → (k : ℕ) → T (leb m (65536 * k)) → T (ltb (65536 * k) (2 ^ 31)) → Held w32 (to_z w32 (of_z w32 (shr_z x 65536))) (shr_z z 65536) k
+pub floor : {x z : ℤ} {m : ℕ} → Held w32 x z m → (k : ℕ) → T (leb m (65536 * k)) → T (ltb (65536 * k) (2 ^ 31))
+    → Held w32 (to_z w32 (of_z w32 (shr_z x 65536))) (shr_z z 65536) k
 floor {x} {z} {m} h k t u = record {
   is = shifted w32 65536 h.is (fits_abs (le_trans h.small (leb→le m (65536 * k) t)) u);
   small = shift_small z k (le_trans h.small (leb→le m (65536 * k) t));
@@ -80,5 +84,6 @@ floor {x} {z} {m} h k t u = record {
 pub called : {r x y z v : ℤ} {m n : ℕ} → Held w32 x z m → Held w32 y v n → (k : ℕ) → T (leb (m + n) (65536 * k)) → T (ltb (65536 * k) (2 ^ 31))
     → r ≡ shr_z (x -ℤ y) 65536 → Held w32 (to_z w32 (of_z w32 r)) (shr_z (z -ℤ v) 65536) k
 called {r} {x} {y} {z} {v} {m} {n} g h k t u e =
-    let w : Held w32 (to_z w32 (of_z w32 (shr_z (z -ℤ v) 65536))) (shr_z (z -ℤ v) 65536) k = floor {x = z -ℤ v} (record { is = refl; small = abs_sub z v g.small h.small }) k t u in
+    let w : Held w32 (to_z w32 (of_z w32 (shr_z (z -ℤ v) 65536))) (shr_z (z -ℤ v) 65536) k =
+    floor {x = z -ℤ v} (record { is = refl; small = abs_sub z v g.small h.small }) k t u in
     record { is = ap (λ a. to_z w32 (of_z w32 a)) (e ∙ ap₂ (λ a b. shr_z (a -ℤ b) 65536) g.is h.is) ∙ w.is; small = w.small }

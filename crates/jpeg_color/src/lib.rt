@@ -18,13 +18,6 @@ pub fn to_byte<T: Into<i32>>(v: T) -> u8
     v.into().clamp(Sample::LEAST as i32, Sample::MOST as i32) as u8
 }
 
-// The same of a number of 16 bits, by its name.
-pub fn short_to_byte(short: i16) -> u8
-    ensures { result ≡ to_byte short }
-{
-    to_byte(short)
-}
-
 // What a chroma sample adds to luma in red: 91881 is 65536 + 26345.
 pub fn red_part(cr: u8) -> i32
     ensures { (result ≡ red_part cr) × (nat_abs result ≤ 1024) }

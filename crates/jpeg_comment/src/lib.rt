@@ -20,7 +20,8 @@ fn accepted(s: &[u8]) -> bool
     }
 }
 
-// Where the text of comment i stands, counted from 0; empty where there is none or the file is not accepted, limits set aside.
+// Where the text of comment i stands, counted from 0; empty where there is none or the file is not accepted, limits set aside. The rules' answer
+// is then place 0 and length 0, and no Option (`comment_part` of reading's Comments), and C has the two numbers.
 pub fn comment_part(s: &[u8], i: usize) -> Part
     ensures { result ≡ comment_part s.now i }
 {

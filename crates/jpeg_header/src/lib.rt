@@ -14,7 +14,7 @@ ghost use Rattle.jpeg_header_state.specs.Segments.{stepped};
 ghost use Rattle.jpeg_header.specs.Steps.{Inside, segment_at};
 
 use jpeg_header_state::Step;
-use reading::{Case, Header, Part, Record, Refusal};
+use reading::{Case, Header, Kind, Part, Record, Refusal};
 
 // ---- one step
 
@@ -42,7 +42,8 @@ fn segment_at(s: &[u8], at: usize) -> Result<Segment, Refusal>
     Ok(Segment { from: at + 4, end })
 }
 
-// The code behind a 255 chooses the step or the refusal: 217 and fill as they stand, any other behind the length of its segment.
+// The code behind a 255 chooses the step or the refusal: fill and 217 as they stand, any other behind the length of its segment and by its
+// kind.
 #[tactic(auto, unfolding(reading::specs::Header::stop_if, jpeg_header_state::specs::Segments::stepped, crate::specs::Steps::segment_at))]
 fn marker(s: &[u8], colour: bool, state: Header) -> Result<Step, Refusal>
     requires { (state.at ≤ length s.now) × Framed state }
@@ -52,37 +53,23 @@ fn marker(s: &[u8], colour: bool, state: Header) -> Result<Step, Refusal>
     if s.len() - at < 2 || s[at] != 255 {
         return Err(Refusal::Malformed);
     }
-    match s[at + 1] {
-        192..=193 => {
-            let Segment { from, end } = segment_at(s, at)?;
-            jpeg_header_state::frame(&s[from..end], state, end)
-        }
-        196 => {
-            let Segment { from, end } = segment_at(s, at)?;
-            jpeg_header_state::tables(state, from, end, Case::Huffman(end))
-        }
-        217 => Err(Refusal::Malformed), // the end, wherever it stands
-        218 => {
-            let Segment { from, end } = segment_at(s, at)?;
-            jpeg_header_state::scan(&s[from..end], colour, state, end)
-        }
-        219 => {
-            let Segment { from, end } = segment_at(s, at)?;
-            jpeg_header_state::tables(state, from, end, Case::Quantizers(end))
-        }
-        221 => {
-            let Segment { from, end } = segment_at(s, at)?;
-            jpeg_header_state::interval(&s[from..end], state, end)
-        }
-        224..=239 | 254 => {
-            let segment = segment_at(s, at)?;
-            Ok(Step::More(state.moved(segment.end, Case::Marker)))
-        }
-        255 => Ok(Step::More(state.moved(at + 1, Case::Marker))), // fill
-        _ => {
-            segment_at(s, at)?;
-            Err(Refusal::Unsupported)
-        }
+    let code = s[at + 1];
+    if code == 255 {
+        return Ok(Step::More(state.moved(at + 1, Case::Marker))); // fill
+    }
+    if code == 217 {
+        return Err(Refusal::Malformed); // the end, wherever it stands
+    }
+    let Segment { from, end } = segment_at(s, at)?;
+    let body = &s[from..end];
+    match Kind::from(code) {
+        Kind::Quants => jpeg_header_state::tables(state, from, end, Case::Quantizers(end)),
+        Kind::Tables => jpeg_header_state::tables(state, from, end, Case::Huffman(end)),
+        Kind::Frames => jpeg_header_state::frame(body, state, end),
+        Kind::Scans => jpeg_header_state::scan(body, colour, state, end),
+        Kind::Intervals => jpeg_header_state::interval(body, state, end),
+        Kind::Skips => Ok(Step::More(state.moved(end, Case::Marker))),
+        Kind::Others => Err(Refusal::Unsupported),
     }
 }
 

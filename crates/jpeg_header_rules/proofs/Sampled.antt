@@ -2,12 +2,13 @@
 -- has and a sum of at most ten blocks, and where none was, one of these fails.
 use Prim.Native.Nat.{ℕ, ◌+◌, ◌<◌, ◌≤◌, zero-le}
 use mathlib.Core.Path.{◌≡◌, refl, sym, ap, ◌∙◌, subst, subst⁻¹}
-use mathlib.Core.Bool.{Bool, true, false, cond, not}
+use mathlib.Core.Bool.{Bool, true, false, cond}
 use mathlib.Core.List.{List}
 use native.Mathlib.Omega.{arith}
 use lib.Dec.{T, leb, ltb, eqb, leb→le}
 use lib.ListN.{get_or, take}
-use borrow.Author.Tests.{le-leb, eqb-true, eqb-false}
+use borrow.Author.Tests.{le-leb}
+use Rattle.std.specs.Prelude.{Option, Some, None, is_some}
 use Rattle.reading.specs.declared.Frame.{Frame}
 use Rattle.reading.specs.declared.Mcu.{Mcu}
 use Rattle.reading.specs.Tests.{◌and◌, within, apart}
@@ -59,7 +60,7 @@ module _ (b : List ℕ) where
           blocks = h;
         }
 
-    sum_many : (measured (frame_of b)).blocks ≡ 0 → leb sum_of 10 ≡ false
+    sum_many : None ≡ measured (frame_of b) → leb sum_of 10 ≡ false
     sum_many none = go (leb sum_of 10) refl
       where
         go : (t : Bool) → leb sum_of 10 ≡ t → t ≡ false
@@ -68,34 +69,34 @@ module _ (b : List ℕ) where
             absurd (subst T (sym so ∙ measured_none (frame_of b) none) tt)
         go false e = refl
 
--- ---- the tests of a frame with the count of channels before them all, as the code asks them: m is the MCU of the frame
+-- ---- the tests of a frame with the count of channels before them all, as the code asks them: m is the MCU of the frame, if it has one
 
 abbrev pub frame_read : List ℕ → Bool
 frame_read b = within 1 4 (byte b 5) and frame_fits b (frame_of b)
 
 module _ (b : List ℕ) where
-  -- where the sampling of every channel fits, the MCU has blocks just where the count is one that a frame has and the sum is not too high
-  blocks_are : sampling_fits b (byte b 5) ≡ true → (within 1 4 (byte b 5) and leb (sum_of b) 10) ≡ not (eqb (measured (frame_of b)).blocks 0)
-  blocks_are fits = go (eqb (measured (frame_of b)).blocks 0) refl
+  -- where the sampling of every channel fits, there is an MCU just where the count is one that a frame has and the sum is not too high
+  blocks_are : sampling_fits b (byte b 5) ≡ true → (within 1 4 (byte b 5) and leb (sum_of b) 10) ≡ is_some (measured (frame_of b))
+  blocks_are fits = go (measured (frame_of b)) refl
     where
-      go : (t : Bool) → eqb (measured (frame_of b)).blocks 0 ≡ t → (within 1 4 (byte b 5) and leb (sum_of b) 10) ≡ not t
-      go true e = none (within 1 4 (byte b 5)) refl
+      go : (m : Option Mcu) → m ≡ measured (frame_of b) → (within 1 4 (byte b 5) and leb (sum_of b) 10) ≡ is_some m
+      go None e = none (within 1 4 (byte b 5)) refl
         where
           none : (w : Bool) → within 1 4 (byte b 5) ≡ w → (w and leb (sum_of b) 10) ≡ false
-          none true k = sum_many b (so k) (so fits) (eqb-true _ 0 e)
+          none true k = sum_many b (so k) (so fits) e
           none false k = refl
-      go false e =
-          let ok = sampled_says (frame_of b) (measured_some (frame_of b) (eqb-false _ 0 e)) in
+      go (Some m) e =
+          let ok = sampled_says (frame_of b) (measured_some (frame_of b) e) in
           rw (between 1 4 (byte b 5) ok.some ok.few, le-leb (sum_of b) 10 ok.blocks)
 
   pub frame_tests :
-      {f : Frame} {m : Mcu} → f ≡ frame_of b → m ≡ measured f
+      {f : Frame} {m : Option Mcu} → f ≡ frame_of b → m ≡ measured f
       → frame_read b
       ≡ (ltb 0 f.width and ltb 0 f.height and sampling_fits b (byte b 5) and quants_fit f
-      and apart (take f.channels f.ids) and not (eqb m.blocks 0))
+      and apart (take f.channels f.ids) and is_some m)
   frame_tests is mcu = rw (mcu, is) (
       let f = frame_of b in
-      go (within 1 4 (byte b 5)) _ _ (sampling_fits b (byte b 5)) (quants_fit f) (leb (sum_of b) 10) (not (eqb (measured f).blocks 0)) _ blocks_are)
+      go (within 1 4 (byte b 5)) _ _ (sampling_fits b (byte b 5)) (quants_fit f) (leb (sum_of b) 10) (is_some (measured f)) _ blocks_are)
     where
       go :
           (w x y s q a m p : Bool) → (s ≡ true → (w and a) ≡ m)

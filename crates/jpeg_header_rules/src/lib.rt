@@ -6,11 +6,11 @@
 ghost use Rattle.std.specs.Prelude.{◌≡◌, cond, [], ◌∷◌, map, ◌+◌, ◌*◌, ◌/◌, ◌%◌, ltb, eqb, take};
 ghost use Rattle.reading.specs.Tests.{◌and◌, within, apart, all};
 ghost use Rattle.reading.specs.Huffman.{sum};
-ghost use Rattle.reading.specs.Tables.{chosen};
 ghost use Rattle.reading.specs.Header.{byte, word, each, quantizer_fits, counts_of, listable, table_fits};
 ghost use Rattle.reading.specs.Header.{frame_known, frame_of, sampling_fits, quants_fit, frame_fits, scan_known, in_order, selected, complete};
 
 use reading::{Frame, Mcu, Record};
+use std::array;
 
 // ---- bytes; 0 behind the end
 
@@ -37,11 +37,13 @@ pub fn word_at(body: &[u8], place: usize) -> usize
 pub fn each(body: &[u8], channels: usize, place: u8, step: u8) -> [usize; 4]
     ensures { result ≡ each channels (λ c. byte body.now (place + step * c)) }
 {
-    let mut bytes = [0; 4];
-    for c in 0..channels.min(4) {
-        bytes[c] = byte_at(body, usize::from(place) + usize::from(step) * c);
-    }
-    bytes
+    array::from_fn(|c| {
+        if c < channels {
+            byte_at(body, usize::from(place) + usize::from(step) * c)
+        } else {
+            0
+        }
+    })
 }
 
 // the high half of each byte
@@ -76,25 +78,14 @@ pub fn symbols(body: &[u8]) -> usize
     (1..17).map(|place| byte_at(body, place)).sum()
 }
 
-// whether a table of a class may list a symbol: one that a block takes from it
-fn listable(class: usize, x: usize) -> bool
-    ensures { result ≡ listable class x }
-{
-    if class == 0 {
-        x <= 11
-    } else {
-        x == 0 || x == 240 || reading::within(1, 10, x % 16)
-    }
-}
-
-// no symbol twice, and each one that a block takes: a symbol that was met is marked, so the list is walked once
+// no symbol twice, and each one that a block takes from a table of the class: a symbol that was met is marked, so the list is walked once
 fn symbols_fit(class: usize, symbols: &[u8]) -> bool
     ensures { result ≡ (apart symbols.now and all (listable class) symbols.now) }
 {
     let mut met = [false; 256];
     for symbol in symbols {
         let x = usize::from(*symbol);
-        if met[x] || !listable(class, x) {
+        if met[x] || !reading::takes(class == 0, x) {
             return false;
         }
         met[x] = true;
@@ -170,12 +161,9 @@ fn quants_fit(frame: Frame) -> bool
 fn apart(list: &[usize]) -> bool
     ensures { result ≡ apart list.now }
 {
-    for (i, x) in list.iter().enumerate() {
-        if list[i + 1..].contains(x) {
-            return false;
-        }
-    }
-    true
+    list.iter()
+        .enumerate()
+        .all(|(i, x)| !list[i + 1..].contains(x))
 }
 
 // the component ids of the channels are apart. Any count of channels may come in, and behind the fourth there is no id
@@ -186,7 +174,7 @@ fn ids_apart(frame: Frame) -> bool
 }
 
 // no zero side, sampling 1..4, quantizer ids 0..3, component ids apart, at most ten blocks in an MCU. A count of channels that no frame
-// has does not fit: its MCU has no block
+// has does not fit: it has no MCU
 pub fn frame_fits(body: &[u8]) -> bool
     ensures { result ≡ (within 1 4 (byte body.now 5) and frame_fits body.now (frame_of body.now)) }
 {
@@ -196,7 +184,7 @@ pub fn frame_fits(body: &[u8]) -> bool
         && sampling_fits(body)
         && quants_fit(frame)
         && ids_apart(frame)
-        && Mcu::of(frame).blocks != 0
+        && Mcu::of(frame).is_some()
 }
 
 // ---- the scan
@@ -228,20 +216,13 @@ pub fn selected(body: &[u8]) -> bool
     })
 }
 
-// where the table of a channel stands, by the channel's id; 0 where it is absent
-fn place_of(places: &[usize], ids: &[usize], channel: usize) -> usize
-    ensures { result ≡ chosen places.now ids.now channel }
-{
-    reading::at_or(places, reading::at_or(ids, channel, 0), 0)
-}
-
 // every channel has its quantizer and its two Huffman tables
 pub fn complete(found: Record) -> bool
     ensures { result ≡ complete found }
 {
     (0..found.frame.channels).all(|c| {
-        place_of(&found.tables.quants, &found.frame.qids, c) != 0
-            && place_of(&found.tables.dcs, &found.dcids, c) != 0
-            && place_of(&found.tables.acs, &found.acids, c) != 0
+        reading::chosen(&found.tables.quants, &found.frame.qids, c) != 0
+            && reading::chosen(&found.tables.dcs, &found.dcids, c) != 0
+            && reading::chosen(&found.tables.acs, &found.acids, c) != 0
     })
 }

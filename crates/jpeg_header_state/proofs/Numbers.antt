@@ -1,13 +1,14 @@
 -- The test of a frame's numbers says what the sizes of its record stand on, and a frame of the rules passes it.
 use Prim.Native.Nat.{ℕ, ◌+◌, ◌*◌, ◌/◌, ◌%◌, ◌≤◌}
 use mathlib.Core.Path.{◌≡◌, refl, ap}
-use mathlib.Core.Bool.{Bool, true, false}
+use mathlib.Core.Bool.{true, false}
 use mathlib.Core.List.{List, map}
 use native.Mathlib.Omega.{arith}
 use native.Mathlib.Nat.{mul-le-mul}
-use lib.Dec.{T, ltb}
-use borrow.Author.Tests.{lt-ltb}
+use lib.Dec.{T}
+use Rattle.std.specs.Prelude.{Option, Some, None, MatchOption}
 use Rattle.reading.specs.declared.Frame.{Frame}
+use Rattle.reading.specs.declared.Mcu.{Mcu}
 use Rattle.reading.specs.Tests.{◌and◌, within}
 use Rattle.reading.specs.Layout.{widest, highest, mcus_across, mcus_down, per_mcu, block_count, output_length}
 use Rattle.reading.specs.Tables.{shape_of}
@@ -15,7 +16,7 @@ use Rattle.reading.specs.Code.Mcus.{mcus_of, sampled, measured}
 use Rattle.reading.proofs.Plain.{and_left, and_right, is_true}
 use Rattle.reading.proofs.Fits.{so, within_known}
 use Rattle.reading.proofs.McuCounts.{between, mcus_asked}
-use Rattle.reading.proofs.Sampling.{Sampling, sampled_says, sampled_so, measured_is, blocks_least}
+use Rattle.reading.proofs.Sampling.{Sampling, sampled_says, sampled_so, measured_none, measured_some, measured_mcu}
 use Rattle.reading.proofs.Sampling.{wide_least, wide_most, high_least, high_most, channels_are}
 use Rattle.reading.proofs.Frames.{FrameOk}
 use Rattle.reading.proofs.Accepted.{ceiling_small, work_is}
@@ -51,16 +52,23 @@ module _ (f : Frame) where
         sampled_so f ok.sampling,
       ) refl
 
-  -- an MCU was measured where there is a block in it
-  pub measured_test : ltb 0 (measured f).blocks ≡ sampled f
-  unfolding measured
-  measured_test = go (sampled f) refl
-    where
-      go : (t : Bool) → sampled f ≡ t → ltb 0 (measured f).blocks ≡ t
-      go true e =
-          let ok = sampled_says f e in
-          lt-ltb 0 (measured f).blocks (omega (arith, ap (λ m. m.blocks) (measured_is f ok), blocks_least f ok, ok.some))
-      go false e = rw e refl
+  -- ---- the MCU of a frame that is read
+
+  pub narrow_unfit : within 1 65535 f.width ≡ false → numbers_fit f ≡ false
+  unfolding numbers_fit
+  narrow_unfit e = rw e refl
+
+  pub low_unfit : within 1 65535 f.width ≡ true → within 1 65535 f.height ≡ false → numbers_fit f ≡ false
+  unfolding numbers_fit
+  low_unfit e g = rw (e, g) refl
+
+  pub mcu_found : within 1 65535 f.width ≡ true → within 1 65535 f.height ≡ true → (o : Option Mcu) → o ≡ measured f
+      → MatchOption o (numbers_fit f ≡ false) (λ m. (numbers_fit f ≡ true) × (Some m ≡ measured f))
+  unfolding numbers_fit
+  mcu_found e g None none = rw (e, g) (measured_none f none)
+  mcu_found e g (Some m) is = (rw (e, g) (measured_some f is), is)
+
+pub ruleset sides = (narrow_unfit, low_unfit, mcu_found)
 
 module _ (f : Frame) (fits : numbers_fit f ≡ true) where
   ok : Numbers f
@@ -90,24 +98,25 @@ module _ (f : Frame) (fits : numbers_fit f ≡ true) where
 
   -- ---- the counts, as the code makes them of the MCU that was measured
 
-  across_counted : mcus_of f.width (measured f).across ≡ mcus_across (shape_of f)
-  across_counted =
-      mcus_asked f.width (widest (shape_of f).factors) (ap (λ m. mcus_of f.width m.across) (measured_is f ok.sampling))
-      ok.wide.1 (wide_least f ok.sampling) (wide_most f ok.sampling)
+  module _ {m : Mcu} (e : Some m ≡ measured f) where
+    across_counted : mcus_of f.width m.across ≡ mcus_across (shape_of f)
+    across_counted =
+        mcus_asked f.width (widest (shape_of f).factors) (ap (λ m. mcus_of f.width m.across) (measured_mcu f e))
+        ok.wide.1 (wide_least f ok.sampling) (wide_most f ok.sampling)
 
-  down_counted : mcus_of f.height (measured f).down ≡ mcus_down (shape_of f)
-  down_counted =
-      mcus_asked f.height (highest (shape_of f).factors) (ap (λ m. mcus_of f.height m.down) (measured_is f ok.sampling))
-      ok.high.1 (high_least f ok.sampling) (high_most f ok.sampling)
+    down_counted : mcus_of f.height m.down ≡ mcus_down (shape_of f)
+    down_counted =
+        mcus_asked f.height (highest (shape_of f).factors) (ap (λ m. mcus_of f.height m.down) (measured_mcu f e))
+        ok.high.1 (high_least f ok.sampling) (high_most f ok.sampling)
 
-  pub mcus_counted : mcus_of f.width (measured f).across * mcus_of f.height (measured f).down ≤ 67108864
-  mcus_counted = rw (across_counted, down_counted) mcus_small
+    pub mcus_counted : mcus_of f.width m.across * mcus_of f.height m.down ≤ 67108864
+    mcus_counted = rw (across_counted, down_counted) mcus_small
 
-  pub blocks_counted : mcus_of f.width (measured f).across * mcus_of f.height (measured f).down * (measured f).blocks ≡ block_count (shape_of f)
-  unfolding block_count per_mcu
-  blocks_counted =
-      rw (across_counted, down_counted)
-      (ap (λ m. mcus_across (shape_of f) * mcus_down (shape_of f) * m.blocks) (measured_is f ok.sampling))
+    pub blocks_counted : mcus_of f.width m.across * mcus_of f.height m.down * m.blocks ≡ block_count (shape_of f)
+    unfolding block_count per_mcu
+    blocks_counted =
+        rw (across_counted, down_counted)
+        (ap (λ m. mcus_across (shape_of f) * mcus_down (shape_of f) * m.blocks) (measured_mcu f e))
 
 -- ---- the ids of a channel's tables are the halves of a byte
 

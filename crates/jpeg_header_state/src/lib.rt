@@ -3,8 +3,9 @@
 // itself always passes are made here, once a segment or a table, so that no place and no size wraps.
 #![tactic(auto)]
 
-ghost use Rattle.std.specs.Prelude.{◌≡◌, true, ◌+◌, ◌<◌, ◌≤◌, eqb, length, MatchResult};
+ghost use Rattle.std.specs.Prelude.{◌≡◌, true, false, Some, ◌+◌, ◌<◌, ◌≤◌, eqb, length, MatchOption, MatchResult};
 ghost use Rattle.reading.specs.declared.Refusal.TheVariants.{Malformed};
+ghost use Rattle.reading.specs.Code.Mcus.{measured};
 ghost use Rattle.reading.specs.Header.{more, stop_if, moved, quantizer, huffman, frame, interval, record_of, scan_segment};
 ghost use Rattle.jpeg_header_state.specs.Segments.{stepped, in_segment, numbers_fit, behind_frame};
 
@@ -118,26 +119,31 @@ pub fn interval(body: &[u8], state: Header, end: usize) -> Result<Step, Refusal>
 
 // ---- the scan, and the record that it gives
 
-// The numbers of a frame that is read: behind this test no size of the record wraps.
-#[tactic(auto, using(crate::proofs::Numbers::measured_test), unfolding(crate::specs::Segments::numbers_fit))]
-fn numbers_fit(frame: Frame) -> bool
-    ensures { result ≡ numbers_fit frame }
+// The MCU of a frame that is read; none where its sides or its sampling are none that a frame has. Where there is one, no size of the record
+// wraps.
+#[tactic(auto, using(crate::proofs::Numbers::sides))]
+fn mcu_of(frame: Frame) -> Option<Mcu>
+    ensures { MatchOption result
+        (numbers_fit frame ≡ false)
+        (λ mcu. (numbers_fit frame ≡ true) × (Some mcu ≡ measured frame)) }
 {
-    reading::within(1, Limits::SIDE, frame.width)
-        && reading::within(1, Limits::SIDE, frame.height)
-        && 0 < Mcu::of(frame).blocks
+    if !reading::within(1, Limits::SIDE, frame.width)
+        || !reading::within(1, Limits::SIDE, frame.height)
+    {
+        return None;
+    }
+    Mcu::of(frame)
 }
 
 // The two table ids of a channel are the halves of a byte of the scan. The blocks of a picture are its MCUs across, times those down, times
 // the blocks of one.
 #[tactic(auto, using(crate::proofs::Numbers::sizes))]
-fn record_of(body: &[u8], colour: bool, state: Header, end: usize) -> Record
-    requires { numbers_fit state.frame ≡ true }
+fn record_of(body: &[u8], colour: bool, state: Header, mcu: Mcu, end: usize) -> Record
+    requires { (numbers_fit state.frame ≡ true) × (Some mcu ≡ measured state.frame) }
     ensures { result ≡ record_of body.now colour state end }
 {
     let frame = state.frame;
     let ids = jpeg_header_rules::each(body, frame.channels, 2, 2);
-    let mcu = Mcu::of(frame);
     let across = reading::mcus(frame.width, mcu.across);
     let down = reading::mcus(frame.height, mcu.down);
     let blocks = across * down * mcu.blocks;
@@ -165,9 +171,7 @@ pub fn scan(body: &[u8], colour: bool, state: Header, end: usize) -> Result<Step
     if frame.channels == 0 {
         return Err(Refusal::Malformed); // no frame
     }
-    if !numbers_fit(frame) {
-        return Err(Refusal::Unsupported); // sides or sampling that no frame has
-    }
+    let mcu = mcu_of(frame).ok_or(Refusal::Unsupported)?; // sides or sampling that no frame has
     if !jpeg_header_rules::scan_known(body, frame.channels) {
         return Err(Refusal::Unsupported); // length, count of components or last three bytes
     }
@@ -177,7 +181,7 @@ pub fn scan(body: &[u8], colour: bool, state: Header, end: usize) -> Result<Step
     if !jpeg_header_rules::selected(body) {
         return Err(Refusal::Unsupported); // table ids
     }
-    let found = record_of(body, colour, state, end);
+    let found = record_of(body, colour, state, mcu, end);
     if !jpeg_header_rules::complete(found) {
         return Err(Refusal::Malformed); // a table that is absent
     }

@@ -44,13 +44,22 @@ take_min (suc n) (x ∷ l) =
 counts_all : (t : List ℕ) (base more : ℕ) → more ≡ min 16 (length t - base) → counts_at t base more ≡ counts_at t base 16
 counts_all t base more e = rw (e, sym (length-drop base t)) (take_min 16 (drop base t))
 
--- the counts that are there, as the code slices them
-module _ (t : List ℕ) (base n : ℕ) (e : n ≡ min 16 (length t - base)) where
-  pub sliced_length : length (take (base + n - base) (drop base t)) ≡ n
-  sliced_length = simp (length-take, length-drop) (omega arith)
+-- where the counts that are there end, by how many there are
+pub counts_end : (t : List ℕ) (base : ℕ) {n : ℕ} → base < length t → n ≡ min (length t - base) 16 → base + n ≡ min (length t) (base + 16)
+counts_end t base h e = omega arith
 
-  pub sliced_count : (i : ℕ) → i < n → get_or (take (base + n - base) (drop base t)) i 0 ≡ get_or t (base + i) 0
-  sliced_count i h = get_or-take (base + n - base) (drop base t) i 0 (omega arith) ∙ get_or-drop base t i 0
+-- the counts that are there, as the code slices them
+module _ (t : List ℕ) (base : ℕ) {end : ℕ} (e : end ≡ min (length t) (base + 16)) where
+  pub sliced_length : length (take (end - base) (drop base t)) ≡ min 16 (length t - base)
+  sliced_length = omega (arith, length-take (end - base) (drop base t), length-drop base t)
+
+  module _ {i : ℕ} (h : i < length (take (end - base) (drop base t))) where
+    pub sliced_left : min 16 (length t - base) - i ≡ 0 → ⊥
+    sliced_left = omega (arith, h, sliced_length)
+
+    pub sliced_count : get_or (take (end - base) (drop base t)) i 0 ≡ get_or t (base + i) 0
+    sliced_count =
+        get_or-take (end - base) (drop base t) i 0 (omega (arith, length-take (end - base) (drop base t))) ∙ get_or-drop base t i 0
 
 -- ---- the walk
 

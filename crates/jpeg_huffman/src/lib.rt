@@ -2,7 +2,7 @@
 // and the symbol of the code that stands next in a scan.
 #![tactic(auto)]
 
-ghost use Rattle.std.specs.Prelude.{◌≡◌, min};
+ghost use Rattle.std.specs.Prelude.{◌≡◌};
 ghost use Rattle.reading.specs.Bits.{one};
 ghost use Rattle.reading.specs.Huffman.{symbol, table_at};
 ghost use Rattle.reading.specs.Code.Answers.{read_of};
@@ -29,17 +29,11 @@ pub fn fits(counts: &[u8]) -> bool
     true
 }
 
-// How many of a table's sixteen counts are there, where so many bytes are left.
-pub fn lengths(room: usize) -> usize
-    ensures { result ≡ min 16 room }
-{
-    room.min(16)
-}
-
 // The symbol of the next code in s (T.81 F.2.2.3, DECODE). The table's counts stand at `base` of t, its symbols behind them; a
 // count past the end of t is not there, and a symbol past it is 0. `past` is how far the code so far lies past the last one of the
 // lengths before, and `place` that of the first symbol of this length. It is never below 0, whatever the table: a code that is none
-// of its length is as far past the first as there are codes of it, or farther.
+// of its length is as far past the first as there are codes of it, or farther. With an end of `t.len().min(base + 16)` an inspect took 4
+// hundredths more: the compiler did not see then that there are at most 16 counts.
 pub fn symbol(t: &[u8], base: usize, s: &[u8], b: Bits) -> Result<(usize, Bits), Fault>
     ensures { read_of result ≡ symbol (one s.now) (table_at t.now base) b }
 {
@@ -49,8 +43,7 @@ pub fn symbol(t: &[u8], base: usize, s: &[u8], b: Bits) -> Result<(usize, Bits),
     let mut here = b;
     let mut past = 0usize;
     let mut place = base + 16;
-    let counts = &t[base..base + lengths(t.len() - base)];
-    for count in counts {
+    for count in &t[base..base + (t.len() - base).min(16)] {
         let (x, after) = jpeg_bits::bit(s, here)?;
         let many = *count as usize;
         let code = 2 * past + x as usize;

@@ -7,7 +7,7 @@ use mathlib.Core.List.{List, [], ◌++◌, append_assoc, append-nil}
 use native.Mathlib.Omega.{arith}
 use native.Mathlib.Nat.{not-suc-le-zero, le_of_suc-le-suc, add-zero}
 use lib.Dec.{eqb}
-use lib.ListN.{length, get_or, take, drop, replicate, length-append, length-replicate}
+use lib.ListN.{length, get_or, take, drop, replicate, length-append}
 use lib.Seq.{take_at, drop_at, drop-append-add, paste}
 use borrow.Rule.Slice.PartMut.{put_mid}
 use Rattle.whole.specs.Lists.{length_from}
@@ -73,9 +73,6 @@ module _ (t bases : List ℕ) where
 
   abbrev zeros : ℕ → List ℕ
   zeros n = replicate n 0
-
-  zeros_length : (n : ℕ) → length (zeros n) ≡ n
-  zeros_length n = length-replicate n 0
 
   zeros_less : (n m : ℕ) → drop n (zeros m) ≡ zeros (m - n)
   zeros_less zero m = ap zeros less

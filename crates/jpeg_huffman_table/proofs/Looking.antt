@@ -178,9 +178,6 @@ module _ (k : ℕ) (few : k ≤ 64) (s : List ℕ) (w : Wide) (p : Proper w) whe
     pub look_allowed : allowed first (e % 256) ≡ true
     look_allowed = said.stands
 
-    pub look_holds : e % 16 ≤ e / 256
-    look_holds = omega (arith, said.whole)
-
     -- and the value behind it is what the entry's last bits mean
     pub value_agrees :
         bits.amplitude pop (e % 16) (to_come s (taken (e / 256 - e % 16) w))

@@ -22,7 +22,7 @@ use Rattle.jpeg_bits_wide.proofs.Meeting.{Found, alike_got, alike_fault, alike_b
 use Rattle.jpeg_huffman_table.specs.Symbols.{plainly}
 use Rattle.jpeg_huffman_table.specs.Looks.{allowed, entry_at}
 use Rattle.jpeg_huffman_table.proofs.Agreeing.{Holds, symbol_said, plain_agrees}
-use Rattle.jpeg_huffman_table.proofs.Looking.{look_agrees, look_allowed, look_holds, value_agrees}
+use Rattle.jpeg_huffman_table.proofs.Looking.{look_agrees, look_allowed, value_agrees}
 
 -- the symbol at both
 symbols_alike : {s : List ℕ} {b : Bits} {w : Wide} → Meets s b w → (t : Table) → Alike (Pending s) (symbol (one s) t b) (symbol pop t (to_come s w))
@@ -59,10 +59,6 @@ module _
   -- the entry's symbol may stand
   pub symbol_allowed : allowed first (e % 256) ≡ true
   symbol_allowed = look_allowed k few s w m.proper first t is some there
-
-  -- its code and its value are as long as the entry says
-  pub symbol_length : e % 16 ≤ e / 256
-  symbol_length = look_holds k few s w m.proper first t is some there
 
   -- the symbol
   pub symbol_looked : Found (Meets s) (symbol (one s) t b) (e % 256) (taken (e / 256 - e % 16) w)

@@ -1,7 +1,7 @@
 -- Filling a table by the plain walk: an entry is what it finds in the k bits alone, and all numbers of k bits that begin with the code have it.
 use Prim.Native.Nat.{ℕ, ◌+◌, ◌*◌, ◌-◌, ◌/◌, ◌%◌, ◌^◌, ◌<◌, ◌≤◌}
 use mathlib.Core.Path.{◌≡◌, refl, sym, ap, ap₂, ◌∙◌, subst, subst⁻¹}
-use mathlib.Core.Bool.{Bool, true, false}
+use mathlib.Core.Bool.{Bool, true, false, cond}
 use mathlib.Core.List.{List, [], ◌++◌}
 use native.Mathlib.Omega.{arith}
 use native.Mathlib.Nat.{mod-lt, div-eq_of_lt-le, mul-le-mul_right, add-mul}
@@ -18,6 +18,7 @@ use Rattle.std.proofs.Common.{Ok, Err, Fits, w8}
 use Rattle.reading.specs.declared.Fault.{Fault}
 use Rattle.reading.specs.Reader.{Read, got, fault}
 use Rattle.reading.proofs.FileBytes.{AllBytes}
+use Rattle.reading.specs.Block.{dc_taken, ac_taken}
 use Rattle.reading.specs.Huffman.{table_at, Table, bits_of, symbol}
 use Rattle.reading.specs.Code.Coming.{Plain, plain, pop}
 use Rattle.reading.proofs.Unstuffed.{length_bits_of}
@@ -77,37 +78,12 @@ pub entry_of_lem :
     → allowed first x ≡ true
     → entry_at k first t j ≡ 256 * (k - length l + x % 16) + x
 unfolding entry_at
-entry_of_lem k few first t j below x l e small ok = go (symbol (bit []) t (alone k j)) refl (symbol pop t (plain (bits_of k j) [])) refl (alone_alike k few j below t)
+entry_of_lem k few first t j below x l e small ok =
+    go (symbol (bit []) t (alone k j)) (subst (λ b. Alike (Stands []) (symbol (bit []) t (alone k j)) b) e (alone_alike k few j below t))
   where
-    go :
-        (a : Read Wide ℕ)
-        → symbol (bit []) t (alone k j) ≡ a
-        → (b : Read Plain ℕ)
-        → symbol pop t (plain (bits_of k j) []) ≡ b
-        → Alike (Stands []) a b
-        → entry_of k first a ≡ 256 * (k - length l + x % 16) + x
-    go (fault c) f (fault d) g h = absurd (never (sym g ∙ e))
-      where
-        never : fault d ≡ got x (plain l []) → ⊥
-        never q = let z : ◌≡◌ {A = ℕ} 0 1 = cc in omega arith
-    go (fault c) f (got y u) g h = absurd h
-    go (got y q) f (fault d) g h = absurd h
-    go (got y q) f (got z u) g h = rw (same_x, lt-ltb x 256 small, ok) (ap (λ n. 256 * (k - n + x % 16) + x) (sym (bits_left q u h.1.0) ∙ ap (λ p. length p.bits) same_u))
-      where
-        both : got z u ≡ got x (plain l [])
-        both = sym g ∙ e
-
-        same_x : y ≡ x
-        same_x = h.0 ∙ value both
-          where
-            value : got z u ≡ got x (plain l []) → z ≡ x
-            value q = cc
-
-        same_u : u ≡ plain l []
-        same_u = place both
-          where
-            place : got z u ≡ got x (plain l []) → u ≡ plain l []
-            place q = cc
+    go : (a : Read Wide ℕ) → Alike (Stands []) a (got x (plain l [])) → entry_of k first a ≡ 256 * (k - length l + x % 16) + x
+    go (fault c) h = absurd h
+    go (got y q) h = rw (h.0, lt-ltb x 256 small, ok) (ap (λ n. 256 * (k - n + x % 16) + x) (sym (bits_left q (plain l []) h.1.0)))
 
 -- ---- by the plain walk
 
@@ -261,12 +237,14 @@ module _
 module _
     (t : List ℕ) (base : ℕ) {w x : ℕ} {q : Wide} (below : w < 512)
     (e : Ok (x, q) ≡ plainly (table_at t base) [] (record { at = 0; acc = w * 2 ^ 55 % 2 ^ 64; left = 9 }))
-    (numbers : (i : ℕ) → Fits w8 (get_or t i 0)) (first : Bool) {b : Bool} (asked : b ≡ allowed first x)
+    (numbers : (i : ℕ) → Fits w8 (get_or t i 0)) (first : Bool) {b : Bool} (asked : b ≡ cond first (dc_taken x) (ac_taken x))
   where
     pub runs_there : b ≡ true → Runs (table_at t base) below e first
+    unfolding allowed
     runs_there h = runs (table_at t base) below e (symbols_fit t base numbers) first (sym asked ∙ h)
 
     pub refused_there : b ≡ false → 0 ≡ entry_at 9 first (table_at t base) w
+    unfolding allowed
     refused_there h = refused (table_at t base) below e (symbols_fit t base numbers) first (sym asked ∙ h)
 
 -- ---- the table on the way
@@ -288,69 +266,55 @@ done_next {f} {look} {w} d h {x} e =
     less p n = omega arith
 
 -- the same entry for n numbers more
-pub done_spread :
-    {f : ℕ → ℕ} {look : List ℕ} {w : ℕ}
-    → Done f look w
-    → (n x : ℕ)
-    → w + n ≤ 512
-    → ((j : ℕ) → w ≤ j → j < w + n → x ≡ f j)
-    → {r : List ℕ}
-    → r ≡ paste look w (replicate n x) n
-    → Done f r (w + n)
-done_spread {f} {look} {w} d n x room same {r} g =
-    record {
-      long = ap length g ∙ length-paste look w (replicate n x) n (omega (arith, d.long)) (omega (arith, length-replicate n x)) ∙ d.long;
-      within = room;
-      done = λ j h. ap (λ l. get_or l j 0) g ∙ at j h (ltb j w) refl;
-    }
-  where
-    front : length (take w look) ≡ w
-    front = length-take-le w look (omega (arith, d.long))
+module _ {f : ℕ → ℕ} {look : List ℕ} {w : ℕ} (d : Done f look w) (n x : ℕ) (room : w + n ≤ 512)
+    (same : (j : ℕ) → w ≤ j → j < w + n → x ≡ f j) where
+  done_spread : {r : List ℕ} → r ≡ paste look w (replicate n x) n → Done f r (w + n)
+  done_spread {r} g =
+      record {
+        long = ap length g ∙ length-paste look w (replicate n x) n (omega (arith, d.long)) (omega (arith, length-replicate n x)) ∙ d.long;
+        within = room;
+        done = λ j h. ap (λ l. get_or l j 0) g ∙ at j h (ltb j w) refl;
+      }
+    where
+      front : length (take w look) ≡ w
+      front = length-take-le w look (omega (arith, d.long))
 
-    part : take n (replicate n x) ≡ replicate n x
-    part = take_all n (replicate n x) (omega (arith, length-replicate n x))
+      part : take n (replicate n x) ≡ replicate n x
+      part = take_all n (replicate n x) (omega (arith, length-replicate n x))
 
-    head : length (take w look ++ take n (replicate n x)) ≡ w + n
-    head = length-append (take w look) (take n (replicate n x)) ∙ omega (arith, front, ap length part, length-replicate n x)
+      head : length (take w look ++ take n (replicate n x)) ≡ w + n
+      head = length-append (take w look) (take n (replicate n x)) ∙ omega (arith, front, ap length part, length-replicate n x)
 
-    old : (j : ℕ) → j < w → get_or (take w look ++ take n (replicate n x)) j 0 ≡ f j
-    old j h = get_or-append (take w look) (take n (replicate n x)) 0 j (omega (arith, front)) ∙ get_or-take w look j 0 h ∙ d.done j h
+      old : (j : ℕ) → j < w → get_or (take w look ++ take n (replicate n x)) j 0 ≡ f j
+      old j h = get_or-append (take w look) (take n (replicate n x)) 0 j (omega (arith, front)) ∙ get_or-take w look j 0 h ∙ d.done j h
 
-    new : (i : ℕ) → i < n → get_or (take w look ++ take n (replicate n x)) (w + i) 0 ≡ f (w + i)
-    new i h =
-        ap (λ k. get_or (take w look ++ take n (replicate n x)) (k + i) 0) (sym front)
-        ∙ get_or-append-add (take w look) (take n (replicate n x)) i 0
-        ∙ ap (λ l. get_or l i 0) part
-        ∙ get_or-replicate n i x 0 h
-        ∙ same (w + i) (omega arith) (omega arith)
+      new : (i : ℕ) → i < n → get_or (take w look ++ take n (replicate n x)) (w + i) 0 ≡ f (w + i)
+      new i h =
+          ap (λ k. get_or (take w look ++ take n (replicate n x)) (k + i) 0) (sym front)
+          ∙ get_or-append-add (take w look) (take n (replicate n x)) i 0
+          ∙ ap (λ l. get_or l i 0) part
+          ∙ get_or-replicate n i x 0 h
+          ∙ same (w + i) (omega arith) (omega arith)
 
-    at : (j : ℕ) → j < w + n → (b : Bool) → ltb j w ≡ b → get_or (paste look w (replicate n x) n) j 0 ≡ f j
-    at j h b e =
-        get_or-append (take w look ++ take n (replicate n x)) (drop (w + n) look) 0 j (omega (arith, head))
-        ∙ either b e
-      where
-        either : (b : Bool) → ltb j w ≡ b → get_or (take w look ++ take n (replicate n x)) j 0 ≡ f j
-        either true e = old j (ltb-true j w e)
-        either false e = subst (λ k. get_or (take w look ++ take n (replicate n x)) k 0 ≡ f k) back (new (j - w) (omega (arith, ltb-false j w e)))
-          where
-            back : w + (j - w) ≡ j
-            back = omega (arith, ltb-false j w e)
+      at : (j : ℕ) → j < w + n → (b : Bool) → ltb j w ≡ b → get_or (paste look w (replicate n x) n) j 0 ≡ f j
+      at j h b e =
+          get_or-append (take w look ++ take n (replicate n x)) (drop (w + n) look) 0 j (omega (arith, head))
+          ∙ either b e
+        where
+          either : (b : Bool) → ltb j w ≡ b → get_or (take w look ++ take n (replicate n x)) j 0 ≡ f j
+          either true e = old j (ltb-true j w e)
+          either false e = subst (λ k. get_or (take w look ++ take n (replicate n x)) k 0 ≡ f k) back (new (j - w) (omega (arith, ltb-false j w e)))
+            where
+              back : w + (j - w) ≡ j
+              back = omega (arith, ltb-false j w e)
 
--- by a fill of the part for them
-pub done_filled :
-    {f : ℕ → ℕ} {look : List ℕ} {w : ℕ}
-    → Done f look w
-    → (n x : ℕ)
-    → w + n ≤ 512
-    → ((j : ℕ) → w ≤ j → j < w + n → x ≡ f j)
-    → {r : List ℕ}
-    → r ≡ replicate (length (take (w + n - w) (drop w look))) x
-    → Done f (put_mid w (w + n - w) look r) (w + n)
-done_filled {f} {look} {w} d n x room same g =
-    let many : n ≡ w + n - w = omega arith in
-    let long : length (take (w + n - w) (drop w look)) ≡ n = omega (arith, length-take (w + n - w) (drop w look), length-drop w look, d.long) in
-    done_spread d n x room same
-    (put_mid-paste w (w + n - w) look _ (replicate n x) n (g ∙ ap (λ k. replicate k x) long) many (sym (length-replicate n x)))
+  -- by a fill of the part for them
+  pub done_filled : {r : List ℕ} → r ≡ replicate (length (take (w + n - w) (drop w look))) x → Done f (put_mid w (w + n - w) look r) (w + n)
+  done_filled g =
+      let many : n ≡ w + n - w = omega arith in
+      let long : length (take (w + n - w) (drop w look)) ≡ n = omega (arith, length-take (w + n - w) (drop w look), length-drop w look, d.long) in
+      done_spread
+      (put_mid-paste w (w + n - w) look _ (replicate n x) n (g ∙ ap (λ k. replicate k x) long) many (sym (length-replicate n x)))
 
 pub all_done : (first : Bool) (t : Table) {look : List ℕ} {w : ℕ} → Done (entry_at 9 first t) look w → 512 ≤ w → look ≡ entries 9 first t
 unfolding entries

@@ -1,6 +1,5 @@
 -- The plain walk's answers, and its bits.
-use Rattle.std.proofs.Common.{◌≡◌, ℕ, ◌+◌, ◌-◌, ◌*◌, ◌/◌, ◌^◌, ◌<◌, ◌≤◌, min, List, length, get_or, take, drop, Ok, Err, refl, sym, ap, ◌∙◌, arith, length-take, length-drop}
-use Rattle.std.proofs.Math.Seq.{get_or-take, get_or-drop}
+use Rattle.std.proofs.Common.{◌≡◌, ℕ, ◌+◌, ◌-◌, ◌*◌, ◌/◌, ◌^◌, ◌<◌, ◌≤◌, min, List, length, get_or, take, drop, Ok, Err, refl, sym, ap, ◌∙◌, arith}
 use Rattle.reading.specs.declared.Fault.{Fault}
 use Rattle.reading.specs.declared.Fault.TheVariants.{NoCode}
 use Rattle.reading.specs.Reader.{got, fault}
@@ -10,7 +9,7 @@ use Rattle.jpeg_bits_wide.specs.Cursor.{filled, bit, taken, fault_at}
 use Rattle.jpeg_bits_wide.proofs.Filling.{cursor}
 use Rattle.jpeg_bits_wide.proofs.Ending.{bit_none, bit_there}
 use Rattle.jpeg_huffman_table.specs.Symbols.{plainly}
-use Rattle.jpeg_huffman.proofs.Codes.{Ahead, symbol_none, begun, no_code, no_bit, code_small, found, passed}
+use Rattle.jpeg_huffman.proofs.Codes.{Ahead, symbol_none, sliced_length, sliced_left, sliced_count, begun, no_code, no_bit, code_small, found, passed}
 
 module _ (t : Table) (s : List ℕ) (w : Wide) where
   module _ {b : Wide} (e : b ≡ filled s w) where
@@ -44,15 +43,15 @@ module _ {t : List ℕ} {base : ℕ} {s : List ℕ} {from : Wide} where
     where
       pub counted_over : length (take (end - base) (drop base t)) ≤ i → Err NoCode ≡ plainly (table_at t base) s from
       counted_over h =
-          let none : min 16 (length t - base) - i ≡ 0 = omega (arith, length-take (end - base) (drop base t), length-drop base t) in
+          let none : min 16 (length t - base) - i ≡ 0 = omega (arith, sliced_length t base is) in
           plain_fault (table_at t base) s from refl (no_code a.ahead none)
 
       module _ (more : i < length (take (end - base) (drop base t))) where
         counts_left : min 16 (length t - base) - i ≡ 0 → ⊥
-        counts_left = omega (arith, more, length-take (end - base) (drop base t), length-drop base t)
+        counts_left = sliced_left t base is more
 
         count_is : get_or (take (end - base) (drop base t)) i 0 ≡ get_or t (base + i) 0
-        count_is = get_or-take (end - base) (drop base t) i 0 (omega (arith, length-take (end - base) (drop base t))) ∙ get_or-drop base t i 0
+        count_is = sliced_count t base is more
 
         pub counted_out : left ≡ 0 → {f : Fault} → f ≡ fault_at s at → Err f ≡ plainly (table_at t base) s from
         counted_out e g = plain_fault (table_at t base) s from refl (no_bit a.ahead counts_left (bit_none s (cursor at acc left) e ∙ ap fault (sym g)))

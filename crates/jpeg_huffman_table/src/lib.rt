@@ -1,12 +1,12 @@
 // Symbols at one look: a table for each Huffman table, indexed by the next 9 bits, and the plain walk over the wide cursor for longer codes
 // and near the end. Each function equals its definition for every table and cursor; that a look and the walk find the same symbol is a
-// law of proofs/ (`look-agrees`), for tables of any width.
+// law of proofs/ (`look_agrees`), for tables of any width.
 #![tactic(auto)]
 
 ghost use Rattle.std.specs.Prelude.{◌≡◌, ◌%◌, ◌<◌, ◌≤◌, length, get_or};
 ghost use Rattle.reading.specs.Huffman.{table_at};
 ghost use Rattle.jpeg_huffman_table.specs.Symbols.{plainly};
-ghost use Rattle.jpeg_huffman_table.specs.Looks.{allowed, entries, paired, looks, looked, field_at};
+ghost use Rattle.jpeg_huffman_table.specs.Looks.{entries, paired, looks, looked, field_at};
 
 use jpeg_bits_wide::Wide;
 use reading::Fault;
@@ -44,20 +44,9 @@ pub fn plain(t: &[u8], base: usize, s: &[u8], from: Wide) -> Result<(usize, Wide
     Err(Fault::NoCode)
 }
 
-// A symbol that is asked for where it may not stand has no entry: the plain way finds it and refuses.
-// `listable` of jpeg_header_rules tests the same of a table's class; that crate and this one share only crates that ask neither.
-#[tactic(auto, unfolding(crate::specs::Looks::allowed))]
-fn allowed(first: bool, x: usize) -> bool
-    ensures { result ≡ allowed first x }
-{
-    if first {
-        x <= 11
-    } else {
-        x == 0 || x == 240 || reading::within(1, 10, x % 16)
-    }
-}
-
 // The entries of the table at `base` of t, 512 of them: 256 x (bits of code and value) + symbol; 0 where the 9 bits begin with no code.
+// A symbol that a block does not take there has no entry: the plain way finds it and refuses. A code has at least one bit, so that 0 is no
+// entry; an Option for each would take twice the memory, which is fixed.
 // Each is what the plain walk finds in the 9 bits alone; all indices that begin with the code that it took have the same, and are filled
 // in one turn, so that no `for` counts the turns.
 fn fill(t: &[u8], base: usize, first: bool, look: &mut [u16])
@@ -72,7 +61,7 @@ fn fill(t: &[u8], base: usize, first: bool, look: &mut [u16])
             left: 9,
         };
         match plain(t, base, &[], alone) {
-            Ok((x, rest)) if allowed(first, x) => {
+            Ok((x, rest)) if reading::takes(first, x) => {
                 let width = 1usize << rest.left;
                 let n = width - w % width;
                 look[w..w + n].fill((256 * (9 - rest.left + x % 16) + x) as u16);
@@ -87,7 +76,7 @@ fn fill(t: &[u8], base: usize, first: bool, look: &mut [u16])
 }
 
 // The places of the tables, a channel's two after each other: one for each part of the entries.
-fn paired(dcs: [usize; 4], acs: [usize; 4]) -> [usize; 8]
+pub fn paired(dcs: [usize; 4], acs: [usize; 4]) -> [usize; 8]
     ensures { result ≡ paired dcs acs }
 {
     [
@@ -100,16 +89,14 @@ fn alike(bases: [usize; 8], j: usize) -> usize
     requires { j < 8 }
     ensures { (result ≤ j) × (result % 2 ≡ j % 2) × (get_or bases result 0 ≡ get_or bases j 0) }
 {
-    for i in 0..j {
-        if i % 2 == j % 2 && bases[i] == bases[j] {
-            return i;
-        }
-    }
-    j
+    (0..j)
+        .find(|&i| i % 2 == j % 2 && bases[i] == bases[j])
+        .unwrap_or(j)
 }
 
 // The entries of four channels by the places of their tables in t: for each channel 512 for its first levels, then 512 for its later
-// ones. Each table is filled once; where another channel goes by it, that channel has a copy.
+// ones. Each table is filled once; where another channel goes by it, that channel has a copy. All are one array: memory is fixed, and an
+// entry is looked up at the place that its bits name.
 pub fn looks(t: &[u8], dcs: [usize; 4], acs: [usize; 4]) -> [u16; 4096]
     ensures { result ≡ looks t.now dcs acs }
 {

@@ -79,15 +79,18 @@ pub fn admit(s: &[u8], colour: bool, limits: Limits, budget: &mut Budget) -> Res
 }
 
 // What decode takes, at once: 2n + 1 and the work of the record that was given, as whole numbers. Where the budget is below their sum, 2,
-// and nothing is taken; no budget has a sum that does not fit 64 bits.
+// and nothing is taken: both are paid of a copy. No budget has a sum that does not fit 64 bits.
 #[tactic(auto, unfolding(crate::specs::Charge::charged))]
 pub fn charge(n: usize, work: u64, budget: &mut Budget) -> Result<(), Refusal>
     ensures { answered (judged result budget.new) ≡ charged n work budget.old }
 {
-    let left = budget.left;
-    if past_counting(n) || left < header_price(n) || left - header_price(n) < work {
+    // the number is read before the test, since from there on it is known to fit 64 bits
+    let mut rest = Budget::fresh(budget.left);
+    if past_counting(n) {
         return Err(Refusal::OverBudget);
     }
-    budget.left = left - header_price(n) - work;
+    pay(header_price(n), Refusal::OverBudget, &mut rest)?;
+    pay(work, Refusal::OverBudget, &mut rest)?;
+    *budget = rest;
     Ok(())
 }

@@ -106,19 +106,18 @@ rows_over p channels width n k d h e l =
 
 -- ---- the code's stores
 
--- a pixel's one, two and four channels
-pub one_of : (f : ℕ → ℕ) (a n : ℕ) (d : List ℕ) {x : ℕ} → x ≡ f 0 → set d (a + n) x ≡ written f (a + n * 1) 1 d
+-- channel by channel
+pub written_none : (f : ℕ → ℕ) (a : ℕ) (d : List ℕ) → d ≡ written f a 0 d
+unfolding written
+written_none f a d = refl
+
+pub written_next : (f : ℕ → ℕ) (a n : ℕ) (d e : List ℕ) {x : ℕ} → e ≡ written f a n d → x ≡ f n → set e (a + n) x ≡ written f a (n + 1) d
+unfolding written
+written_next f a n d e p q = rw (add-one n, p, q)
+
+one_of : (f : ℕ → ℕ) (a n : ℕ) (d : List ℕ) {x : ℕ} → x ≡ f 0 → set d (a + n) x ≡ written f (a + n * 1) 1 d
 unfolding written
 one_of f a n d p = rw (add-zero, mul-one, p)
-
-pub two_of : (f : ℕ → ℕ) (a : ℕ) (d : List ℕ) {x y : ℕ} → x ≡ f 0 → y ≡ f 1 → set (set d a x) (a + 1) y ≡ written f a 2 d
-unfolding written
-two_of f a d p q = rw (add-zero, p, q)
-
-pub four_of : (f : ℕ → ℕ) (a : ℕ) (d : List ℕ) {x y z w : ℕ} → x ≡ f 0 → y ≡ f 1 → z ≡ f 2 → w ≡ f 3
-    → set (set (set (set d a x) (a + 1) y) (a + 2) z) (a + 3) w ≡ written f a 4 d
-unfolding written
-four_of f a d p q r s = rw (add-zero, p, q, r, s)
 
 -- ---- a part of a buffer that is written at once
 
@@ -167,12 +166,6 @@ copied s d ys from a k l n read room p q e =
     (length-take-le n (drop from s) (omega (arith, length-drop from s)))
     (λ i h. get_or-take n (drop from s) i 0 h ∙ get_or-drop from s i 0))
 
--- the first n bytes of a list copied
-pub copied_first : (s d ys : List ℕ) (a l n : ℕ) → n ≤ length s → a + n ≤ length d → l ≡ n → ys ≡ take n s
-    → take a d ++ (ys ++ drop l (drop a d)) ≡ written (λ j. get_or s j 0) a n d
-copied_first s d ys a l n read room q e =
-    rw (q, e) (put_written (λ j. get_or s j 0) a n d (take n s) room (length-take-le n s read) (λ i h. get_or-take n s i 0 h))
-
 -- one byte at n places
 pub filled : (x a k l n : ℕ) (d ys : List ℕ) → a + n ≤ length d → k ≡ n → l ≡ n → ys ≡ replicate (length (take k (drop a d))) x
     → take a d ++ (ys ++ drop l (drop a d)) ≡ written (λ _. x) a n d
@@ -188,8 +181,8 @@ pixels_one p a zero d = refl
 pixels_one p a (suc n) d =
     one_of (p n) a n (written (λ i. p i 0) a n d) refl ∙ ap (written (p n) (a + n * 1) 1) (pixels_one p a n d)
 
--- n pixels of one channel, copied
-pub copied_pixels : (s d ys : List ℕ) (from a n : ℕ) → from + n ≤ length s → a + n ≤ length d → ys ≡ take (from + n - from) (drop from s)
-    → take a d ++ (ys ++ drop (a + n - a) (drop a d)) ≡ pixels (λ i c. get_or s (from + i) 0) 1 a n d
-copied_pixels s d ys from a n read room e =
-    copied s d ys from a (from + n - from) (a + n - a) n read room (omega arith) (omega arith) e ∙ pixels_one (λ i c. get_or s (from + i) 0) a n d
+-- n pixels of one channel, copied to the start of a buffer
+pub copied_pixels : (s d ys : List ℕ) (from n : ℕ) → from + n ≤ length s → n ≤ length d → ys ≡ take (from + n - from) (drop from s)
+    → ys ++ drop n d ≡ pixels (λ i c. get_or s (from + i) 0) 1 0 n d
+copied_pixels s d ys from n read room e =
+    copied s d ys from 0 (from + n - from) n n read (omega arith) (omega arith) refl e ∙ pixels_one (λ i c. get_or s (from + i) 0) 0 n d

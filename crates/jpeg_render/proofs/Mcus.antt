@@ -1,31 +1,33 @@
 -- An MCU in one row: all ways to write its pixels are one.
 use Prim.Native.Nat.{ℕ, ◌+◌, ◌*◌, ◌-◌, ◌<◌, ◌≤◌}
-use mathlib.Core.Path.{◌≡◌, refl, subst}
+use mathlib.Core.Path.{◌≡◌, ap, ◌∙◌, subst}
 use mathlib.Core.Bool.{Bool, true, false}
-use mathlib.Core.List.{List, [], ◌∷◌, ◌++◌}
+use mathlib.Core.List.{List, [], ◌++◌}
 use native.Mathlib.Omega.{arith}
 use lib.Dec.{eqb}
 use lib.ListN.{get_or, length, take, drop, length-drop}
 use lib.Seq.{length-take-le}
 use Rattle.reading.specs.Tests.{◌and◌}
 use Rattle.jpeg_render_row.specs.Drawn.{pixels}
-use Rattle.jpeg_render_row.specs.Runs.{in_run}
-use Rattle.jpeg_render_row.proofs.Drawing.{pixels_same}
+use Rattle.jpeg_render_row.specs.Runs.{in_run, run}
+use Rattle.jpeg_render_row.proofs.Drawing.{pixels_same, pixels_in_part}
+use Rattle.jpeg_render_row.proofs.Running.{run_drawn}
 use Rattle.jpeg_render_pairs.specs.Tinted.{tinted}
-use Rattle.jpeg_render_pairs.proofs.Paired.{tinted_in_part}
-use Rattle.jpeg_render.specs.Rows.{RunsFit, ColourFits, McuFits, Usual, in_runs, in_three, in_mcu, in_lists, Spread, Widened, Gathered}
-use Rattle.jpeg_render.proofs.Shades.{and_true, and_false, below_1, below_2, below_4, gray_in_mcu, runs_in_three, pairs_in_three, three_in_mcu, lists_in_mcu, run_in_mcu}
+use Rattle.jpeg_render_pairs.proofs.Paired.{tinted_drawn}
+use Rattle.jpeg_render.specs.Rows.{LaneFits, ColourFits, McuFits, Usual, Taken, in_three, in_mcu, in_lists, Spread, Gathered}
+use Rattle.jpeg_render.proofs.Shades.{and_true, and_false, gray_in_mcu, run_in_three, pairs_in_three, three_in_mcu, lists_in_mcu, run_in_mcu}
 
 -- ---- the usual three channels, the chroma samples spread over the pixels
 
 module _ {s out : List ℕ} {luma first second hs n at : ℕ} (ok : ColourFits s out luma first second hs n at) where
-  pub runs_fit : RunsFit s out luma n at
-  runs_fit = omega (arith, ok)
+  pub luma_lane : LaneFits s luma hs hs
+  luma_lane = record { least = ok.least; below = omega arith; most = ok.most; read = ok.first }
 
-  pub spread_three : (cb cr : List ℕ) (colour : Bool) (d e : List ℕ) → Widened s first hs cb → Widened s second hs cr
-      → e ≡ pixels (in_runs s luma cb cr colour) 3 at n d → e ≡ pixels (in_three s luma first second hs colour) 3 at n d
-  spread_three cb cr colour d e p q h =
-      pixels_same _ _ _ _ _ _ _ h (λ i c l m. runs_in_three s luma first second hs cb cr colour p q i c (omega (arith, ok.within)))
+  pub first_lane : LaneFits s first 1 hs
+  first_lane = record { least = omega arith; below = ok.least; most = ok.most; read = omega (arith, ok.second) }
+
+  pub second_lane : LaneFits s second 1 hs
+  second_lane = record { least = omega arith; below = ok.least; most = ok.most; read = omega (arith, ok.third) }
 
   -- one of the three ways, by its sampling
   pub colour_fits : (k : ℕ) → hs ≡ k → ColourFits s out luma first second k n at
@@ -35,22 +37,30 @@ module _ {s out : List ℕ} {luma first second hs n at : ℕ} (ok : ColourFits s
       → e ≡ pixels (in_three s luma first second k b) 3 at n d → e ≡ pixels (in_three s luma first second hs colour) 3 at n d
   colour_three k same colour b chosen d e h = rw (same, chosen) h
 
+module _ {s out : List ℕ} {luma first second hs n : ℕ} (ok : ColourFits s out luma first second hs n 0) where
+  pub wide_three : (u v w : List ℕ) (colour : Bool) {e : List ℕ} → Spread s luma hs hs u → Spread s first 1 hs v → Spread s second 1 hs w
+      → e ≡ run u v w n colour out → e ≡ pixels (in_three s luma first second hs colour) 3 0 n out
+  wide_three u v w colour p q r h =
+      pixels_same _ _ _ _ _ _ _ (h ∙ run_drawn u v w n colour out (omega (arith, ok.within, ok.most)) (omega (arith, ok.room)))
+      (λ i c l m. run_in_three s luma first second hs u v w colour ok.least p q r i c (omega (arith, ok.within)))
+
 -- ---- sampling 2 in colour
 
 -- the 8 samples that are lent are there
 lent : (s : List ℕ) (b : ℕ) → b + 8 ≤ length s → 8 ≤ length (take (b + 8 - b) (drop b s))
 lent s b h = omega (arith, length-take-le (b + 8 - b) (drop b s) (omega (arith, length-drop b s)))
 
-module _ {s out : List ℕ} {luma first second n at : ℕ} (ok : ColourFits s out luma first second 2 n at) where
-  -- the pixels in their part of the buffer are those of the MCU
-  pub pairs_three : (u ys : List ℕ) → Gathered s luma n u
-      → ys ≡ tinted u (take (first + 8 - first) (drop first s)) (take (second + 8 - second) (drop second s)) n (take (at + n * 3 - at) (drop at out))
-      → take at out ++ (ys ++ drop (at + n * 3 - at) (drop at out)) ≡ pixels (in_three s luma first second 2 true) 3 at n out
-  pairs_three u ys gathered is =
+module _ {s out : List ℕ} {luma first second n : ℕ} (ok : ColourFits s out luma first second 2 n 0) where
+  pub pairs_three : (u : List ℕ) {e : List ℕ} → Gathered s luma 16 u
+      → e ≡ tinted u (take (first + 8 - first) (drop first s)) (take (second + 8 - second) (drop second s)) n out
+      → e ≡ pixels (in_three s luma first second 2 true) 3 0 n out
+  pairs_three u gathered h =
       pixels_same _ _ _ _ _ _ _
-      (tinted_in_part u (take (first + 8 - first) (drop first s)) (take (second + 8 - second) (drop second s)) n at (at + n * 3) out
-      (lent s first ok.second) (lent s second ok.third) most refl ok.room is)
-      (λ i c l m. pairs_in_three s luma first second (first + 8 - first) (second + 8 - second) n u most (omega arith) (omega arith) gathered i c l)
+      (h
+      ∙ tinted_drawn u (take (first + 8 - first) (drop first s)) (take (second + 8 - second) (drop second s)) n out
+      (lent s first ok.second) (lent s second ok.third) most (omega (arith, ok.room)))
+      (λ i c l m. pairs_in_three s luma first second (first + 8 - first) (second + 8 - second) n u most (omega arith) (omega arith)
+      (λ j k. gathered j (omega (arith, most))) i c l)
     where
       most : n ≤ 16
       most = omega (arith, ok.within)
@@ -103,6 +113,17 @@ module _ {s out places : List ℕ} {offset : ℕ} {across : List ℕ} {largest n
         (pixels_same _ _ _ _ _ _ _ h
         (λ i c p. three_in_mcu s places offset across largest (subst (λ k. Usual across largest k) usual.three usual) some_wide colour i c (omega (arith, ok.within))))
 
+  module _ {t : List ℕ} {luma first second hs : ℕ} {colour chosen : Bool}
+      (taken : Taken s places across largest channels colour t luma first second hs chosen) where
+    pub taken_fits : ColourFits t out (luma + offset) (first + offset) (second + offset) hs n at
+    taken_fits = rw (taken.samples, taken.first, taken.second, taken.third, taken.wide) (usual_fits taken.usual)
+
+    pub taken_mcu : (d e : List ℕ)
+        → e ≡ pixels (in_three t (luma + offset) (first + offset) (second + offset) hs chosen) 3 at n d
+        → e ≡ pixels (in_mcu s places offset across largest (colour and eqb channels 3)) channels at n d
+    taken_mcu d e h =
+        usual_mcu taken.usual colour d e (rw (taken.samples, taken.first, taken.second, taken.third, taken.wide, taken.coloured) at h)
+
   -- of any channels, by the number of them
   pub plain_mcu : (k : ℕ) → channels ≡ k → eqb k 3 ≡ false → (colour : Bool) (d e : List ℕ)
       → e ≡ pixels (in_mcu s places offset across largest false) k at n d
@@ -122,36 +143,32 @@ module _ {s out places : List ℕ} {offset : ℕ} {across : List ℕ} {largest n
   lists_mcu us d e each h =
       pixels_same _ _ _ _ _ _ _ h (λ i c p. lists_in_mcu s places offset across largest us channels each i c (omega (arith, ok.within)))
 
-  pub run_mcu : (u v w : List ℕ) (colour : Bool) (d e : List ℕ)
-      → Spread s (get_or places 0 0 + offset) (get_or across 0 0) largest u
-      → Spread s (get_or places 1 0 + offset) (get_or across 1 0) largest v
-      → Spread s (get_or places 2 0 + offset) (get_or across 2 0) largest w
-      → e ≡ pixels (in_run u v w colour) 3 at n d
+  pub run_mcu : (us : List (List ℕ)) (colour : Bool) (d e : List ℕ)
+      → ((c : ℕ) → c < 3 → Spread s (get_or places c 0 + offset) (get_or across c 0) largest (get_or us c []))
+      → e ≡ pixels (in_run (get_or us 0 []) (get_or us 1 []) (get_or us 2 []) colour) 3 at n d
       → e ≡ pixels (in_mcu s places offset across largest colour) 3 at n d
-  run_mcu u v w colour d e p q r h =
-      pixels_same _ _ _ _ _ _ _ h (λ i c l. run_in_mcu s places offset across largest u v w colour p q r i c (omega (arith, ok.within)))
+  run_mcu us colour d e each h =
+      pixels_same _ _ _ _ _ _ _ h
+      (λ i c l. run_in_mcu s places offset across largest (get_or us 0 []) (get_or us 1 []) (get_or us 2 []) colour
+      (each 0 (omega arith)) (each 1 (omega arith)) (each 2 (omega arith)) i c (omega (arith, ok.within)))
 
--- one, two or four lists
-module _ {s out places : List ℕ} {offset : ℕ} {across : List ℕ} {largest n at : ℕ} (d e : List ℕ) where
-  pub lists_1 : McuFits s out places offset across largest n 1 at → (u : List ℕ)
-      → Spread s (get_or places 0 0 + offset) (get_or across 0 0) largest u
-      → e ≡ pixels (in_lists (u ∷ [])) 1 at n d → e ≡ pixels (in_mcu s places offset across largest false) 1 at n d
-  lists_1 ok u p = lists_mcu ok (u ∷ []) d e (below_1 (λ c. Spread s (get_or places c 0 + offset) (get_or across c 0) largest (get_or (u ∷ []) c [])) p)
+-- ---- an MCU in the part of the buffer that it fills
 
-  pub lists_2 : McuFits s out places offset across largest n 2 at → (u v : List ℕ)
-      → Spread s (get_or places 0 0 + offset) (get_or across 0 0) largest u
-      → Spread s (get_or places 1 0 + offset) (get_or across 1 0) largest v
-      → e ≡ pixels (in_lists (u ∷ v ∷ [])) 2 at n d → e ≡ pixels (in_mcu s places offset across largest false) 2 at n d
-  lists_2 ok u v p q =
-      lists_mcu ok (u ∷ v ∷ []) d e
-      (below_2 (λ c. Spread s (get_or places c 0 + offset) (get_or across c 0) largest (get_or (u ∷ v ∷ []) c [])) p q)
+module _ {s out places : List ℕ} {offset : ℕ} {across : List ℕ} {largest n channels at : ℕ}
+    (ok : McuFits s out places offset across largest n channels at) (e : ℕ) (end : e ≡ at + n * channels) where
+  pub lent_fits : McuFits s (take (e - at) (drop at out)) places offset across largest n channels 0
+  lent_fits =
+      record {
+        some = ok.some;
+        few = ok.few;
+        most = ok.most;
+        lanes = ok.lanes;
+        within = ok.within;
+        room = omega (arith, length-take-le (e - at) (drop at out) (omega (arith, length-drop at out, ok.room)));
+      }
 
-  pub lists_4 : McuFits s out places offset across largest n 4 at → (u v w x : List ℕ)
-      → Spread s (get_or places 0 0 + offset) (get_or across 0 0) largest u
-      → Spread s (get_or places 1 0 + offset) (get_or across 1 0) largest v
-      → Spread s (get_or places 2 0 + offset) (get_or across 2 0) largest w
-      → Spread s (get_or places 3 0 + offset) (get_or across 3 0) largest x
-      → e ≡ pixels (in_lists (u ∷ v ∷ w ∷ x ∷ [])) 4 at n d → e ≡ pixels (in_mcu s places offset across largest false) 4 at n d
-  lists_4 ok u v w x p q r t =
-      lists_mcu ok (u ∷ v ∷ w ∷ x ∷ []) d e
-      (below_4 (λ c. Spread s (get_or places c 0 + offset) (get_or across c 0) largest (get_or (u ∷ v ∷ w ∷ x ∷ []) c [])) p q r t)
+  pub lent_drawn : (p : ℕ → ℕ → ℕ) {ys : List ℕ} → ys ≡ pixels p channels 0 n (take (e - at) (drop at out))
+      → take at out ++ (ys ++ drop (e - at) (drop at out)) ≡ pixels p channels at n out
+  lent_drawn p h =
+      ap (λ (l : List ℕ). take at out ++ (l ++ drop (e - at) (drop at out))) h
+      ∙ pixels_in_part p channels at (e - at) n out (omega (arith, ok.room)) (omega arith)

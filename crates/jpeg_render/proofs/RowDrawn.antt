@@ -8,6 +8,7 @@ use native.Mathlib.Nat.{mul-le-mul_right}
 use lib.Dec.{eqb}
 use lib.ListN.{get_or, length}
 use Rattle.whole.specs.Lists.{list_of}
+use Rattle.std.specs.Prelude.{Some}
 use Rattle.reading.specs.declared.Frame.{Frame}
 use Rattle.reading.specs.declared.Mcu.{Mcu}
 use Rattle.reading.specs.Tests.{◌and◌, over}
@@ -46,7 +47,7 @@ module _ (r : Frame) (colour : Bool) (t d : List ℕ) (ok : Drawable r t d) (y :
     pub offset_most : offset ≤ length t
     offset_most = omega (arith, offset_within r t d ok y below before.k in_picture, before.offset_is)
 
-    module _ {m : Mcu} (e : m ≡ measured r) (n : ℕ) (some : n ≡ min (r.width - x) (8 * m.across)) where
+    module _ {m : Mcu} (e : Some m ≡ measured r) (n : ℕ) (some : n ≡ min (r.width - x) (8 * m.across)) where
       wide : m.across ≡ widest (shape_of r).factors
       wide = across_is r ok.sized e
 

@@ -11,6 +11,7 @@ use native.Mathlib.Nat.{mod-lt, zero-add, div-le_self, mul-le-mul, mul-le-mul_ri
 use lib.Dec.{eqb}
 use lib.ListN.{get_or, set, length, take, length-set}
 use lib.Seq.{get_or-set_same, get_or-set_other}
+use Rattle.std.specs.Prelude.{Some}
 use Rattle.reading.specs.declared.Frame.{Frame}
 use Rattle.reading.specs.declared.Mcu.{Mcu}
 use Rattle.reading.specs.Tests.{◌and◌}
@@ -21,7 +22,7 @@ use Rattle.reading.specs.Reading.{pixel}
 use Rattle.reading.specs.Code.Mcus.{mcus_of, measured}
 use Rattle.reading.proofs.McuCounts.{mcus_asked}
 use Rattle.reading.proofs.Accepted.{ceiling_small}
-use Rattle.reading.proofs.Sampling.{Sampling, sampled_says, measured_is, wide_most, high_most, wide_least, high_least, wide_above, channels_are, factors_at_lem}
+use Rattle.reading.proofs.Sampling.{Sampling, sampled_says, measured_mcu, wide_most, high_most, wide_least, high_least, wide_above, channels_are, factors_at_lem}
 use Rattle.jpeg_render_row.specs.Runs.{shown}
 use Rattle.jpeg_render.specs.Rows.{Sized, Drawable, RowFits, LaneFits, blocks_above, row_in, row_of, RowsOf, lane, lane_at, in_mcu}
 use Rattle.jpeg_render.proofs.Lanes.{row_block, sample_place}
@@ -88,6 +89,9 @@ module _ (r : Frame) (ok : Sized r) where
   pub sampling : Sampling r
   sampling = sampled_says r ok.sampling
 
+  pub few_channels : r.channels ≤ 4
+  few_channels = sampling.few
+
   pub wide_is : (1 ≤ widest (shape_of r).factors) × (widest (shape_of r).factors ≤ 4)
   wide_is = (wide_least r sampling, wide_most r sampling)
 
@@ -102,15 +106,15 @@ module _ (r : Frame) (ok : Sized r) where
   channel_counted c h = omega (arith, channels_are r)
 
   -- what was measured, in the rules' words
-  module _ {m : Mcu} (e : m ≡ measured r) where
+  module _ {m : Mcu} (e : Some m ≡ measured r) where
     pub across_is : m.across ≡ widest (shape_of r).factors
-    across_is = ap (λ (k : Mcu). k.across) (e ∙ measured_is r sampling)
+    across_is = ap (λ (k : Mcu). k.across) (measured_mcu r e)
 
     pub down_is : m.down ≡ highest (shape_of r).factors
-    down_is = ap (λ (k : Mcu). k.down) (e ∙ measured_is r sampling)
+    down_is = ap (λ (k : Mcu). k.down) (measured_mcu r e)
 
     pub blocks_is : m.blocks ≡ areas (shape_of r).factors
-    blocks_is = ap (λ (k : Mcu). k.blocks) (e ∙ measured_is r sampling)
+    blocks_is = ap (λ (k : Mcu). k.blocks) (measured_mcu r e)
 
     pub across_asked : {n : ℕ} → n ≡ mcus_of r.width m.across → n ≡ mcus_across (shape_of r)
     across_asked q =
@@ -159,7 +163,7 @@ module _ (r : Frame) (ok : Sized r) where
         has = λ c h. absurd (not-suc-le-zero h);
       }
 
-  module _ {m : Mcu} (e : m ≡ measured r) {y blocks c : ℕ} {places : List ℕ} (before : RowsTo r y blocks c places) (more : c < r.channels) where
+  module _ {m : Mcu} (e : Some m ≡ measured r) {y blocks c : ℕ} {places : List ℕ} (before : RowsTo r y blocks c places) (more : c < r.channels) where
     pub row_fits : RowFits blocks (y % (8 * m.down)) (get_or r.across c 0) (get_or r.down c 0) m.down
     row_fits =
         let high : m.down ≡ highest (shape_of r).factors = down_is e in

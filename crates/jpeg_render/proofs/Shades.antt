@@ -11,7 +11,7 @@ use borrow.Author.Tests.{eqb-true}
 use Rattle.reading.specs.Tests.{◌and◌}
 use Rattle.jpeg_render_row.specs.Runs.{three, shown, in_run}
 use Rattle.jpeg_render_pairs.specs.Tinted.{in_pairs}
-use Rattle.jpeg_render.specs.Rows.{luma_at, lane, lane_at, in_runs, in_three, in_mcu, in_lists, Spread, Widened, Gathered, Usual}
+use Rattle.jpeg_render.specs.Rows.{luma_at, lane, lane_at, in_three, in_mcu, in_lists, Spread, Gathered, Usual}
 use Rattle.jpeg_render.proofs.Lanes.{lane_same, lane_one}
 
 pub and_true : (b : Bool) → b and true ≡ b
@@ -27,23 +27,11 @@ pub below_1 : (P : ℕ → Type 0) → P 0 → (c : ℕ) → c < 1 → P c
 below_1 P p zero h = p
 below_1 P p (suc c) h = let z : ⊥ = omega arith in absurd z
 
-pub below_2 : (P : ℕ → Type 0) → P 0 → P 1 → (c : ℕ) → c < 2 → P c
-below_2 P p q zero h = p
-below_2 P p q (suc zero) h = q
-below_2 P p q (suc (suc c)) h = let z : ⊥ = omega arith in absurd z
-
 pub below_3 : (P : ℕ → Type 0) → P 0 → P 1 → P 2 → (c : ℕ) → c < 3 → P c
 below_3 P p q r zero h = p
 below_3 P p q r (suc zero) h = q
 below_3 P p q r (suc (suc zero)) h = r
 below_3 P p q r (suc (suc (suc c))) h = let z : ⊥ = omega arith in absurd z
-
-pub below_4 : (P : ℕ → Type 0) → P 0 → P 1 → P 2 → P 3 → (c : ℕ) → c < 4 → P c
-below_4 P p q r s zero h = p
-below_4 P p q r s (suc zero) h = q
-below_4 P p q r s (suc (suc zero)) h = r
-below_4 P p q r s (suc (suc (suc zero))) h = s
-below_4 P p q r s (suc (suc (suc (suc c)))) h = let z : ⊥ = omega arith in absurd z
 
 -- what is shown depends on the channels' samples alone, in colour on three
 pub shown_same : (b : Bool) (v w : ℕ → ℕ) (n : ℕ) → (b ≡ true → n ≡ 3) → ((c : ℕ) → c < n → v c ≡ w c)
@@ -58,18 +46,16 @@ pub coloured_three : (colour : Bool) (n : ℕ) → colour and eqb n 3 ≡ true �
 coloured_three true n e = eqb-true n 3 e
 coloured_three false n e = let z : ⊥ = true≢false (sym e) in absurd z
 
--- the luma samples of a run are those that were gathered
-pub run_in_runs : (s : List ℕ) (a n : ℕ) (luma cb cr : List ℕ) (b : Bool) → Gathered s a n luma → (i c : ℕ) → i < n
-    → in_run luma cb cr b i c ≡ in_runs s a cb cr b i c
-unfolding in_run in_runs
-run_in_runs s a n luma cb cr b g i c h = ap (λ k. shown b (three k (get_or cb i 0) (get_or cr i 0)) c) (g i h)
-
--- the chroma samples of an MCU are those that were spread
-pub runs_in_three : (s : List ℕ) (a b d hs : ℕ) (cb cr : List ℕ) (coloured : Bool) → Widened s b hs cb → Widened s d hs cr
-    → (i c : ℕ) → i < 8 * hs → in_runs s a cb cr coloured i c ≡ in_three s a b d hs coloured i c
-unfolding in_runs in_three
-runs_in_three s a b d hs cb cr coloured p q i c h =
-    ap₂ (λ k l. shown coloured (three (get_or s (luma_at a i) 0) k l) c) (p i h) (q i h)
+-- the pixels of three lists that were spread, luma as wide as the MCU and chroma with one block across
+pub run_in_three : (s : List ℕ) (a b d hs : ℕ) (u v w : List ℕ) (coloured : Bool) → 1 ≤ hs → Spread s a hs hs u → Spread s b 1 hs v → Spread s d 1 hs w
+    → (i c : ℕ) → i < 8 * hs → in_run u v w coloured i c ≡ in_three s a b d hs coloured i c
+unfolding in_run in_three
+run_in_three s a b d hs u v w coloured some p q r i c h =
+    ap (λ y. shown coloured (three y (get_or v i 0) (get_or w i 0)) c) (p i h ∙ ap (λ k. get_or s (a + k) 0) (lane_same hs i (omega arith)))
+    ∙ ap₂ (λ k l. shown coloured (three (get_or s (luma_at a i) 0) k l) c) (q i h ∙ chroma b) (r i h ∙ chroma d)
+  where
+    chroma : (from : ℕ) → get_or s (from + lane 1 hs i) 0 ≡ get_or s (from + i / hs) 0
+    chroma from = ap (λ k. get_or s (from + k) 0) (lane_one hs i h)
 
 -- the pixels of an MCU with sampling 2 in colour: the chroma samples are the 8 that are lent of each channel
 pub pairs_in_three : (s : List ℕ) (a b d k l n : ℕ) (luma : List ℕ) → n ≤ 16 → 8 ≤ k → 8 ≤ l → Gathered s a n luma

@@ -1,8 +1,8 @@
 -- The samples of a channel spread over the pixels of an MCU: of one block across, what holds after j samples, whatever number of times
 -- each is written; of as many blocks as the MCU, gathered, 8 of each block; and pixel by pixel of any number of blocks.
-use Prim.Native.Nat.{ℕ, ◌+◌, ◌*◌, ◌-◌, ◌/◌, ◌%◌, ◌<◌, ◌≤◌}
+use Prim.Native.Nat.{ℕ, ◌+◌, ◌*◌, ◌-◌, ◌/◌, ◌<◌, ◌≤◌}
 use mathlib.Core.Path.{◌≡◌, refl, sym, ap, ◌∙◌, subst}
-use mathlib.Core.List.{List}
+use mathlib.Core.List.{List, []}
 use native.Mathlib.Omega.{arith}
 use native.Mathlib.Decide.{dec_lt, ℕ_discrete}
 use lib.Arith.{digits_div}
@@ -45,54 +45,40 @@ module _ (s : List ℕ) (b hs : ℕ) where
       let e : j ≡ 8 = omega arith in
       all.has i (rw e (omega arith))
 
--- ---- luma
+-- ---- blocks side by side
 
-pub record GatheredTo (s : List ℕ) (a n x : ℕ) (u : List ℕ) : Type 0 where
-  pub whole : x % 8 ≡ 0
-  pub within : x < n + 8
+-- after b blocks
+pub record GatheredTo (s : List ℕ) (a b : ℕ) (u : List ℕ) : Type 0 where
   pub size : length u ≡ 32
-  pub has : Gathered s a x u
+  pub has : Gathered s a (8 * b) u
 
--- a block that begins among the samples has its 8 within the lists
-pub block_room : (x n : ℕ) → x % 8 ≡ 0 → x < n → n ≤ 32 → x + 8 ≤ 32
-block_room x n whole more most =
-    let blocks : x / 8 ≤ 3 = omega arith in
-    omega (arith, blocks)
-
-pub block_read : (x n : ℕ) → x % 8 ≡ 0 → x < n → 8 * x ≤ 64 * ((n - 1) / 8)
-block_read x n whole more =
-    let blocks : x / 8 ≤ (n - 1) / 8 = omega arith in
-    omega (arith, blocks)
-
-module _ (s : List ℕ) (a n : ℕ) where
-  pub gathered_none : (u : List ℕ) → length u ≡ 32 → GatheredTo s a n 0 u
-  gathered_none u e = record { whole = omega arith; within = omega arith; size = e; has = λ i h. let z : ⊥ = omega arith in absurd z }
+module _ (s : List ℕ) (a : ℕ) where
+  pub gathered_none : (u : List ℕ) → length u ≡ 32 → GatheredTo s a 0 u
+  gathered_none u e = record { size = e; has = λ i h. let z : ⊥ = omega arith in absurd z }
 
   -- one block more
-  pub gathered_next : (x : ℕ) (u v : List ℕ) → GatheredTo s a n x u → x < n → n ≤ 32 → v ≡ written (λ j. get_or s (a + 8 * x + j) 0) x 8 u
-      → GatheredTo s a n (x + 8) v
-  gathered_next x u v before more most e =
+  pub gathered_next : (b : ℕ) (u v : List ℕ) → GatheredTo s a b u → b < 4 → v ≡ written (λ j. get_or s (a + 64 * b + j) 0) (8 * b) 8 u
+      → GatheredTo s a (b + 1) v
+  gathered_next b u v before more e =
       record {
-        whole = omega (arith, before.whole);
-        within = omega arith;
-        size = ap length e ∙ length_written f x 8 u ∙ before.size;
-        has = λ i h. ap (λ l. get_or l i 0) e ∙ go i h (dec_lt i x);
+        size = ap length e ∙ length_written f (8 * b) 8 u ∙ before.size;
+        has = λ i h. ap (λ l. get_or l i 0) e ∙ go i h (dec_lt i (8 * b));
       }
     where
       f : ℕ → ℕ
-      f j = get_or s (a + 8 * x + j) 0
+      f j = get_or s (a + 64 * b + j) 0
 
-      go : (i : ℕ) → i < x + 8 → Dec (i < x) → get_or (written f x 8 u) i 0 ≡ get_or s (luma_at a i) 0
-      go i h (yes l) = written_before f x 8 u i l ∙ before.has i l
+      go : (i : ℕ) → i < 8 * (b + 1) → Dec (i < 8 * b) → get_or (written f (8 * b) 8 u) i 0 ≡ get_or s (luma_at a i) 0
+      go i h (yes l) = written_before f (8 * b) 8 u i l ∙ before.has i l
       go i h (no l) =
-          let here : x + (i - x) ≡ i = omega arith in
-          let place : a + 8 * x + (i - x) ≡ luma_at a i = omega (arith, before.whole) in
-          subst (λ k. get_or (written f x 8 u) k 0 ≡ f (i - x)) here
-          (written_in f x 8 u (i - x) (omega arith) (omega (arith, block_room x n before.whole more most, before.size)))
+          let here : 8 * b + (i - 8 * b) ≡ i = omega arith in
+          let place : a + 64 * b + (i - 8 * b) ≡ luma_at a i = omega arith in
+          subst (λ k. get_or (written f (8 * b) 8 u) k 0 ≡ f (i - 8 * b)) here
+          (written_in f (8 * b) 8 u (i - 8 * b) (omega arith) (omega (arith, before.size)))
           ∙ ap (λ k. get_or s k 0) place
 
-  pub gathered_all : (x : ℕ) (u : List ℕ) → GatheredTo s a n x u → n ≤ x → Gathered s a n u
-  gathered_all x u all over i h = all.has i (omega arith)
+  pub gathered_all : (b n : ℕ) (u : List ℕ) → GatheredTo s a b u → n ≤ b → Gathered s a (8 * n) u
+  gathered_all b n u all over i h = all.has i (omega arith)
 
 -- ---- any number of blocks across
 
@@ -128,3 +114,27 @@ module _ (s : List ℕ) (a own w : ℕ) where
   module _ (ok : LaneFits s a own w) where
     pub lane_read : (i : ℕ) → i < 8 * w → a + lane own w i < length s
     lane_read i h = omega (arith, lane_most own w i h ok.least, ok.read)
+
+-- ---- some channels
+
+-- the lists of c channels are there
+pub record ChannelsTo (s places : List ℕ) (offset : ℕ) (across : List ℕ) (w n c : ℕ) (us : List (List ℕ)) : Type 0 where
+  pub many : length us ≡ n
+  pub has : (k : ℕ) → k < c → Spread s (get_or places k 0 + offset) (get_or across k 0) w (get_or us k [])
+
+module _ (s places : List ℕ) (offset : ℕ) (across : List ℕ) (w n : ℕ) where
+  pub channels_none : (us : List (List ℕ)) → length us ≡ n → ChannelsTo s places offset across w n 0 us
+  channels_none us e = record { many = e; has = λ k h. let z : ⊥ = omega arith in absurd z }
+
+  pub channels_next : (c : ℕ) (us : List (List ℕ)) (u : List ℕ) → ChannelsTo s places offset across w n c us → c < n
+      → Spread s (get_or places c 0 + offset) (get_or across c 0) w u → ChannelsTo s places offset across w n (c + 1) (set us c u)
+  channels_next c us u before more here =
+      record { many = length-set us c u ∙ before.many; has = λ k h. go k h (ℕ_discrete k c) }
+    where
+      go : (k : ℕ) → k < c + 1 → Dec (k ≡ c) → Spread s (get_or places k 0 + offset) (get_or across k 0) w (get_or (set us c u) k [])
+      go k h (yes p) = rw (p, get_or-set_same us c u [] (omega (arith, before.many))) here
+      go k h (no p) = rw (get_or-set_other us c k u [] (omega arith)) (before.has k (omega arith))
+
+  pub channels_all : (c : ℕ) (us : List (List ℕ)) → ChannelsTo s places offset across w n c us → n ≤ c
+      → (k : ℕ) → k < n → Spread s (get_or places k 0 + offset) (get_or across k 0) w (get_or us k [])
+  channels_all c us all over k h = all.has k (omega arith)

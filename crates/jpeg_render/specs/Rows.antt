@@ -1,6 +1,6 @@
 -- What rendering stands on: the numbers of a frame, where a row of pixels begins among the block samples of each channel, and the
 -- pixels of an MCU in that row.
-use Rattle.std.specs.Prelude.{ℕ, ◌+◌, ◌*◌, ◌-◌, ◌/◌, ◌%◌, ◌<◌, ◌≤◌, ◌≡◌, Bool, true, List, [], eqb, get_or, length}
+use Rattle.std.specs.Prelude.{ℕ, ◌+◌, ◌*◌, ◌/◌, ◌%◌, ◌<◌, ◌≤◌, ◌≡◌, Bool, true, List, [], eqb, get_or, length}
 use Rattle.reading.specs.declared.Frame.{Frame}
 use Rattle.reading.specs.Tests.{◌and◌}
 use Rattle.reading.specs.Layout.{Shape, highest, mcus_across, areas, block_count, factors_at, before, scaled}
@@ -86,10 +86,6 @@ in_lists us i c = get_or (get_or us c []) i 0
 abbrev pub luma_at : ℕ → ℕ → ℕ
 luma_at a i = a + (64 * (i / 8) + i % 8)
 
--- pixel i of such a row
-unfoldable pub in_runs : List ℕ → ℕ → List ℕ → List ℕ → Bool → ℕ → ℕ → ℕ
-in_runs s a cb cr coloured i = shown coloured (three (get_or s (luma_at a i) 0) (get_or cb i 0) (get_or cr i 0))
-
 -- pixel i of an MCU in one row: luma samples from a on, the chroma channels' from b and from d on, each for hs pixels
 unfoldable pub in_three : List ℕ → ℕ → ℕ → ℕ → ℕ → Bool → ℕ → ℕ → ℕ
 in_three s a b d hs coloured i =
@@ -110,13 +106,17 @@ pub record Usual (across : List ℕ) (largest channels : ℕ) : Type 0 where
   pub second : get_or across 1 0 ≡ 1
   pub third : get_or across 2 0 ≡ 1
 
--- ---- what is read and written lies within the lists
+-- such channels taken from those of a row: the same samples and colour, and the places of their rows in the first MCU
+pub record Taken (s places across : List ℕ) (largest channels : ℕ) (colour : Bool) (t : List ℕ) (luma cb cr hs : ℕ) (chosen : Bool) : Type 0 where
+  pub usual : Usual across largest channels
+  pub samples : t ≡ s
+  pub first : luma ≡ get_or places 0 0
+  pub second : cb ≡ get_or places 1 0
+  pub third : cr ≡ get_or places 2 0
+  pub wide : hs ≡ largest
+  pub coloured : chosen ≡ colour
 
--- runs: 8 luma samples of each block
-pub record RunsFit (s out : List ℕ) (luma n at : ℕ) : Type 0 where
-  pub read : luma + (64 * ((n - 1) / 8) + 8) ≤ length s
-  pub spread : n ≤ 32
-  pub room : at + n * 3 ≤ length out
+-- ---- what is read and written lies within the lists
 
 -- an MCU of the usual three channels in one row
 pub record ColourFits (s out : List ℕ) (luma cb cr hs n at : ℕ) : Type 0 where

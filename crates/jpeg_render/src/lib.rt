@@ -4,39 +4,31 @@
 #![tactic(auto)]
 
 ghost use Rattle.std.specs.Prelude.{◌≡◌};
-ghost use Rattle.reading.specs.Code.Mcus.{measured};
-ghost use Rattle.jpeg_render.specs.Rendered.{framed, fits, rendered};
+ghost use Rattle.jpeg_render.specs.Rendered.{fits, rendered};
 
 mod layout;
 mod render;
 
-use reading::{Frame, Limits, Mcu};
-
-// The numbers of a frame. They are tested first: behind them no product wraps.
-fn framed(frame: Frame, m: Mcu) -> bool
-    requires { m ≡ measured frame }
-    ensures { result ≡ framed frame }
-{
-    m.blocks != 0 && frame.width <= Limits::SIDE && frame.height <= Limits::SIDE
-}
+use layout::Measured;
+use reading::Frame;
+use render::Source;
 
 // Whether a frame can be drawn from so many samples into so many bytes.
-#[tactic(auto, using(crate::proofs::Fitting::framed_sized, crate::proofs::RowPlaces::pixels_most, crate::proofs::RowPlaces::bytes_most), unfolding(crate::specs::Rendered::fits))]
-fn fits(frame: Frame, m: Mcu, samples: usize, room: usize) -> bool
-    requires { m ≡ measured frame }
-    ensures { result ≡ fits frame samples room }
+#[tactic(auto, using(crate::proofs::RowPlaces::pixels_most, crate::proofs::RowPlaces::bytes_most, crate::proofs::Fitting::sized_framed), unfolding(crate::specs::Rendered::fits))]
+fn fits(m: Measured, samples: usize, room: usize) -> bool
+    ensures { result ≡ fits m.frame samples room }
 {
-    framed(frame, m)
-        && frame.width * frame.height * frame.channels <= room
-        && layout::all_samples(frame, m) <= samples
+    m.frame.width * m.frame.height * m.frame.channels <= room && m.all_samples() <= samples
 }
 
 // The picture over what stood in the buffer.
 pub fn picture(frame: Frame, colour: bool, samples: &[u8], out: &mut [u8])
     ensures { out.new ≡ rendered frame colour samples.now out.old }
 {
-    let m = Mcu::of(frame);
-    if fits(frame, m, samples.len(), out.len()) {
-        render::picture(frame, m, colour, samples, out);
+    if let Some(m) = Measured::of(frame) {
+        if fits(m, samples.len(), out.len()) {
+            let source = Source { m, colour, samples };
+            source.picture(out);
+        }
     }
 }

@@ -33,8 +33,11 @@ module _ {y i : ℕ} {u : List ℤ} (byte : y < 256) (small : First (λ k x. nat
   pub shade_fits : SFits w16 (to_z w16 y +ℤ to_z w16 (of_z w16 (at u i)))
   shade_fits = sum_fits w16 {x = at u i} (record { fits = byte }) (refl, small.each i within) tt
 
-  pub shade : to_byte (to_z w16 (of_z w16 (to_z w16 y +ℤ to_z w16 (of_z w16 (at u i))))) ≡ to_byte (pos y +ℤ at u i)
-  shade = ap to_byte (sum_is w16 {x = at u i} (record { fits = byte }) (refl, small.each i within) tt)
+  -- what the clamp of the sum, as the machine has it, ensures
+  pub shade : {r : ℕ} → (z : ℤ) × (z ≡ to_z w16 (of_z w16 (to_z w16 y +ℤ to_z w16 (of_z w16 (at u i))))) × (r ≡ to_byte z)
+      → r ≡ to_byte (pos y +ℤ at u i)
+  shade clamped =
+      clamped.2 ∙ ap to_byte (clamped.1 ∙ sum_is w16 {x = at u i} (record { fits = byte }) (refl, small.each i within) tt)
 
 -- luma and the parts of a pixel's chroma samples make its colour
 pub summed_in_pairs : (luma cb cr : List ℕ) (n : ℕ) (reds greens blues : List ℤ)

@@ -12,16 +12,12 @@ ghost use Rattle.jpeg_render_pairs.specs.Tinted.{tinted};
 fn twice(parts: &[i16; 8]) -> [i16; 16]
     ensures { First (Twice parts.now) 16 result }
 {
-    let mut spread = [0i16; 16];
-    for j in 0..8 {
-        spread[2 * j] = parts[j];
-        spread[2 * j + 1] = parts[j];
-    }
-    spread
+    std::array::from_fn(|i| parts[i / 2])
 }
 
 // What each of 8 chroma samples, or pairs of them, adds to luma in one channel, for two pixels each. A call is a loop that writes one
-// list, and a part is kept in 16 bits: so it is compiled to vector code.
+// list, and a part is kept in 16 bits: so it is compiled to vector code. Tried, `array::from_fn`: the proof did not close, since nothing
+// is found of what a closure promises that comes as a parameter.
 fn parts<F: Fn(usize) -> i32>(part: F) -> [i16; 16]
     requires called { (j : ℕ) → j < 8 → F.pre part j }
     requires small { (j : ℕ) → j < 8 → (x : ℤ) → F.post part j x → nat_abs x ≤ 1024 }
@@ -34,7 +30,8 @@ fn parts<F: Fn(usize) -> i32>(part: F) -> [i16; 16]
     twice(&parts)
 }
 
-// Pixels in colour from their luma samples and what is added to them. Sums and clamps stay in 16 bits, which makes the loop quick.
+// Pixels in colour from their luma samples and what is added to them. Sums and clamps stay in 16 bits, which makes the loop quick. Tried, a
+// slice for each pixel by `chunks_exact_mut`: 4:2:0 is drawn with twice the instructions.
 fn tint(
     luma: &[u8; 32],
     reds: &[i16; 16],
@@ -48,9 +45,9 @@ fn tint(
 {
     for i in 0..n {
         let y = luma[i] as i16;
-        out[i * 3] = jpeg_color::short_to_byte(y + reds[i]);
-        out[i * 3 + 1] = jpeg_color::short_to_byte(y + greens[i]);
-        out[i * 3 + 2] = jpeg_color::short_to_byte(y + blues[i]);
+        out[i * 3] = jpeg_color::to_byte(y + reds[i]);
+        out[i * 3 + 1] = jpeg_color::to_byte(y + greens[i]);
+        out[i * 3 + 2] = jpeg_color::to_byte(y + blues[i]);
     }
 }
 

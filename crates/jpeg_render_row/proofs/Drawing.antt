@@ -12,10 +12,6 @@ use Rattle.jpeg_render_row.specs.Drawn.{written, pixels}
 
 -- ---- written
 
-pub written_next : (f : ℕ → ℕ) (a n : ℕ) (d : List ℕ) → set (written f a n d) (a + n) (f n) ≡ written f a (n + 1) d
-unfolding written
-written_next f a n d = rw add-one
-
 pub length_written : (f : ℕ → ℕ) (a n : ℕ) (d : List ℕ) → length (written f a n d) ≡ length d
 unfolding written
 length_written f a zero d = refl

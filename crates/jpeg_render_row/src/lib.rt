@@ -7,7 +7,8 @@ ghost use Rattle.std.specs.Prelude.{◌≡◌, ◌+◌, ◌≤◌, length};
 ghost use Rattle.jpeg_render_row.specs.Drawn.{written};
 ghost use Rattle.jpeg_render_row.specs.Runs.{three, shown, run};
 
-// One pixel.
+// One pixel. The choice of colour stands here and is taken out of the loop by the compiler. Tried, a closure for each choice that gives the
+// three bytes of a pixel: a picture of 4:4:4 in colour is drawn with more than twice the instructions.
 fn pixel(y: u8, b: u8, r: u8, colour: bool, out: &mut [u8], at: usize)
     requires { at + 3 ≤ length out.old }
     ensures { out.new ≡ written (shown colour (three y b r)) at 3 out.old }
@@ -23,7 +24,8 @@ fn pixel(y: u8, b: u8, r: u8, colour: bool, out: &mut [u8], at: usize)
     }
 }
 
-// The first n pixels, at the start of the buffer. That n is small is tested first: then n * 3 does not wrap.
+// The first n pixels, at the start of the buffer. That n is small is tested first: then n * 3 does not wrap. Tried, a slice for each pixel by
+// `chunks_exact_mut`: twice the instructions.
 pub fn run(luma: &[u8; 32], cb: &[u8; 32], cr: &[u8; 32], n: usize, colour: bool, out: &mut [u8])
     ensures { out.new ≡ run luma.now cb.now cr.now n colour out.old }
 {

@@ -7,7 +7,8 @@ use native.Mathlib.Nat.{add-mul}
 use native.Mathlib.Omega.{arith}
 use lib.ListN.{length, drop}
 use lib.IntN.{ℤ}
-use Rattle.std.specs.Prelude.{Result, Ok, Err}
+use Rattle.std.specs.Option.{ok_or}
+use Rattle.std.specs.Prelude.{Option, Some, None, Result, Ok, Err}
 use Rattle.std.specs.Int.{div_ceil}
 use Rattle.std.proofs.Math.Nat.{mul-le-mul_right}
 use Rattle.std.proofs.lemmas.Grind.{div_ceil_times}
@@ -23,12 +24,13 @@ use Rattle.reading.specs.Tables.{shape_of, quantizers_of}
 use Rattle.reading.specs.Reading.{samples_of}
 use Rattle.reading.specs.Scan.{plan_of, closed, Cursor, Scanned, whole, broke, here, onwards, levels}
 use Rattle.reading.specs.Code.Answers.{scan_read}
-use Rattle.reading.specs.Code.Scans.{at_start, cursor_of, broke_at, readable, scan_of}
+use Rattle.reading.specs.Code.Scans.{at_start, cursor_of, broke_at, nowhere, readable, scan_of}
 use Rattle.reading.proofs.ScanAnswers.{answer_done, answer_stop, Accepted, accepted, refused, drawn_stop, drawn_short, drawn_all}
 use Rattle.reading.proofs.Reasons.{whole_val, no_break}
 use Rattle.jpeg_scan_plan.specs.declared.Plan.{Plan}
+use Rattle.jpeg_scan_plan.specs.Plans.{plan_for}
 use Rattle.jpeg_scan_plan.specs.Marks.{closes}
-use Rattle.jpeg_scan_plan.proofs.Standing.{Ready}
+use Rattle.jpeg_scan_plan.proofs.Standing.{Ready, unready}
 use Rattle.jpeg_scan_plan.proofs.Marks.{end_there, end_not}
 use Rattle.jpeg_scan.specs.Steps.{ahead, placed, inked, Left, Went, drawn_for}
 use Rattle.jpeg_scan.proofs.AllMcus.{Walk, all_read, unchanged, broken, further}
@@ -137,6 +139,12 @@ module _
       onward v = further w left_of v (plan_of s r) u.numbers
 
 -- ---- the scan read, and read again with its samples
+
+-- no scan can be read
+pub unplanned : (s : List ℕ) (r : Record) (o : Option Plan) {w v : Break} → o ≡ plan_for s r → v ≡ nowhere → Err w ≡ ok_or o v
+    → Err w ≡ scan_read (scan_of s r)
+unplanned s r None {w} {v} e n h = let same : w ≡ v = cc in ap Err (same ∙ n) ∙ answer_stop (unready s r e)
+unplanned s r (Some x) e n h = absurd cc
 
 module _ (s : List ℕ) (r : Record) (old : List ℕ) where
   pub drawn_broken : {b : Break} {new : List ℕ} → Err b ≡ scan_read (scan_of s r) → new ≡ old → new ≡ drawn_for s r old

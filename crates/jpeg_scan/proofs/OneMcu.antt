@@ -225,30 +225,6 @@ module _
                     ∙ inked_more p.shape quant write from.done o.levels (l ∷ []) old (λ (t : write ≡ true). omega (arith, room t, w.along.place));
               }
 
-    pub further :
-        j < n.per
-        → q.done < n.blocks
-        → {c : ℕ}
-        → c ≡ chan n.order j
-        → {x : Result (BlockRead Bits) Fault}
-        → x ≡ said (block_at (head n s) n s c q)
-        → {b : BlockRead Bits}
-        → x ≡ Ok b
-        → {l : List ℤ}
-        → l ≡ levels_of (block_at (head n s) n s c q)
-        → {new' : List ℕ}
-        → new' ≡ painted_at n s c q.done write l b.reach new
-        → (write ≡ true → 64 * n.blocks ≤ length old)
-        → Walk s n write old from new' (past q c b.first b.after) (j + 1)
-    further h i {c} u v {b} g {l} y {new'} d room =
-        let fits : write ≡ true → 64 * q.done + 64 ≤ length new = λ t. omega (arith, room t, w.size) in
-        let there : new' ≡ painted_if write n s c q.done l b.reach new = d ∙ painted_room write q.done (length new) _ _ fits in
-        record {
-          size = ap length there ∙ painted_length write q.done (take 64 (drop (get_or n.quants c 0) (head n s))) l b.reach new fits ∙ w.size;
-          along = along_more w.along h i c _ _;
-          on = λ p m st e. more p m st e h i u v g y there room;
-        }
-
     -- ---- the MCU to whose blocks its restart led from `turn`
 
     module _ (m : ℕ) (turn : ScanCursor Bits) (r : Ok from ≡ restarted s n.interval m turn) where
@@ -277,25 +253,46 @@ module _
       pub whole : j ≡ min n.per (n.blocks - from.done) → Went s n m turn write old (Ok q) new
       whole c = record { size = w.size; each = λ p st e i. passed p st e i c }
 
-      -- block j breaks
-      pub broken :
-          j < n.per
-          → q.done < n.blocks
-          → {c : ℕ}
-          → c ≡ chan n.order j
-          → {x : Result (BlockRead Bits) Fault}
-          → x ≡ said (block_at (head n s) n s c q)
-          → {f : Fault}
-          → x ≡ Err f
-          → Went s n m turn write old (Err (broke_in turn q f)) new
-      broken h i u v g =
-          record {
-            size = w.size;
-            each = λ p st e l. (
-              to_blocks p st e l ∙ stops p m st (at_from p st e l) h i u v g turn same_done,
-              unwritten p m st (at_from p st e l) h i u v,
-            );
-          }
+    -- ---- block j
+
+    module _
+        (h : j < n.per) (i : q.done < n.blocks) {c : ℕ} (u : c ≡ chan n.order j)
+        {x : Result (BlockRead Bits) Fault} (v : x ≡ said (block_at (head n s) n s c q))
+      where
+        -- it is read
+        pub further :
+            {b : BlockRead Bits}
+            → x ≡ Ok b
+            → {l : List ℤ}
+            → l ≡ levels_of (block_at (head n s) n s c q)
+            → {new' : List ℕ}
+            → new' ≡ painted_at n s c q.done write l b.reach new
+            → (write ≡ true → 64 * n.blocks ≤ length old)
+            → Walk s n write old from new' (past q c b.first b.after) (j + 1)
+        further {b} g {l} y {new'} d room =
+            let fits : write ≡ true → 64 * q.done + 64 ≤ length new = λ t. omega (arith, room t, w.size) in
+            let there : new' ≡ painted_if write n s c q.done l b.reach new = d ∙ painted_room write q.done (length new) _ _ fits in
+            record {
+              size = ap length there ∙ painted_length write q.done (take 64 (drop (get_or n.quants c 0) (head n s))) l b.reach new fits ∙ w.size;
+              along = along_more w.along h i c _ _;
+              on = λ p m st e. more p m st e h i u v g y there room;
+            }
+
+        -- it breaks
+        pub broken :
+            (m : ℕ) (turn : ScanCursor Bits)
+            → Ok from ≡ restarted s n.interval m turn
+            → {f : Fault}
+            → x ≡ Err f
+            → Went s n m turn write old (Err (broke_in turn q f)) new
+        broken m turn r g =
+            record {
+              size = w.size;
+              each = λ p st e l. (
+                to_blocks m turn r p st e l ∙ stops p m st (at_from m turn r p st e l) h i u v g turn (same_done m turn r),
+                unwritten p m st (at_from m turn r p st e l) h i u v,
+              );
+            }
 
 -- the restart of an MCU breaks
 pub halted :

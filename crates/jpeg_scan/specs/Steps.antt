@@ -1,5 +1,5 @@
 -- The steps in which a scan is read: the blocks from a cursor on, the blocks of an MCU; and what is left in the scratch.
-use Rattle.std.specs.Prelude.{◌≡◌, List, [], ◌∷◌, ◌++◌, Bool, true, false, ℕ, zero, suc, ◌+◌, ◌*◌, ◌-◌, ◌<◌, min, length, get_or, set, take, drop, ℤ, pos, Result, Ok, Err}
+use Rattle.std.specs.Prelude.{◌≡◌, List, [], ◌∷◌, ◌++◌, Bool, true, false, ℕ, zero, suc, ◌+◌, ◌*◌, ◌-◌, ◌<◌, min, length, get_or, set, take, drop, ℤ, pos, Some, Result, Ok, Err}
 use Rattle.reading.specs.declared.Bits.{Bits}
 use Rattle.reading.specs.declared.Break.{Break}
 use Rattle.reading.specs.declared.Record.{Record}
@@ -12,10 +12,12 @@ use Rattle.reading.specs.Scan as scan
 use Rattle.reading.specs.Scan.{Cursor, Scanned, whole, broke, here, onwards}
 use Rattle.reading.specs.Code.Scans.{cursor_of, scan_of}
 use Rattle.reading.specs.Tables.{shape_of, quantizers_of}
+use Rattle.reading.specs.Code.Answers.{scan_read}
 use Rattle.reading.specs.Code.Painted.{drawn}
 use Rattle.reading.specs.Reading.{dequantized, block_samples, samples_of}
 use Rattle.jpeg_scan_plan.specs.declared.Plan.{Plan}
-use Rattle.jpeg_scan_plan.specs.Plans.{Stands, Quantizes}
+use Rattle.jpeg_scan_plan.specs.Plans.{plan_for, Stands, Quantizes}
+use Rattle.jpeg_engine.specs.Engines.{Follows}
 
 -- ---- the blocks from a cursor on
 
@@ -83,6 +85,32 @@ pub record Went
       → from.done < n.blocks
       → Behind s p n from write old r new
 
+-- ---- by an engine
+
+-- where a scan stands at a cursor, and where at one that follows it; of a break it is said what the engine says of breaks
+abbrev pub Along : {P : Type 0} → (Bits → P → Type 0) → (Break → Break) → Result (ScanCursor Bits) Break → Result (ScanCursor P) Break → Type 0
+Along meets says (Ok q) (Ok c) = Follows meets q c
+Along meets says (Ok q) (Err w) = ⊥
+Along meets says (Err v) (Ok c) = ⊥
+Along meets says (Err v) (Err w) = w ≡ says v
+
+-- `told` is what the rules have there
+pub record Told
+    {P : Type 0} (meets : Bits → P → Type 0) (says : Break → Break) (s : List ℕ) (n : Plan) (m : ℕ) (from : ScanCursor Bits) (write : Bool)
+    (old : List ℕ) (r : Result (ScanCursor P) Break) (new : List ℕ) : Type 0 where
+  pub told : Result (ScanCursor Bits) Break
+  pub went : Went s n m from write old told new
+  pub along : Along meets says told r
+
+-- MCU m, at every cursor that is followed there
+abbrev pub WentBy :
+    {P : Type 0} → (Bits → P → Type 0) → (Break → Break) → List ℕ → Plan → ℕ → ScanCursor P → Bool → List ℕ → Result (ScanCursor P) Break
+    → List ℕ → Type 0
+WentBy meets says s n m before write old r new =
+    (q : ScanCursor Bits) → Follows meets q before → Told meets says s n m q write old r new
+
+-- ---- a whole scan
+
 -- what a whole scan leaves in the scratch: without samples the scratch as it was; with them, of an accepted scan, its samples
 -- and then the old tail
 abbrev pub Left : Bool → List ℕ → Record → List ℕ → List ℕ → Type 0
@@ -93,3 +121,13 @@ Left true s r old new =
 -- and what is left where it is read twice, so that a fault writes nothing
 abbrev pub drawn_for : List ℕ → Record → List ℕ → List ℕ
 drawn_for s r old = drawn (shape_of r.frame) (quantizers_of s r) r.blocks (scan_of s r) old
+
+-- an answer, in which a break is told as an engine says it
+abbrev pub said_by : (Break → Break) → Result (Unit {0}) Break → Result (Unit {0}) Break
+said_by says (Ok x) = Ok x
+said_by says (Err w) = Err (says w)
+
+-- what is answered of the scan of each record that has the plan, and what is left
+abbrev pub ReadBy : (Break → Break) → List ℕ → Plan → Bool → List ℕ → Result (Unit {0}) Break → List ℕ → Type 0
+ReadBy says s n write old r new =
+    (found : Record) → Some n ≡ plan_for s found → (r ≡ said_by says (scan_read (scan_of s found))) × Left write s found old new

@@ -32,6 +32,12 @@ nothing = tt
 pub full_over : (byte left : ℕ) → 8 < left → byte < 256 → leb left 8 ≡ padded (record { at = 0; byte = byte; left = left })
 full_over byte left h i = lt-leb left 8 h ∙ padded_over byte left h i
 
+-- the bytes from a place on, as the code takes them
+pub bytes_behind : (s : List ℕ) (at : ℕ) {a : ℕ} → a ≡ min at (length s) → take (length s - a) (drop a s) ≡ drop at s
+bytes_behind s at {a} e =
+    take_all (length s - a) (drop a s) (omega (arith, length-drop a s)) ∙ ap (λ i. drop i s) e ∙ drop_min at s
+
+-- a run of 255
 pub fulls_next : (s : List ℕ) (i : ℕ) → i < length s → get_or s i 0 ≡ 255 → fulls (drop i s) ≡ fulls (drop (i + 1) s) + 1
 fulls_next s i h e = let next : suc i ≡ i + 1 = omega arith in omega (arith, fulls_more s i h e, ap (λ k. fulls (drop k s)) next)
 

@@ -1,13 +1,14 @@
 -- The numbers that are gathered from a record stand for the plan of the rules.
 use mathlib.Core.List.{List}
 use mathlib.Core.Path.{◌≡◌, refl, sym, ◌∙◌, ap, subst⁻¹}
-use mathlib.Core.Bool.{Bool, true, false, not, cond}
+use mathlib.Core.Bool.{Bool, true, false, cond}
 use Prim.Native.Nat.{ℕ, zero, suc, ◌+◌, ◌-◌, ◌*◌, ◌/◌, ◌%◌, ◌^◌, ◌<◌, ◌≤◌}
 use native.Mathlib.Nat.{pow-le-pow_right, mul-le-mul, not-suc-le-zero, le_of_suc-le-suc, pow-suc, pow-succ', div-one, div-div-eq-div-mul}
 use native.Mathlib.Omega.{arith}
-use lib.Dec.{T, leb, ltb, eqb, leb→le}
+use lib.Dec.{T, leb, ltb, leb→le}
 use lib.ListN.{length, get_or, take, drop}
-use borrow.Author.Tests.{le-leb, lt-leb, lt-ltb, le-ltb, eqb-true, eqb-false}
+use borrow.Author.Tests.{le-leb, lt-leb, lt-ltb, le-ltb}
+use Rattle.std.specs.Prelude.{Some, None}
 use Rattle.reading.specs.declared.Frame.{Frame}
 use Rattle.reading.specs.declared.Mcu.{Mcu}
 use Rattle.reading.specs.declared.Record.{Record}
@@ -19,9 +20,9 @@ use Rattle.reading.specs.Scan.{plan_of, broke}
 use Rattle.reading.specs.Code.Mcus.{sampled, measured}
 use Rattle.reading.specs.Code.Scans.{nowhere, readable, scan_of}
 use Rattle.reading.proofs.Plain.{and_left, and_right}
-use Rattle.reading.proofs.Sampling.{Sampling, sampled_says, measured_is, measured_none, measured_some, blocks_least, channel_below, channels_are}
+use Rattle.reading.proofs.Sampling.{Sampling, sampled_says, measured_none, measured_some, measured_mcu, blocks_least, channel_below, channels_are}
 use Rattle.jpeg_scan_plan.specs.declared.Plan.{Plan}
-use Rattle.jpeg_scan_plan.specs.Plans.{four, digits, no_plan, plan_in, plan_for, chan, Stands, Quantizes}
+use Rattle.jpeg_scan_plan.specs.Plans.{four, digits, plan_in, plan_for, chan, Stands, Quantizes}
 
 -- ---- a readable record
 
@@ -42,25 +43,6 @@ readable_says s r e = go (sampled r.frame) refl (subst⁻¹ T e tt)
           sampling = sampled_says r.frame p;
         }
     go false p all = absurd (and_right (leb r.start (length s)) false all)
-
-pub sampled_where_readable : (s : List ℕ) (r : Record) → readable s r ≡ true → sampled r.frame ≡ true
-sampled_where_readable s r e = (readable_says s r e).fine
-
--- the tests of the code
-module _ (s : List ℕ) (r : Record) where
-  pub unreadable_long : length s < r.start → leb r.start (length s) ≡ readable s r
-  unfolding readable
-  unreadable_long h = rw (lt-leb r.start (length s) h)
-
-  pub readable_is : r.start ≤ length s → {n : ℕ} → n ≡ (measured r.frame).blocks → not (eqb n 0) ≡ readable s r
-  unfolding readable
-  readable_is h {n} e = rw (le-leb r.start (length s) h) (go (eqb n 0) refl)
-    where
-      go : (t : Bool) → eqb n 0 ≡ t → not t ≡ sampled r.frame
-      go true p = sym (measured_none r.frame (sym e ∙ eqb-true n 0 p))
-      go false p = sym (measured_some r.frame (λ z. eqb-false n 0 p (e ∙ z)))
-
-pub ruleset reads = (unreadable_long, readable_is)
 
 -- ---- the channel of a block
 
@@ -174,7 +156,7 @@ stands_in s r a =
 pub quantizes_in : (s : List ℕ) (r : Record) → Quantizes (take r.start s) (plan_in r) (quantizers_of s r)
 quantizes_in s r c h = ap (λ (k : ℕ). take 64 (drop k (take r.start s))) (four_at (quant_at r) c h)
 
--- where the plan of a record has blocks in an MCU, it is that record's, and its numbers stand for the plan of the rules
+-- where a record has a plan, its numbers stand for the plan of the rules
 pub record Ready (s : List ℕ) (r : Record) (n : Plan) : Type 0 where
   pub readable_is : readable s r ≡ true
   pub plan_is : n ≡ plan_in r
@@ -183,63 +165,73 @@ pub record Ready (s : List ℕ) (r : Record) (n : Plan) : Type 0 where
   pub quantizers : Quantizes (take n.start s) n (quantizers_of s r)
 
 module _ (s : List ℕ) (r : Record) where
-  plan_read : readable s r ≡ true → plan_for s r ≡ plan_in r
-  unfolding plan_for
-  plan_read e = rw e
+  -- the tests of the code
+  pub plan_long : length s < r.start → None ≡ plan_for s r
+  unfolding plan_for readable
+  plan_long h = rw (lt-leb r.start (length s) h) refl
 
-  pub plan_none : readable s r ≡ false → no_plan ≡ plan_for s r
-  unfolding plan_for
-  plan_none e = rw e
+  pub plan_unfit : r.start ≤ length s → None ≡ measured r.frame → None ≡ plan_for s r
+  unfolding plan_for readable
+  plan_unfit h e = rw (le-leb r.start (length s) h, measured_none r.frame e) refl
 
-  pub plan_gathered :
-      readable s r ≡ true
-      → {dcs acs quants : List ℕ} {order : ℕ} {m : Mcu}
-      → dcs ≡ four (dc_at r)
-      → acs ≡ four (ac_at r)
-      → quants ≡ four (quant_at r)
-      → order ≡ digits (channel_in (shape_of r.frame).factors) 0 10
-      → m ≡ measured r.frame
-      → record {
-        start = r.start;
-        dcs = dcs;
-        acs = acs;
-        quants = quants;
-        order = order;
-        per = m.blocks;
-        interval = r.interval;
-        blocks = r.blocks;
-      }
-      ≡ plan_for s r
-  plan_gathered e d a q o m =
-      let per = ap (λ (k : Mcu). k.blocks) (m ∙ measured_is r.frame (readable_says s r e).sampling) in
-      rw (d, a, q, o, per) (sym (plan_read e))
+  module _ {m : Mcu} (e : Some m ≡ measured r.frame) where
+    pub sampled_here : sampled r.frame ≡ true
+    sampled_here = measured_some r.frame e
 
-  pub ready : {n : Plan} → n ≡ plan_for s r → (n.per ≡ 0 → ⊥) → Ready s r n
-  ready {n} e h = go (readable s r) refl
+    readable_here : r.start ≤ length s → readable s r ≡ true
+    unfolding readable
+    readable_here h = rw (le-leb r.start (length s) h, sampled_here) refl
+
+    pub plan_gathered :
+        r.start ≤ length s
+        → {dcs acs quants : List ℕ} {order : ℕ}
+        → dcs ≡ four (dc_at r)
+        → acs ≡ four (ac_at r)
+        → quants ≡ four (quant_at r)
+        → order ≡ digits (channel_in (shape_of r.frame).factors) 0 10
+        → Some (record {
+          start = r.start;
+          dcs = dcs;
+          acs = acs;
+          quants = quants;
+          order = order;
+          per = m.blocks;
+          interval = r.interval;
+          blocks = r.blocks;
+        })
+        ≡ plan_for s r
+    unfolding plan_for
+    plan_gathered h d a q o =
+        let per = ap (λ (k : Mcu). k.blocks) (measured_mcu r.frame e) in
+        rw (d, a, q, o, per, readable_here h) refl
+
+  module _ {n : Plan} (e : Some n ≡ plan_for s r) where
+    plan_read : (readable s r ≡ true) × (n ≡ plan_in r)
+    unfolding plan_for
+    plan_read = go (readable s r) refl e
+      where
+        go : (t : Bool) → readable s r ≡ t → Some n ≡ cond t (Some (plan_in r)) None → (readable s r ≡ true) × (n ≡ plan_in r)
+        go true x e = (x, cc)
+        go false x e = absurd cc
+
+    pub ready : Ready s r n
+    ready =
+        let a : Readable s r = readable_says s r plan_read.0 in
+        let same : n ≡ plan_in r = plan_read.1 in
+        record {
+          readable_is = plan_read.0;
+          plan_is = same;
+          inside = subst⁻¹ (λ (k : Plan). k.start ≤ length s) same a.inside;
+          numbers = subst⁻¹ (λ (k : Plan). Stands (take k.start s) k (plan_of s r)) same (stands_in s r a);
+          quantizers = subst⁻¹ (λ (k : Plan). Quantizes (take k.start s) k (quantizers_of s r)) same (quantizes_in s r);
+        }
+
+  pub unready : None ≡ plan_for s r → scan_of s r ≡ broke nowhere
+  unfolding plan_for scan_of
+  unready e = go (readable s r) refl e
     where
-      go : (t : Bool) → readable s r ≡ t → Ready s r n
-      go true x =
-          let a : Readable s r = readable_says s r x in
-          let same : n ≡ plan_in r = e ∙ plan_read x in
-          record {
-            readable_is = x;
-            plan_is = same;
-            inside = subst⁻¹ (λ (k : Plan). k.start ≤ length s) same a.inside;
-            numbers = subst⁻¹ (λ (k : Plan). Stands (take k.start s) k (plan_of s r)) same (stands_in s r a);
-            quantizers = subst⁻¹ (λ (k : Plan). Quantizes (take k.start s) k (quantizers_of s r)) same (quantizes_in s r);
-          }
-      go false x = absurd (h (ap (λ (k : Plan). k.per) (e ∙ sym (plan_none x))))
+      go : (t : Bool) → readable s r ≡ t → None ≡ cond t (Some (plan_in r)) None → scan_of s r ≡ broke nowhere
+      go true x e = absurd cc
+      go false x e = rw x
 
-  pub unready : {n : Plan} → n ≡ plan_for s r → n.per ≡ 0 → scan_of s r ≡ broke nowhere
-  unfolding scan_of
-  unready {n} e h = go (readable s r) refl
-    where
-      go : (t : Bool) → readable s r ≡ t → scan_of s r ≡ broke nowhere
-      go false x = rw x
-      go true x =
-          let a = (readable_says s r x).sampling in
-          let z : areas (shape_of r.frame).factors ≡ 0 = sym (ap (λ (k : Plan). k.per) (e ∙ plan_read x)) ∙ h in
-          let y : ⊥ = omega (arith, z, blocks_least r.frame a, a.some) in
-          absurd y
-
-pub ruleset gathered = (plan_none, sampled_where_readable, plan_gathered)
+pub ruleset gathered = (plan_long, plan_unfit, sampled_here, plan_gathered)

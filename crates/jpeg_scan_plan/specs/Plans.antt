@@ -1,5 +1,5 @@
 -- The numbers that a scan is read by, and what they stand for in the rules.
-use Rattle.std.specs.Prelude.{◌≡◌, List, [], ◌∷◌, cond, ℕ, zero, suc, ◌+◌, ◌*◌, ◌/◌, ◌%◌, ◌^◌, ◌<◌, get_or, take, drop}
+use Rattle.std.specs.Prelude.{◌≡◌, List, [], ◌∷◌, cond, ℕ, zero, suc, ◌+◌, ◌*◌, ◌/◌, ◌%◌, ◌^◌, ◌<◌, get_or, take, drop, Option, Some, None}
 use Rattle.reading.specs.declared.Record.{Record}
 use Rattle.reading.specs.Huffman.{table_at}
 use Rattle.reading.specs.Layout.{areas, per_mcu, channel_in}
@@ -16,20 +16,6 @@ abbrev pub digits : (ℕ → ℕ) → ℕ → ℕ → ℕ
 digits f j zero = 0
 digits f j (suc n) = 4 * digits f (suc j) n + f j % 4
 
--- the plan of no scan: an MCU of no blocks
-abbrev pub no_plan : Plan
-no_plan =
-    record {
-      start = 0;
-      dcs = four (λ c. 0);
-      acs = four (λ c. 0);
-      quants = four (λ c. 0);
-      order = 0;
-      per = 0;
-      interval = 0;
-      blocks = 0;
-    }
-
 abbrev pub plan_in : Record → Plan
 plan_in r =
     record {
@@ -43,10 +29,10 @@ plan_in r =
       blocks = r.blocks;
     }
 
--- the plan of a record's scan; where the record has numbers by which no scan can be read, the plan of none
-unfoldable pub plan_for : List ℕ → Record → Plan
+-- the plan of a record's scan; none where the record has numbers by which no scan can be read
+unfoldable pub plan_for : List ℕ → Record → Option Plan
 unfolding readable
-plan_for s r = cond (readable s r) (plan_in r) no_plan
+plan_for s r = cond (readable s r) (Some (plan_in r)) None
 
 -- the channel of block j of an MCU, by a plan's digits
 abbrev pub chan : ℕ → ℕ → ℕ

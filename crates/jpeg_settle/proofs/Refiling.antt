@@ -1,23 +1,22 @@
 -- What settle leaves behind its tests before the scan: the scan is settled at its place, and the head is copied before it.
-use mathlib.Core.Path.{◌≡◌, refl, sym, ap, ap₂, ◌∙◌, subst, subst⁻¹}
+use mathlib.Core.Path.{◌≡◌, refl, sym, ap, ap₂, ◌∙◌, subst⁻¹}
 use mathlib.Core.Bool.{Bool, true, false, cond}
 use mathlib.Core.List.{List, [], ◌∷◌, ◌++◌, append_assoc, append-nil}
 use mathlib.Core.Option.{Option, none, some}
 use Prim.Native.Nat.{ℕ, suc, min, ◌+◌, ◌-◌, ◌^◌, ◌<◌, ◌≤◌}
 use native.Mathlib.Omega.{arith}
-use borrow.Author.Tests.{lt-ltb, le-ltb, ltb-true, ltb-false, le-leb, lt-leb}
+use borrow.Author.Tests.{lt-ltb, le-ltb, ltb-true, ltb-false, lt-leb}
 use lib.Dec.{T, ltb, leb, leb→le}
 use lib.IntN.{ℤ}
-use lib.ListN.{length, take, drop, set, get_or, take-append-drop, drop_of_length-le, length-append, length-drop}
-use lib.Seq.{set_at, drop_at, drop-cons, drop-drop, take-suc, take_all, length-take-le}
+use lib.ListN.{length, take, drop, take-append-drop, drop_of_length-le, length-append, length-drop}
+use lib.Seq.{drop_at, drop-drop, take_all, length-take-le}
 use Rattle.reading.specs.declared.Bits.{Bits}
 use Rattle.reading.specs.declared.Budget.{Budget}
 use Rattle.reading.specs.declared.Break.{Break}
 use Rattle.reading.specs.declared.Record.{Record}
-use Rattle.reading.specs.declared.Refusal.TheVariants.{TooLong, ShortRoom, NoEndCode, Scan}
+use Rattle.reading.specs.declared.Refusal.TheVariants.{ShortRoom}
 use Rattle.reading.specs.declared.Unsettled.{Unsettled}
 use Rattle.reading.specs.declared.Unsettled.TheVariants.{Lacking, Broke}
-use Rattle.std.specs.declared.result.Result.{Result}
 use Rattle.std.specs.declared.result.Result.TheVariants.{Ok, Err}
 use Rattle.reading.specs.Tests.{over}
 use Rattle.reading.specs.Scan.{Scanned, whole, broke}
@@ -28,7 +27,7 @@ use Rattle.reading.specs.Calls.{Rewritten, unsettled}
 use Rattle.reading.proofs.Counted.{scan_levels}
 use Rattle.reading.proofs.Plain.{and_left}
 use Rattle.jpeg_write_scan.proofs.Lengths.{settled_length}
-use Rattle.jpeg_settle.specs.Refiled.{answered, remade, scan_laid, joined, settled_into, refiled_by, refiled}
+use Rattle.jpeg_settle.specs.Refiled.{remade, scan_laid, joined, settled_into, refiled_by, refiled}
 
 -- ---- the scan's place
 
@@ -119,7 +118,8 @@ join_is s start t b rest out h = go (ltb (length out) (start + length t)) refl
     laid : List ℕ
     laid = take start out ++ (t ++ drop (length t) (drop start out))
 
-    go : (q : Bool) → ltb (length out) (start + length t) ≡ q → joined s start (length t) rest (scan_laid start (whole (some t) b) out) ≡ settled_into out rest (some (take start s ++ t))
+    go : (q : Bool) → ltb (length out) (start + length t) ≡ q
+        → joined s start (length t) rest (scan_laid start (whole (some t) b) out) ≡ settled_into out rest (some (take start s ++ t))
     go true e = ap (joined s start (length t) rest) (laid_not start t b out (ltb-true (length out) (start + length t) e)) ∙ here ∙ sym (counted ∙ there)
       where
         here : joined s start (length t) rest out ≡ unsettled ShortRoom rest (start + length t) out
@@ -127,7 +127,9 @@ join_is s start t b rest out h = go (ltb (length out) (start + length t)) refl
 
         there : into (start + length t) ≡ unsettled ShortRoom rest (start + length t) out
         there = rw e refl
-    go false e = ap (joined s start (length t) rest) (laid_all start t b out room) ∙ here ∙ ap (remade (record { verdict = Ok tt; budget = rest; length = start + length t })) bytes ∙ sym (counted ∙ there)
+    go false e =
+        ap (joined s start (length t) rest) (laid_all start t b out room) ∙ here
+        ∙ ap (remade (record { verdict = Ok tt; budget = rest; length = start + length t })) bytes ∙ sym (counted ∙ there)
       where
         room : start + length t ≤ length out
         room = ltb-false (length out) (start + length t) e

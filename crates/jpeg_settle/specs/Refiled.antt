@@ -7,6 +7,7 @@ use Rattle.reading.specs.declared.Record.{Record}
 use Rattle.reading.specs.declared.Refusal.TheVariants.{TooLong, ShortRoom, NoEndCode, Scan}
 use Rattle.reading.specs.declared.Settling.{Settling}
 use Rattle.jpeg_settle.specs.declared.Unfiled.{Unfiled}
+use Rattle.jpeg_settle.specs.declared.Unfiled.TheVariants.{Short, Refused}
 use Rattle.reading.specs.Scan.{Scanned, whole, broke}
 use Rattle.reading.specs.Settled.{behind}
 use Rattle.reading.specs.Code.Scans.{settled_of, laid_over}
@@ -16,7 +17,8 @@ use Rattle.reading.specs.Calls.{Rewritten, unsettled, rewritten}
 -- the length of the settled file, or why there is none, as settle answers it with what is left of the budget
 abbrev pub answered : Result ℕ Unfiled → Budget → Settling
 answered (Ok n) rest = record { verdict = Ok tt; budget = rest; length = n }
-answered (Err u) rest = record { verdict = Err u.refusal; budget = rest; length = u.length }
+answered (Err (Short n)) rest = record { verdict = Err ShortRoom; budget = rest; length = n }
+answered (Err (Refused x)) rest = record { verdict = Err x; budget = rest; length = 0 }
 
 -- an answer and the buffer as it is left
 abbrev pub remade : Settling → List ℕ → Rewritten

@@ -5,33 +5,47 @@
 ghost use Rattle.std.specs.Prelude.{◌≡◌, ◌+◌, ◌≤◌, ◌<◌, ◌^◌, length};
 ghost use Rattle.reading.specs.declared.Budget.{Budget};
 ghost use Rattle.reading.specs.Code.Scans.{settled_of, scan_settled, refusal_of};
+ghost use Rattle.jpeg_settle.specs.declared.Unfiled.TheVariants.{Refused};
 ghost use Rattle.jpeg_settle.specs.Refiled.{answered, remade, scan_laid, joined, refiled};
 
-use reading::{Limits, Record, Refusal, Unsettled};
+use reading::{Budget, Limits, Record, Refusal, Settling, Unsettled};
 
-// Why no file was settled, and, with number 7, the length that is needed, else 0.
+// Why no file was settled: number 7, with the length that is needed, or another refusal, which has none.
 #[derive(Clone, Copy, Debug, PartialEq, Eq)]
-pub struct Unfiled {
-    pub refusal: Refusal,
-    pub length: usize,
+pub enum Unfiled {
+    Short(usize),
+    Refused(Refusal),
 }
 
 impl From<Refusal> for Unfiled {
-    ghost from_gives = { λ x u. u ≡ record { refusal = x; length = 0 } };
+    ghost from_gives = { λ x u. u ≡ Refused x };
 
-    fn from(refusal: Refusal) -> Self {
-        Self { refusal, length: 0 }
+    fn from(x: Refusal) -> Self {
+        Self::Refused(x)
     }
 }
 
 impl From<Unsettled> for Unfiled {
-    ghost from_gives = { λ w u. u ≡ record { refusal = refusal_of w; length = 0 } };
+    ghost from_gives = { λ w u. u ≡ Refused (refusal_of w) };
 
     fn from(w: Unsettled) -> Self {
-        Self {
-            refusal: Refusal::from(w),
-            length: 0,
-        }
+        Self::Refused(Refusal::from(w))
+    }
+}
+
+// The length of the settled file, or why there is none, as settle answers it, with what is left of the budget.
+pub fn answered(filed: Result<usize, Unfiled>, budget: Budget) -> Settling
+    ensures { result ≡ answered filed budget }
+{
+    let (verdict, length) = match filed {
+        Ok(length) => (Ok(()), length),
+        Err(Unfiled::Short(length)) => (Err(Refusal::ShortRoom), length),
+        Err(Unfiled::Refused(x)) => (Err(x), 0),
+    };
+    Settling {
+        verdict,
+        budget,
+        length,
     }
 }
 
@@ -51,10 +65,7 @@ fn join(s: &[u8], start: usize, n: usize, out: &mut [u8]) -> Result<usize, Unfil
 {
     let length = start + n;
     if out.len() < length {
-        return Err(Unfiled {
-            refusal: Refusal::ShortRoom,
-            length,
-        });
+        return Err(Unfiled::Short(length));
     }
     out[..start].copy_from_slice(&s[..start]);
     Ok(length)

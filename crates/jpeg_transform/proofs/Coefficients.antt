@@ -58,7 +58,8 @@ module _ (q : List ℕ) (l : List ℤ) where
       is_list_of (pos 0) (replicate 64 (pos 0)) 64 (λ i. dequantized_at q [] (zigzag_place i)) (length-replicate 64 (pos 0))
       (λ i h. get_or-replicate 64 i (pos 0) (pos 0) h ∙ sym (zero-*ℤ (pos (get_or q (zigzag_place i) 0))))
 
-  pub coefficients_next : (k : ℕ) → k < 64 → set (coefficients q (take k l)) (get_or zigzag k 0) (dequantized_at q l k) ≡ coefficients q (take (k + 1) l)
+  pub coefficients_next : (k : ℕ) → k < 64
+      → set (coefficients q (take k l)) (get_or zigzag k 0) (dequantized_at q l k) ≡ coefficients q (take (k + 1) l)
   coefficients_next k h =
       ext_get_or (pos 0) (set C z v) D (length-set C z v ∙ length_coefficients k ∙ sym (length_coefficients (k + 1)))
       (λ j p. go j (subst (λ n. j < n) (length-set C z v ∙ length_coefficients k) p) (ℕ_discrete j z))
@@ -79,10 +80,12 @@ module _ (q : List ℕ) (l : List ℤ) where
       go j p (yes e) =
           ap (at (set C z v)) e ∙ get_or-set_same C z v (pos 0) (rw (length_coefficients k) (zigzag_below k h))
           ∙ ap (λ x. x *ℤ pos (get_or q k 0)) (sym (get_or-take (k + 1) l k (pos 0) (omega arith)))
-          ∙ ap (dequantized_at q (take (k + 1) l)) (sym (zigzag_place_lem k h)) ∙ sym (coefficient_at (k + 1) z (zigzag_below k h)) ∙ ap (at D) (sym e)
+          ∙ ap (dequantized_at q (take (k + 1) l)) (sym (zigzag_place_lem k h)) ∙ sym (coefficient_at (k + 1) z (zigzag_below k h))
+          ∙ ap (at D) (sym e)
       go j p (no ne) =
           get_or-set_other C z j v (pos 0) ne ∙ coefficient_at k j p
-          ∙ ap (λ x. x *ℤ pos (get_or q (zigzag_place j) 0)) (take_apart k l (zigzag_place j) (pos 0) (λ e. ne (sym (place_zigzag j p) ∙ ap (λ m. get_or zigzag m 0) e)))
+          ∙ ap (λ x. x *ℤ pos (get_or q (zigzag_place j) 0))
+          (take_apart k l (zigzag_place j) (pos 0) (λ e. ne (sym (place_zigzag j p) ∙ ap (λ m. get_or zigzag m 0) e)))
           ∙ sym (coefficient_at (k + 1) j p)
 
   -- there are 64 places: more levels than that do not count
@@ -90,7 +93,8 @@ module _ (q : List ℕ) (l : List ℤ) where
   unfolding coefficients
   coefficients_all k n h p =
       list_of_cong 64 (λ i. dequantized_at q (take k l) (zigzag_place i)) (λ i. dequantized_at q (take n l) (zigzag_place i))
-      (λ i r. ap (λ x. x *ℤ pos (get_or q (zigzag_place i) 0)) (get_or-take k l (zigzag_place i) (pos 0) (inside k i r h) ∙ sym (get_or-take n l (zigzag_place i) (pos 0) (inside n i r p))))
+      (λ i r. ap (λ x. x *ℤ pos (get_or q (zigzag_place i) 0))
+      (get_or-take k l (zigzag_place i) (pos 0) (inside k i r h) ∙ sym (get_or-take n l (zigzag_place i) (pos 0) (inside n i r p))))
     where
       inside : (m i : ℕ) → i < 64 → 64 ≤ m → zigzag_place i < m
       inside m i r h = omega (arith, place_below i r, h)
@@ -164,7 +168,8 @@ module _ (c : List ℤ) (z : RestZero c) where
   unfolding double_sum
   flat_plane y x hy hx =
       double_sum_lem c y x
-      ∙ sum_first 7 (λ v. sum_of 8 (λ u. at c (8 * v + u) *ℤ basis_at x u *ℤ basis_at y v)) (λ v. sum_zero 8 (λ u. at c (8 * suc v + u) *ℤ basis_at x u *ℤ basis_at y (suc v)) (λ u. past v u))
+      ∙ sum_first 7 (λ v. sum_of 8 (λ u. at c (8 * v + u) *ℤ basis_at x u *ℤ basis_at y v))
+      (λ v. sum_zero 8 (λ u. at c (8 * suc v + u) *ℤ basis_at x u *ℤ basis_at y (suc v)) (λ u. past v u))
       ∙ sum_first 7 (λ u. at c (8 * 0 + u) *ℤ basis_at x u *ℤ basis_at y 0) (λ u. beside u)
       ∙ ap₂ (λ a b. at c 0 *ℤ a *ℤ b) (first_weight x hx) (first_weight y hy) ∙ *ℤ_assoc (at c 0) (pos 11585) (pos 11585)
     where

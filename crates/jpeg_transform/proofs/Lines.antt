@@ -12,14 +12,16 @@ use lib.ListN.{length, get_or, drop, replicate, get_or-replicate}
 use mir.Syntax.{w64}
 use mir.Val.{SFits, to_z, of_z}
 use mir.Facts.{and_yes, to_z-of_z}
-use Rattle.whole.specs.Expressions.{Exp, at, value, machine_bits, Within, within_nil, within_cons, safe, all_safe, size, bounded, Fine, fine, exact, fits_abs, dot, coeffs, Pure, weighted}
+use Rattle.whole.specs.Expressions.{Exp, at, value, machine_bits, Within, within_nil, within_cons, safe, all_safe}
+use Rattle.whole.specs.Expressions.{size, bounded, Fine, fine, exact, fits_abs, dot, coeffs, Pure, weighted}
 use Rattle.whole.specs.Lists.{from, list_of, get_d_from}
 use Rattle.whole.specs.Signs.{zero_bits}
 use Rattle.reading.specs.Tests.{all}
 use Rattle.reading.specs.Transform.{basis}
 use Rattle.reading.proofs.Plain.{and_left, and_right}
 use Rattle.jpeg_transform.specs.declared.Four.{Four}
-use Rattle.jpeg_transform.specs.Halves.{even0, even1, even2, even3, even_of, odds0, odds1, odds2, odds3, odd_by, weighed, odd_of, sums, of_even, of_odd, outputs, halves, joined}
+use Rattle.jpeg_transform.specs.Halves.{even0, even1, even2, even3, even_of, odds0, odds1, odds2, odds3}
+use Rattle.jpeg_transform.specs.Halves.{odd_by, weighed, odd_of, sums, of_even, of_odd, outputs, halves, joined}
 use Rattle.jpeg_transform.specs.Passes.{spaced, lines}
 
 -- ---- bits of several numbers together
@@ -40,14 +42,6 @@ or_each a (b ∷ bs) e zero = (or_none a b (or_each (bit_or a b) bs e 0)).0
 or_each a (b ∷ bs) e (suc zero) = (or_none a b (or_each (bit_or a b) bs e 0)).1
 or_each a (b ∷ bs) e (suc (suc j)) = or_each (bit_or a b) bs e (suc j)
 
--- ---- numbers that are written out
-
-pub within_all : {B : ℕ} (l : List ℤ) → T (all (λ z. leb (nat_abs z) B) l) → Within B l
-within_all [] t = within_nil
-within_all {B} (z ∷ l) t =
-    within_cons z (leb→le (nat_abs z) B (and_left (leb (nat_abs z) B) (all (λ z. leb (nat_abs z) B) l) t))
-    (within_all l (and_right (leb (nat_abs z) B) (all (λ z. leb (nat_abs z) B) l) t))
-
 -- ---- one half
 
 -- the bound of each input: 2^40
@@ -63,7 +57,12 @@ module _ {l : List ℤ} (small : Within (2 ^ 40) l) where
 
   -- the four results of a half, as the machine has them
   pub four : (p q r s : Exp) → T (all_safe w64 L (p ∷ q ∷ r ∷ s ∷ []))
-      → ◌≡◌ {A = Four} (to_z w64 (machine_bits w64 (at l) p), to_z w64 (machine_bits w64 (at l) q), to_z w64 (machine_bits w64 (at l) r), to_z w64 (machine_bits w64 (at l) s))
+      → ◌≡◌ {A = Four} (
+        to_z w64 (machine_bits w64 (at l) p),
+        to_z w64 (machine_bits w64 (at l) q),
+        to_z w64 (machine_bits w64 (at l) r),
+        to_z w64 (machine_bits w64 (at l) s),
+      )
       (value (at l) p, value (at l) q, value (at l) r, value (at l) s)
   four p q r s t =
       let a = and_yes (safe w64 L p) (all_safe w64 L (q ∷ r ∷ s ∷ [])) t in
@@ -99,7 +98,8 @@ module _ (f : ℕ → ℤ) (small : (i : ℕ) → nat_abs (f i) ≤ 2 ^ 40) wher
   unfolding from
   rest_none e j h =
       zero_bits w64 (input_fits (suc j)).sfits
-      (ap (λ i. of_z w64 (f i)) (next j) ∙ sym (get_d_from (λ i. of_z w64 (f i)) 1 7 j 0 h) ∙ or_each (of_z w64 (f 1)) (from (λ i. of_z w64 (f i)) 2 6) e j)
+      (ap (λ i. of_z w64 (f i)) (next j) ∙ sym (get_d_from (λ i. of_z w64 (f i)) 1 7 j 0 h)
+      ∙ or_each (of_z w64 (f 1)) (from (λ i. of_z w64 (f i)) 2 6) e j)
     where
       next : (j : ℕ) → suc j ≡ 1 + j
       next j = omega arith
@@ -122,7 +122,9 @@ firsts : (f : ℕ → ℤ) → ((j : ℕ) → j < 7 → f (suc j) ≡ pos 0) →
 firsts f h k [] t = refl
 firsts f h k (r ∷ rs) t =
     ap₂ (λ (x : ℤ) (l : List ℤ). x ∷ l)
-    (ap (λ y. f 0 *ℤ k +ℤ y) (dot_none f h r 0 (subst (λ n. n ≤ 7) (sym (zero-add (length r))) (leb→le (length r) 7 (and_left (leb (length r) 7) (all (λ r. leb (length r) 7) rs) t)))) ∙ +ℤ_idr (f 0 *ℤ k))
+    (ap (λ y. f 0 *ℤ k +ℤ y) (dot_none f h r 0
+    (subst (λ n. n ≤ 7) (sym (zero-add (length r))) (leb→le (length r) 7 (and_left (leb (length r) 7) (all (λ r. leb (length r) 7) rs) t))))
+    ∙ +ℤ_idr (f 0 *ℤ k))
     (firsts f h k rs (and_right (leb (length r) 7) (all (λ r. leb (length r) 7) rs) t))
 
 pub lines_flat : (f : ℕ → ℤ) → ((j : ℕ) → j < 7 → f (suc j) ≡ pos 0) → lines f ≡ replicate 8 (f 0 *ℤ pos 11585)
@@ -134,7 +136,16 @@ lines_flat f h = firsts f h (pos 11585) (map (drop 1) basis) tt
 pub lines_cong : (f g : ℕ → ℤ) → ((j : ℕ) → j < 8 → f j ≡ g j) → lines f ≡ lines g
 unfolding lines basis
 lines_cong f g h =
-    rw (h 0 (omega arith), h 1 (omega arith), h 2 (omega arith), h 3 (omega arith), h 4 (omega arith), h 5 (omega arith), h 6 (omega arith), h 7 (omega arith))
+    rw (
+      h 0 (omega arith),
+      h 1 (omega arith),
+      h 2 (omega arith),
+      h 3 (omega arith),
+      h 4 (omega arith),
+      h 5 (omega arith),
+      h 6 (omega arith),
+      h 7 (omega arith),
+    )
     refl
 
 module _ (l : List ℤ) (i s : ℕ) {xs : List ℤ} (are : xs ≡ list_of 8 (spaced l i s)) where
@@ -145,7 +156,8 @@ module _ (l : List ℤ) (i s : ℕ) {xs : List ℤ} (are : xs ≡ list_of 8 (spa
       (within_cons _ (h.each _) (within_cons _ (h.each _) (within_cons _ (h.each _) (within_cons _ (h.each _) within_nil))))))))
 
   pub inputs_lines : lines (at xs) ≡ lines (spaced l i s)
-  inputs_lines = lines_cong (at xs) (spaced l i s) (λ j h. ap (λ ys. at ys j) are ∙ get_d_from (spaced l i s) 0 8 j (pos 0) h ∙ ap (spaced l i s) (zero-add j))
+  inputs_lines = lines_cong (at xs) (spaced l i s)
+      (λ j h. ap (λ ys. at ys j) are ∙ get_d_from (spaced l i s) 0 8 j (pos 0) h ∙ ap (spaced l i s) (zero-add j))
 
 -- a line whose lower inputs are 0: the upper ones as the machine reads them back, and zeros
 module _ (f : ℕ → ℤ) (small : (i : ℕ) → nat_abs (f i) ≤ 2 ^ 40) where
@@ -192,7 +204,8 @@ factored f = values f outputs ((tt, refl), ((tt, refl), ((tt, refl), ((tt, refl)
 abbrev pub H : ℕ → ℕ
 H i = 2 ^ 56
 
-machine : (l : List ℤ) → Within (2 ^ 56) l → (es : List Exp) → T (all_safe w64 H es) → map (λ e. to_z w64 (machine_bits w64 (at l) e)) es ≡ map (value (at l)) es
+machine : (l : List ℤ) → Within (2 ^ 56) l → (es : List Exp) → T (all_safe w64 H es)
+    → map (λ e. to_z w64 (machine_bits w64 (at l) e)) es ≡ map (value (at l)) es
 machine l small [] t = refl
 machine l small (e ∷ es) t =
     let u = and_yes (safe w64 H e) (all_safe w64 H es) t in
@@ -203,17 +216,13 @@ module _ (e o : Four) (small : Within (2 ^ 56) (halves e o)) where
   pub join_fits : (s : Exp) → T (safe w64 H s) → Fine w64 (at (halves e o)) s
   join_fits s t = fine w64 (at (halves e o)) H small.each s t
 
-  pub join_small : (s : Exp) → T (safe w64 H s) → T (leb (size H s) (2 ^ 57)) → nat_abs (to_z w64 (machine_bits w64 (at (halves e o)) s)) ≤ 2 ^ 57
-  join_small s t b =
-      rw (exact w64 (at (halves e o)) H small.each s t)
-      (le_trans (bounded w64 (at (halves e o)) H small.each s) (leb→le (size H s) (2 ^ 57) b))
-
   pub joins : map (λ s. to_z w64 (machine_bits w64 (at (halves e o)) s)) sums ≡ joined e o
   unfolding joined
   joins = machine (halves e o) small sums tt
 
 -- the halves of a line
-module _ (f : ℕ → ℤ) (small : (i : ℕ) → nat_abs (f i) ≤ 2 ^ 40) {e o : Four} (even : e ≡ even_of (f 0) (f 2) (f 4) (f 6)) (odd : o ≡ odd_of (f 1) (f 3) (f 5) (f 7)) where
+module _ (f : ℕ → ℤ) (small : (i : ℕ) → nat_abs (f i) ≤ 2 ^ 40) {e o : Four} (even : e ≡ even_of (f 0) (f 2) (f 4) (f 6))
+    (odd : o ≡ odd_of (f 1) (f 3) (f 5) (f 7)) where
   half : (z : ℤ) (p : Exp) → z ≡ value f p → T (leb (size L p) (2 ^ 56)) → {l : List ℤ} → Within (2 ^ 56) l → Within (2 ^ 56) (z ∷ l)
   half z p h t k = within_cons z (rw h (le_trans (bounded w64 f L small p) (leb→le (size L p) (2 ^ 56) t))) k
 

@@ -57,7 +57,8 @@ pub record RowsTo (c : List ℤ) (i : ℕ) (t : List ℤ) : Type 0 where
 -- the row at i, where i is a multiple of 8 and the row is as it was
 row_here : (c t : List ℤ) (i u : ℕ) → i % 8 ≡ 0 → ((j : ℕ) → i ≤ j → at t j ≡ at c j) → line (spaced t i 1) u ≡ row c (i / 8) u
 unfolding row
-row_here c t i u e h = line_cong (spaced t i 1) (λ w. at c (8 * (i / 8) + w)) u (λ w p. ap (at t) (place_is i 1 w) ∙ h (i + w * 1) (omega arith) ∙ ap (at c) (omega arith))
+row_here c t i u e h = line_cong (spaced t i 1) (λ w. at c (8 * (i / 8) + w)) u
+    (λ w p. ap (at t) (place_is i 1 w) ∙ h (i + w * 1) (omega arith) ∙ ap (at c) (omega arith))
 
 pub rows_next : {c t : List ℤ} {i : ℕ} → RowsTo c i t → i < 64 → RowsTo c (i + 8) (rowed t i)
 unfolding rowed
@@ -84,7 +85,8 @@ rows_next {c} {t} {i} d h = record {
         before u e r = omega arith
     done j q false b =
         ap (at (puts t p f 8)) (here ∙ sym (place_is i 1 (j - i)))
-        ∙ puts_same t p f 8 (j - i) (pos 0) less (rw (place_is i 1 (j - i), d.long) room) (λ v r e. own v (sym (place_is i 1 (j - i)) ∙ e ∙ place_is i 1 v))
+        ∙ puts_same t p f 8 (j - i) (pos 0) less (rw (place_is i 1 (j - i), d.long) room)
+        (λ v r e. own v (sym (place_is i 1 (j - i)) ∙ e ∙ place_is i 1 v))
         ∙ lines_at (spaced t i 1) (j - i) ∙ row_here c t i (j - i) d.even d.left ∙ ap₂ (row c) above beside
       where
         past : i ≤ j
@@ -150,7 +152,8 @@ columns_next {t} {steps} {x} d h = record {
         there u e = omega (arith, h)
     done j q r (yes e) =
         ap (at (puts steps p f 8)) (here ∙ sym (place_is x 8 (j / 8)))
-        ∙ puts_same steps p f 8 (j / 8) (pos 0) less (rw (place_is x 8 (j / 8), d.long) fits) (λ v s g. own v (sym (place_is x 8 (j / 8)) ∙ g ∙ place_is x 8 v))
+        ∙ puts_same steps p f 8 (j / 8) (pos 0) less (rw (place_is x 8 (j / 8), d.long) fits)
+        (λ v s g. own v (sym (place_is x 8 (j / 8)) ∙ g ∙ place_is x 8 v))
         ∙ ap in_steps (lines_at (spaced t x 8) (j / 8)
         ∙ line_cong (spaced t x 8) (λ v. at t (8 * v + j % 8)) (j / 8) (λ v s. ap (at t) (place_is x 8 v ∙ swap v)))
       where
@@ -199,7 +202,8 @@ byte_of_steps v = go (v +ℤ pos 137975824384)
         never : n / 1073741824 < 0 → ⊥
         never h = omega arith
 
-        tests : (a : Bool) → leb n 0 ≡ a → (b : Bool) → leb 273804165120 n ≡ b → (c : Bool) → ltb (n / 1073741824) 0 ≡ c → (d : Bool) → ltb 255 (n / 1073741824) ≡ d
+        tests : (a : Bool) → leb n 0 ≡ a → (b : Bool) → leb 273804165120 n ≡ b → (c : Bool) → ltb (n / 1073741824) 0 ≡ c → (d : Bool)
+            → ltb 255 (n / 1073741824) ≡ d
             → cond c 0 (cond d 255 (n / 1073741824)) ≡ cond a 0 (cond b 255 (n / 1073741824))
         tests a p b q true r d s = absurd (never (ltb-true (n / 1073741824) 0 r))
         tests true p b q false r true s = absurd (not_none (leb-true n 0 p) (ltb-true 255 (n / 1073741824) s))
@@ -213,7 +217,8 @@ byte_of_steps v = go (v +ℤ pos 137975824384)
 
 pub both : (c : List ℤ) → list_of 64 (λ k. to_byte (at (columns_of (rows_of c)) k)) ≡ samples c
 unfolding columns_of rows_of samples plane
-both c = list_of_cong 64 (λ k. to_byte (at (columns_of (rows_of c)) k)) (λ k. sample_of (plane c (k / 8) (k % 8))) (λ k h. ap to_byte (steps k h) ∙ byte_of_steps (plane c (k / 8) (k % 8)))
+both c = list_of_cong 64 (λ k. to_byte (at (columns_of (rows_of c)) k)) (λ k. sample_of (plane c (k / 8) (k % 8)))
+    (λ k h. ap to_byte (steps k h) ∙ byte_of_steps (plane c (k / 8) (k % 8)))
   where
     one : (k : ℕ) → k < 64 → line (λ v. at (rows_of c) (8 * v + k % 8)) (k / 8) ≡ plane c (k / 8) (k % 8)
     one k h =

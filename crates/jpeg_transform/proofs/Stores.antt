@@ -12,7 +12,7 @@ use lib.ListN.{length, get_or, set, take, drop, replicate, length-set, length-ap
 use lib.Seq.{get_or-set_same, get_or-set_other, ext_get_or, get_or-append-add, get_or-append_right, get_or-take, get_or-drop, length-take-le}
 use lib.IntN.{ℤ, pos}
 use Rattle.whole.specs.Expressions.{at}
-use Rattle.whole.specs.Lists.{from, list_of, length_from, get_d_from, stored}
+use Rattle.whole.specs.Lists.{from, list_of, length_from, get_d_from}
 use Rattle.reading.specs.Tests.{over}
 use Rattle.jpeg_transform.specs.Passes.{place, puts}
 
@@ -42,7 +42,8 @@ module _ {A : Type 0} (l : List A) (p : ℕ → ℕ) (f : ℕ → A) where
   puts_same (suc n) u d h q own = go (ℕ_discrete u n) (λ r. puts_same n u d r q (λ v s e. own v (omega arith) e))
     where
       go : Dec (u ≡ n) → (u < n → get_or (puts l p f n) (p u) d ≡ f u) → get_or (set (puts l p f n) (p n) (f n)) (p u) d ≡ f u
-      go (yes e) earlier = subst (λ v. get_or (set (puts l p f n) (p n) (f n)) (p v) d ≡ f v) (sym e) (get_or-set_same (puts l p f n) (p n) (f n) d (rw (length_puts n) (subst (λ v. p v < length l) e q)))
+      go (yes e) earlier = subst (λ v. get_or (set (puts l p f n) (p n) (f n)) (p v) d ≡ f v) (sym e)
+          (get_or-set_same (puts l p f n) (p n) (f n) d (rw (length_puts n) (subst (λ v. p v < length l) e q)))
       go (no ne) earlier = get_or-set_other (puts l p f n) (p n) (p u) (f n) d (λ e. ne (own n (omega arith) e)) ∙ earlier (omega arith)
 
 -- one store more
@@ -66,7 +67,8 @@ puts_part l xs i n same e room =
     long = simp (length-append, length-drop) (omega (arith, front))
 
     inner : (j : ℕ) → i ≤ j → get_or (take i l ++ (xs ++ drop n (drop i l))) j (pos 0) ≡ get_or (xs ++ drop n (drop i l)) (j - i) (pos 0)
-    inner j p = get_or-append_right (take i l) (xs ++ drop n (drop i l)) j (pos 0) (omega (arith, front)) ∙ ap (λ k. get_or (xs ++ drop n (drop i l)) (j - k) (pos 0)) front
+    inner j p = get_or-append_right (take i l) (xs ++ drop n (drop i l)) j (pos 0) (omega (arith, front))
+        ∙ ap (λ k. get_or (xs ++ drop n (drop i l)) (j - k) (pos 0)) front
 
     go : (j : ℕ) → Dec (j < i) → Dec (j < i + n)
         → get_or (take i l ++ (xs ++ drop n (drop i l))) j (pos 0) ≡ get_or (puts l (place i 1) (at xs) n) j (pos 0)
@@ -76,7 +78,8 @@ puts_part l xs i n same e room =
     go j (no p) (yes q) =
         let here : place i 1 (j - i) ≡ j = place_is i 1 (j - i) ∙ omega arith in
         inner j (omega arith) ∙ get_or-append xs (drop n (drop i l)) (pos 0) (j - i) (omega (arith, e))
-        ∙ sym (puts_same l (place i 1) (at xs) n (j - i) (pos 0) (omega arith) (rw here (omega arith)) (λ v h r. omega (arith, r, place_is i 1 (j - i), place_is i 1 v)))
+        ∙ sym (puts_same l (place i 1) (at xs) n (j - i) (pos 0) (omega arith) (rw here (omega arith))
+        (λ v h r. omega (arith, r, place_is i 1 (j - i), place_is i 1 v)))
         ∙ ap (λ k. get_or (puts l (place i 1) (at xs) n) k (pos 0)) here
     go j (no p) (no q) =
         inner j (omega arith) ∙ get_or-append_right xs (drop n (drop i l)) (j - i) (pos 0) (omega (arith, e))
@@ -108,7 +111,8 @@ over_is l old n f e h front back =
         same = omega arith
     each j false t =
         back j (ltb-false j n t) ∙ ap (λ m. get_or old m 0) (split j (ltb-false j n t)) ∙ sym (get_or-drop (length (list_of n f)) old (j - n) 0)
-        ∙ sym (get_or-append-add (list_of n f) (drop (length (list_of n f)) old) (j - n) 0) ∙ ap (λ m. get_or (over (list_of n f) old) m 0) (sym (split j (ltb-false j n t)))
+        ∙ sym (get_or-append-add (list_of n f) (drop (length (list_of n f)) old) (j - n) 0)
+        ∙ ap (λ m. get_or (over (list_of n f) old) m 0) (sym (split j (ltb-false j n t)))
       where
         split : (j : ℕ) → n ≤ j → j ≡ length (list_of n f) + (j - n)
         split j q = omega (arith, size, q)
@@ -127,19 +131,5 @@ pub record Front (f : ℕ → ℕ) (old : List ℕ) (k : ℕ) (out : List ℕ) :
   pub left : (j : ℕ) → 64 ≤ j → get_or out j 0 ≡ get_or old j 0
 
 module _ {f : ℕ → ℕ} {old : List ℕ} where
-  pub front_none : Front f old 0 old
-  front_none = record { inside = omega arith; long = refl; done = λ j h. absurd (omega arith); left = λ j h. refl }
-
-  pub front_next : {k b : ℕ} {out : List ℕ} → Front f old k out → k < 64 → 64 ≤ length old → b ≡ f k → Front f old (k + 1) (set out k b)
-  front_next {k} {b} {out} d h room e = record {
-    inside = omega arith;
-    long = length-set out k b ∙ d.long;
-    done = stored (λ j. j < k) (λ j. j < k + 1) (λ j a. a ≡ f j) out k b 0 (omega (arith, d.long)) (λ j p ne. omega arith) d.done e;
-    left = λ j p. get_or-set_other out k j b 0 (λ e. apart p e) ∙ d.left j p;
-  }
-    where
-      apart : {j : ℕ} → 64 ≤ j → j ≡ k → ⊥
-      apart p e = omega (arith, h)
-
   pub front_all : {k : ℕ} {out : List ℕ} → Front f old k out → 64 ≤ k → 64 ≤ length old → out ≡ over (list_of 64 f) old
   front_all {k} {out} d h room = over_is out old 64 f d.long room (λ j p. d.done j (omega (arith, h))) d.left

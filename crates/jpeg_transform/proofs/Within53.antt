@@ -47,7 +47,8 @@ module _ (f : ℕ → ℤ) (L : ℕ → ℕ) (small : (i : ℕ) → nat_abs (f i
   is_near (con z) t = leb→le (nat_abs z) (2 ^ 53) t
   is_near (op o a b) t =
       let u = and_right (leb (size L (op o a b)) (2 ^ 53)) (near L a and near L b) t in (
-        le_trans (bounded w64 f L small (op o a b)) (leb→le (size L (op o a b)) (2 ^ 53) (and_left (leb (size L (op o a b)) (2 ^ 53)) (near L a and near L b) t)),
+        le_trans (bounded w64 f L small (op o a b))
+            (leb→le (size L (op o a b)) (2 ^ 53) (and_left (leb (size L (op o a b)) (2 ^ 53)) (near L a and near L b) t)),
         is_near a (and_left (near L a) (near L b) u),
         is_near b (and_right (near L a) (near L b) u),
       )

@@ -75,8 +75,10 @@ of_odd o = o (var 1) (var 3) (var 5) (var 7)
 -- the eight outputs of a line
 abbrev pub outputs : List Exp
 outputs =
-    add (of_even even0) (of_odd (odd_by odds0)) ∷ add (of_even even1) (of_odd (odd_by odds1)) ∷ add (of_even even2) (of_odd (odd_by odds2)) ∷ add (of_even even3) (of_odd (odd_by odds3))
-    ∷ sub (of_even even3) (of_odd (odd_by odds3)) ∷ sub (of_even even2) (of_odd (odd_by odds2)) ∷ sub (of_even even1) (of_odd (odd_by odds1)) ∷ sub (of_even even0) (of_odd (odd_by odds0)) ∷ []
+    add (of_even even0) (of_odd (odd_by odds0)) ∷ add (of_even even1) (of_odd (odd_by odds1)) ∷ add (of_even even2) (of_odd (odd_by odds2))
+    ∷ add (of_even even3) (of_odd (odd_by odds3))
+    ∷ sub (of_even even3) (of_odd (odd_by odds3)) ∷ sub (of_even even2) (of_odd (odd_by odds2)) ∷ sub (of_even even1) (of_odd (odd_by odds1))
+    ∷ sub (of_even even0) (of_odd (odd_by odds0)) ∷ []
 
 -- ---- the values of the halves
 

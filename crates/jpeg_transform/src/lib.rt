@@ -28,7 +28,7 @@ const ZIGZAG: [u8; 64] = [
 #[derive(Clone, Copy)]
 struct Four(i64, i64, i64, i64);
 
-// The even half: inputs 0, 2, 4, 6 share their products.
+// The even half: inputs 0, 2, 4, 6 share their products. By `weighed`, as the odd half is, a decode took 1 to 2 hundredths more.
 fn even(c0: i64, c2: i64, c4: i64, c6: i64) -> Four
     requires { Within (2 ^ 40) (c0 ∷ c2 ∷ c4 ∷ c6 ∷ []) }
     ensures { result ≡ even_of c0 c2 c4 c6 }
@@ -91,7 +91,7 @@ fn dequantize(levels: &[i16; 64], quantizer: &[u8], places: usize, block: &mut [
     }
 }
 
-// The eight outputs of a line from its halves.
+// The eight outputs of a line from its halves. With halves that are arrays and `array::from_fn` a decode took 3 thousandths more.
 fn joined(e: Four, o: Four) -> [i64; 8]
     requires { Within (2 ^ 56) (halves e o) }
     ensures { result ≡ joined e o }
@@ -120,21 +120,11 @@ fn outputs(c: [i64; 8]) -> [i64; 8]
 }
 
 // The eight inputs of the line that stands s apart from place i on.
-#[tactic(auto, unfolding(whole::specs::Lists::from))]
 fn line(block: &[i64; 64], i: usize, s: usize) -> [i64; 8]
     requires { (i + 7 * s < 64) × (s ≤ 8) }
     ensures { result ≡ list_of 8 (spaced block.now i s) }
 {
-    [
-        block[i],
-        block[i + s],
-        block[i + 2 * s],
-        block[i + 3 * s],
-        block[i + 4 * s],
-        block[i + 5 * s],
-        block[i + 6 * s],
-        block[i + 7 * s],
-    ]
+    std::array::from_fn(|k| block[i + k * s])
 }
 
 // The row that starts at place i, each of its eight inputs replaced by the output at its place.
@@ -188,7 +178,8 @@ fn column(block: &[i64; 64], x: usize, steps: &mut [i32; 64])
 }
 
 // The second pass: the columns of what the first pass left, in steps of a sample. They are clamped by a loop of their own, which is
-// compiled to vector code.
+// compiled to vector code. One function for both passes would be told where to go on, which inputs to test, and what to store where: what
+// they share is `line` and `outputs`.
 fn columns(block: &[i64; 64], steps: &mut [i32; 64])
     requires { (Within (2 ^ 40) block.now) × (length steps.old ≡ 64) }
     ensures { steps.new ≡ columns_of block.now }

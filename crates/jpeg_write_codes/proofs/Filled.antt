@@ -7,9 +7,8 @@ use mathlib.Core.List.{List, [], ◌∷◌}
 use mathlib.Core.Option.{Option, none, some}
 use native.Mathlib.Omega.{arith}
 use native.Mathlib.Numerals.{add-one}
-use native.Mathlib.Nat.{not-suc-le-zero, pow-suc, mod-lt, zero-add, add-zero, sub-zero}
+use native.Mathlib.Nat.{not-suc-le-zero, pow-suc, zero-add, add-zero, sub-zero}
 use lib.Dec.{eqb, ltb}
-use lib.Pow.{pow_mono, pow_pos}
 use lib.ListN.{length, get_or, take, drop, set, replicate, length-set, length-replicate, get_or-replicate, drop_of_length-le, get_or-eq_default}
 use lib.Seq.{drop-cons, take-nil, set_out, get_or-set_same, get_or-set_other}
 use borrow.Author.Tests.{eq-eqb, ne_eqb, lt-ltb, le-ltb, ltb-true, ltb-false, eqb-true, eqb-false}
@@ -21,15 +20,6 @@ use Rattle.reading.specs.Tests.{place_of, place_from}
 use Rattle.reading.proofs.Unstuffed.{length_bits_of}
 use Rattle.jpeg_write_codes.specs.Words.{word_of, code_words, kept}
 use Rattle.jpeg_write_codes.proofs.Digits.{number_bits}
-
--- ---- no symbol has a word yet
-
--- a list of zeros says how many it has
-pub cleared_length : (l : List ℕ) (n : ℕ) → l ≡ replicate n 0 → length l ≡ n
-cleared_length l n e = ap length e ∙ length-replicate n 0
-
-pub cleared_own : (l : List ℕ) (n : ℕ) → l ≡ replicate n 0 → l ≡ replicate (length l) 0
-cleared_own l n e = e ∙ ap (λ (k : ℕ). replicate k 0) (sym (cleared_length l n e))
 
 -- ---- a word is kept
 
@@ -99,7 +89,10 @@ later_all t x = ap word_of (go (place_of t.symbols x))
   where
     go : (o : Option ℕ) → code_at_place t o ≡ behind_place 0 t.counts 0 0 o
     go none = refl
-    go (some i) = ap some (ap (code_at t.counts 0 0) (sym (sub-zero i)) ∙ sym (ap (λ b. cond b (bits_of 0 (0 + i)) (code_at t.counts 0 (0 + 0) (i - 0))) (le-ltb i 0 (omega arith))))
+    go (some i) =
+        ap some
+        (ap (code_at t.counts 0 0) (sym (sub-zero i))
+        ∙ sym (ap (λ b. cond b (bits_of 0 (0 + i)) (code_at t.counts 0 (0 + 0) (i - 0))) (le-ltb i 0 (omega arith))))
 
 -- the next length
 later_length : (c : ℕ) (cs : List ℕ) (len g : ℕ) (ys : List ℕ) (x : ℕ) → later 0 (c ∷ cs) len g ys x ≡ later c cs (suc len) (2 * g) ys x
@@ -120,7 +113,8 @@ unfolding map_suc
 place_next [] x i = refl
 place_next (y ∷ ys) x i = go (eqb x y) (place_next ys x (suc i))
   where
-    go : (b : Bool) → place_from ys x (suc (suc i)) ≡ map_suc (place_from ys x (suc i)) → cond b (some (suc i)) (place_from ys x (suc (suc i))) ≡ map_suc (cond b (some i) (place_from ys x (suc i)))
+    go : (b : Bool) → place_from ys x (suc (suc i)) ≡ map_suc (place_from ys x (suc i))
+        → cond b (some (suc i)) (place_from ys x (suc (suc i))) ≡ map_suc (cond b (some i) (place_from ys x (suc i)))
     go true e = refl
     go false e = e
 
@@ -157,12 +151,15 @@ module _ (c : ℕ) (cs : List ℕ) (len g y : ℕ) (ys : List ℕ) where
           past : g + suc c ≡ g + 1 + c
           past = omega arith
 
-          at : (b : Bool) → ltb i c ≡ b → cond (ltb (suc i) (suc c)) (bits_of len (g + suc i)) (code_at cs len (g + suc c) (suc i - suc c)) ≡ cond b (bits_of len (g + 1 + i)) (code_at cs len (g + 1 + c) (i - c))
+          at : (b : Bool) → ltb i c ≡ b
+              → cond (ltb (suc i) (suc c)) (bits_of len (g + suc i)) (code_at cs len (g + suc c) (suc i - suc c))
+              ≡ cond b (bits_of len (g + 1 + i)) (code_at cs len (g + 1 + c) (i - c))
           at true e = rw (lt-ltb (suc i) (suc c) (omega (arith, ltb-true i c e))) (ap (bits_of len) up)
           at false e = rw (le-ltb (suc i) (suc c) (omega (arith, ltb-false i c e))) (ap₂ (code_at cs len) past (omega arith))
 
 -- a word is kept: what a symbol has, or is to get, stays
-kept_step : (ws : List ℕ) (y w x r r' : ℕ) → x < length ws → (w ≡ 0 → ⊥) → (x ≡ y → r ≡ w) → ((x ≡ y → ⊥) → r ≡ r') → either (get_or ws x 0) r ≡ either (get_or (kept ws y w) x 0) r'
+kept_step : (ws : List ℕ) (y w x r r' : ℕ) → x < length ws → (w ≡ 0 → ⊥) → (x ≡ y → r ≡ w) → ((x ≡ y → ⊥) → r ≡ r')
+    → either (get_or ws x 0) r ≡ either (get_or (kept ws y w) x 0) r'
 unfolding either
 kept_step ws y w x r r' h full here other = go (eqb x y) refl (eqb (get_or ws y 0) 0) refl
   where
@@ -171,7 +168,11 @@ kept_step ws y w x r r' h full here other = go (eqb x y) refl (eqb (get_or ws y 
         let xy : x ≡ y = eqb-true x y p in
         let none : get_or ws y 0 ≡ 0 = eqb-true (get_or ws y 0) 0 q in
         ap (λ (v : ℕ). either v r) (ap (λ (k : ℕ). get_or ws k 0) xy ∙ none) ∙ here xy
-        ∙ sym (ap (λ (v : ℕ). either v r') (ap (λ (l : List ℕ). get_or l x 0) (sym (kept_new ws y w none)) ∙ ap (λ (k : ℕ). get_or (set ws y w) k 0) xy ∙ get_or-set_same ws y w 0 (subst (λ k. k < length ws) xy h)) ∙ either_is w r' full)
+        ∙ sym (ap (λ (v : ℕ). either v r')
+        (ap (λ (l : List ℕ). get_or l x 0) (sym (kept_new ws y w none))
+        ∙ ap (λ (k : ℕ). get_or (set ws y w) k 0) xy
+        ∙ get_or-set_same ws y w 0 (subst (λ k. k < length ws) xy h))
+        ∙ either_is w r' full)
     go true p false q =
         let xy : x ≡ y = eqb-true x y p in
         let old : get_or ws y 0 ≡ 0 → ⊥ = eqb-false (get_or ws y 0) 0 q in
@@ -179,7 +180,9 @@ kept_step ws y w x r r' h full here other = go (eqb x y) refl (eqb (get_or ws y 
         ∙ ap (λ (l : List ℕ). either (get_or l x 0) r') (kept_old ws y w old)
     go false p true q =
         ap (either (get_or ws x 0)) (other (eqb-false x y p))
-        ∙ ap (λ (v : ℕ). either v r') (sym (ap (λ (l : List ℕ). get_or l x 0) (sym (kept_new ws y w (eqb-true (get_or ws y 0) 0 q))) ∙ get_or-set_other ws y x w 0 (eqb-false x y p)))
+        ∙ ap (λ (v : ℕ). either v r')
+        (sym (ap (λ (l : List ℕ). get_or l x 0) (sym (kept_new ws y w (eqb-true (get_or ws y 0) 0 q)))
+        ∙ get_or-set_other ws y x w 0 (eqb-false x y p)))
     go false p false q =
         ap (either (get_or ws x 0)) (other (eqb-false x y p))
         ∙ ap (λ (l : List ℕ). either (get_or l x 0) r') (kept_old ws y w (eqb-false (get_or ws y 0) 0 q))
@@ -251,10 +254,13 @@ module _ (t : List ℕ) (base n : ℕ) (words : List ℕ) where
   unfolding rest
   filling_past ys len left code f e =
       filling_done ys len left code f
-      (λ x. ap (λ (zs : List ℕ). later left (counts_from t base len) len code zs x) (ap (take (left + sum (counts_from t base len))) (nil_from_length ys e) ∙ take-nil (left + sum (counts_from t base len))) ∙ later_none left (counts_from t base len) len code x)
+      (λ x. ap (λ (zs : List ℕ). later left (counts_from t base len) len code zs x)
+      (ap (take (left + sum (counts_from t base len))) (nil_from_length ys e) ∙ take-nil (left + sum (counts_from t base len)))
+      ∙ later_none left (counts_from t base len) len code x)
 
   -- the next length
-  pub filling_length : (ys : List ℕ) (len code len' count : ℕ) → Filling t base n words ys len 0 code → len' ≡ len + 1 → len' ≤ 16 → base + 16 ≤ length t → count ≡ get_or t (base + len) 0 → count < 256
+  pub filling_length : (ys : List ℕ) (len code len' count : ℕ) → Filling t base n words ys len 0 code
+      → len' ≡ len + 1 → len' ≤ 16 → base + 16 ≤ length t → count ≡ get_or t (base + len) 0 → count < 256
       → Filling t base n words ys len' count (2 * code)
   unfolding rest counts_from
   filling_length ys len code len' count f e l h g b =
@@ -280,12 +286,18 @@ module _ (t : List ℕ) (base n : ℕ) (words : List ℕ) where
       step : (x : ℕ) → rest t base ys len 0 code x ≡ rest t base ys (len + 1) (get_or t (base + len) 0) (2 * code) x
       step x =
           ap (λ (cs : List ℕ). later 0 cs len code (take (0 + sum cs) ys) x) cut
-          ∙ ap (λ (k : ℕ). later 0 (get_or t (base + len) 0 ∷ counts_from t base (len + 1)) len code (take k ys) x) (zero-add (get_or t (base + len) 0 + sum (counts_from t base (len + 1))))
-          ∙ later_length (get_or t (base + len) 0) (counts_from t base (len + 1)) len code (take (get_or t (base + len) 0 + sum (counts_from t base (len + 1))) ys) x
-          ∙ ap (λ (k : ℕ). later (get_or t (base + len) 0) (counts_from t base (len + 1)) k (2 * code) (take (get_or t (base + len) 0 + sum (counts_from t base (len + 1))) ys) x) (sym (add-one len))
+          ∙ ap (λ (k : ℕ). later 0 (get_or t (base + len) 0 ∷ counts_from t base (len + 1)) len code (take k ys) x)
+          (zero-add (get_or t (base + len) 0 + sum (counts_from t base (len + 1))))
+          ∙ later_length (get_or t (base + len) 0) (counts_from t base (len + 1)) len code
+          (take (get_or t (base + len) 0 + sum (counts_from t base (len + 1))) ys) x
+          ∙ ap (λ (k : ℕ).
+          later (get_or t (base + len) 0) (counts_from t base (len + 1)) k (2 * code)
+          (take (get_or t (base + len) 0 + sum (counts_from t base (len + 1))) ys) x)
+          (sym (add-one len))
 
   -- one symbol more
-  pub filling_symbol : (y : ℕ) (ys zs ws : List ℕ) (len left left' code w : ℕ) → Filling t base n words ys len left code → ys ≡ y ∷ zs → left ≡ suc left' → w ≡ code_word len code → ws ≡ kept words y w
+  pub filling_symbol : (y : ℕ) (ys zs ws : List ℕ) (len left left' code w : ℕ) → Filling t base n words ys len left code
+      → ys ≡ y ∷ zs → left ≡ suc left' → w ≡ code_word len code → ws ≡ kept words y w
       → Filling t base n ws zs len left' (code + 1)
   unfolding rest
   filling_symbol y ys zs ws len left left' code w f e h g k =
@@ -321,19 +333,6 @@ codes_cut t base n words e h =
     is_list_of 0 words n (λ x. word_of (code_of (table_at t base) x)) (ap length e ∙ length-replicate n 0)
     (λ x l. ap (λ (ws : List ℕ). get_or ws x 0) e ∙ get_or-replicate n x 0 0 l
     ∙ sym (ap (λ (ys : List ℕ). word_of (code_at_place (table_at t base) (place_of ys x))) (part_past (sum (take 16 (drop base t))) (base + 16) t (omega arith))))
-
--- ---- the numbers on the way stay small
-
-pub code_few : (len code : ℕ) → len ≤ 16 → code + 256 ≤ 256 * 2 ^ len → code < 16777216
-code_few len code h l =
-    let m : 2 ^ len ≤ 2 ^ 16 = pow_mono {j = 16} h in
-    omega arith
-
-pub word_few : (len code : ℕ) {q : ℕ} → len ≤ 16 → q ≡ 2 ^ len → 65536 * len + code % q < 1179648
-word_few len code {q} h e = rw e (omega (arith, m, mod-lt code (pow_pos len)))
-  where
-    m : 2 ^ len ≤ 2 ^ 16
-    m = pow_mono {j = 16} h
 
 pub word_is : (len code : ℕ) {q : ℕ} → q ≡ 2 ^ len → 65536 * len + code % q ≡ code_word len code
 unfolding code_word

@@ -1,11 +1,11 @@
 -- A sheet: how long it is, where a table has its words in it, and that one table more adds its words behind.
-use Prim.Native.Nat.{ℕ, zero, suc, ◌+◌, ◌*◌, ◌≤◌, ◌<◌}
+use Prim.Native.Nat.{ℕ, zero, suc, ◌+◌, ◌*◌, ◌<◌}
 use mathlib.Core.Path.{◌≡◌, refl, sym, ap, ap₂, ◌∙◌}
 use mathlib.Core.List.{List, [], ◌∷◌, ◌++◌, append_assoc, append-nil}
 use native.Mathlib.Nat.{not-suc-le-zero, le_of_suc-le-suc}
 use native.Mathlib.Omega.{arith}
 use lib.ListN.{length, get_or, take, drop, length-append, length-take, length-drop}
-use lib.Seq.{length-take-le, take_at, drop-append-add, take-append-add, take_all}
+use lib.Seq.{length-take-le, take_at, drop-append-add, take-append-add}
 use Rattle.whole.specs.Lists.{length_from}
 use Rattle.reading.specs.Huffman.{Table, table_at, code_of}
 use Rattle.jpeg_write_codes.specs.Words.{word_of, code_words}
@@ -65,7 +65,18 @@ module _ {t bases ws : List ℕ} {i : ℕ} (w : FilledTo t bases i ws) (l : i < 
 
   whole : length (take (256 * i) ws ++ (y ++ drop n (drop (256 * i) ws))) ≡ length ws
   whole =
-      omega (arith, length-append (take (256 * i) ws) (y ++ drop n (drop (256 * i) ws)), length-append y (drop n (drop (256 * i) ws)), before, length-drop n (drop (256 * i) ws), length-drop (256 * i) ws, w.size, l, long, k)
+      omega (
+        arith,
+        length-append (take (256 * i) ws) (y ++ drop n (drop (256 * i) ws)),
+        length-append y (drop n (drop (256 * i) ws)),
+        before,
+        length-drop n (drop (256 * i) ws),
+        length-drop (256 * i) ws,
+        w.size,
+        l,
+        long,
+        k,
+      )
 
   -- the next table's words are put behind them
   pub filled_next : FilledTo t bases (i + 1) (take (256 * i) ws ++ (y ++ drop n (drop (256 * i) ws)))
@@ -87,7 +98,3 @@ module _ {t bases ws : List ℕ} {i : ℕ} (w : FilledTo t bases i ws) (l : i < 
           ∙ ap₂ (λ (a b : List ℕ). a ++ b) w.first (take_at y rest 256 long ∙ there)
           ∙ sym (sheet_more t bases i l)
           ∙ ap (λ (j : ℕ). sheet t (take j bases)) next
-
--- with all of them the list is the sheet
-pub filled_all : {t bases ws : List ℕ} {i : ℕ} → FilledTo t bases i ws → length bases ≤ i → ws ≡ sheet t bases
-filled_all {t} {bases} {ws} {i} w l = sym (take_all (256 * i) ws (omega (arith, w.size))) ∙ w.first ∙ ap (sheet t) (take_all i bases l)

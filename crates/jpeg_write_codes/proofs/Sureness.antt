@@ -36,9 +36,13 @@ module _ (ws : List ℕ) where
           more (omega arith)
 
   -- what a test of each of the first n tables answers
-  pub coded_cases : (r : Bool) (n : ℕ) → MatchBool r (AllWithin Coded (range_with_len 0 n) 0 (length (range_with_len 0 n))) ((k : ℕ) × (k < length (range_with_len 0 n)) × HoldsAt (λ i. get_or ws (256 * i) 0 ≡ 0) (range_with_len 0 n) k)
+  pub coded_cases : (r : Bool) (n : ℕ)
+      → MatchBool r (AllWithin Coded (range_with_len 0 n) 0 (length (range_with_len 0 n)))
+      ((k : ℕ) × (k < length (range_with_len 0 n)) × HoldsAt (λ i. get_or ws (256 * i) 0 ≡ 0) (range_with_len 0 n) k)
       → r ≡ zeros_coded ws n
-  coded_cases true n h = coded_all n (λ i l. subst Coded (get_or-range_with_len 0 n i 0 l ∙ zero-add i) (h i 0 (omega arith) (omega (arith, length-range_with_len 0 n))))
+  coded_cases true n h =
+      coded_all n
+      (λ i l. subst Coded (get_or-range_with_len 0 n i 0 l ∙ zero-add i) (h i 0 (omega arith) (omega (arith, length-range_with_len 0 n))))
   coded_cases false n h =
       let l : h.0 < n = omega (arith, h.1, length-range_with_len 0 n) in
       coded_lacks n h.0 l (subst (λ (i : ℕ). get_or ws (256 * i) 0 ≡ 0) (get_or-range_with_len 0 n h.0 0 l ∙ zero-add h.0) (h.2 0))

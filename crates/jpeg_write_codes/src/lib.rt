@@ -41,7 +41,7 @@ fn fill(t: &[u8], base: usize, words: &mut [u32])
 }
 
 // For each symbol below the number of words its code in the table at `base` of t: 65536 times its length, and the code; 0 where the
-// table lists no such symbol.
+// table lists no such symbol. No code has length 0; an Option for each would take twice the memory, which is fixed.
 pub fn codes(t: &[u8], base: usize, words: &mut [u32])
     ensures { words.new ≡ code_words (table_at t.now base) (length words.old) }
 {
@@ -58,7 +58,7 @@ pub fn word_of(words: &[u32], x: usize) -> usize
     at_or(words, x, 0) as usize
 }
 
-// The words of eight tables, 256 for each.
+// The words of eight tables, 256 for each. They are one array: memory is fixed, and a symbol is looked up at its own place.
 pub fn sheet(t: &[u8], places: [usize; 8]) -> [u32; 2048]
     ensures { result ≡ sheet t.now places }
 {

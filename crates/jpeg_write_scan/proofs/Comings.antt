@@ -127,7 +127,8 @@ module _ {t : List ℕ} {n : Plan} {p : scan.Plan} (st : Stands t n p) (s : List
           ap (settling (λ ls. final_by ink out (written_on p q.done q.predictors ls)))
           (block_next st s m j N turn q e h i c u few refl (ap said g) ∙ ap (λ (o : List ℤ). before (o ∷ []) (ahead s p N (past q c z b))) (ap levels_of g))
           ∙ settling_before (λ ls. final_by ink out (written_on p q.done q.predictors ls)) l (ahead s p N (past q c z b))
-          ∙ settling_same (λ ls. final_by ink out (written_on p q.done q.predictors (l ∷ ls))) (λ ls. final_by r new (written p (q.done + 1) (set q.predictors c z) ls)) (ahead s p N (past q c z b)) block_on
+          ∙ settling_same (λ ls. final_by ink out (written_on p q.done q.predictors (l ∷ ls)))
+          (λ ls. final_by r new (written p (q.done + 1) (set q.predictors c z) ls)) (ahead s p N (past q c z b)) block_on
 
   -- ---- the restart before MCU m
 

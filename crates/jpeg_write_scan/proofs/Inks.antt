@@ -49,7 +49,13 @@ moves_not {due} code ink old e f = subst⁻¹ (λ (d : Bool). Moves (cut d code)
     on (Some p) rest = final_on code rest (page old p)
     on None rest = refl
 
-pub moves_mark : {due : Bool} (code : ℕ) {p q : Pen} (old : List ℕ) {new : List ℕ} {ink : Option Pen} → due ≡ true → ink ≡ Some p → Proper p → page new q ≡ restarted (page old p) code → Moves (cut due code) ink old (Some q) new
+pub moves_mark :
+    {due : Bool} (code : ℕ) {p q : Pen} (old : List ℕ) {new : List ℕ} {ink : Option Pen}
+    → due ≡ true
+    → ink ≡ Some p
+    → Proper p
+    → page new q ≡ restarted (page old p) code
+    → Moves (cut due code) ink old (Some q) new
 unfolding final_by
 moves_mark {due} code {p} {q} old {new} {ink} d e h g =
     subst⁻¹ (λ (i : Option Pen). Moves (cut due code) i old (Some q) new) e

@@ -16,7 +16,8 @@ use Rattle.reading.specs.declared.Record.{Record}
 use Rattle.reading.specs.Huffman.{table_at, code_of}
 use Rattle.reading.specs.Layout.{channel_of, restart_due, restart_code}
 use Rattle.reading.specs.Scan.{Plan, plan_of, no_predictors, whole, levels}
-use Rattle.reading.specs.Settled.{Written, Coder, ◌then◌, size, field_of, value_bits, first_bits, skips, level_bits, rest_bits, block_by, block_bits, packed, Coded, bytes_of, onto, cut, predictors, written, scan_bytes, settled_scan}
+use Rattle.reading.specs.Settled.{Written, Coder, ◌then◌, size, field_of, value_bits, first_bits, skips, level_bits, rest_bits, block_by, block_bits}
+use Rattle.reading.specs.Settled.{packed, Coded, bytes_of, onto, cut, predictors, written, scan_bytes, settled_scan}
 use Rattle.reading.specs.Tables.{dc_at, ac_at}
 use Rattle.reading.proofs.Unstuffed.{length_bits_of}
 use Rattle.reading.proofs.Counted.{Whole, blocks_counted, blocks_whole}

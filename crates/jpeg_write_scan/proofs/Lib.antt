@@ -15,5 +15,3 @@ pub mod ScanFollowed
 pub mod SettledAnswers
 pub mod SureScans
 pub mod Told
-pub mod Plainly
-pub mod Widely

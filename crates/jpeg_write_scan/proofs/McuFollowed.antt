@@ -1,12 +1,9 @@
 -- One MCU by an engine. Its cursor follows a cursor of the scan, and there all is as the rules have it (McuPassed).
-use Prim.Native.Nat.{ℕ, ◌+◌, ◌-◌, ◌<◌, ◌/◌, ◌%◌, ◌^◌, min}
-use mathlib.Core.Path.{◌≡◌, refl, sym, ◌∙◌, ap, ap₂, subst}
+use Prim.Native.Nat.{ℕ, ◌+◌, ◌<◌}
+use mathlib.Core.Path.{◌≡◌, refl, sym, ◌∙◌, ap, subst}
 use mathlib.Core.List.{List}
-use native.Mathlib.Omega.{arith}
 use lib.IntN.{ℤ, pos}
 use lib.ListN.{length, get_or, set}
-use mir.Syntax.{w64}
-use mir.Val.{Fits}
 use Rattle.std.specs.Prelude.{Option, Result, Ok, Err}
 use Rattle.reading.specs.declared.Bits.{Bits}
 use Rattle.reading.specs.declared.BlockRead.{BlockRead}
@@ -21,47 +18,20 @@ use Rattle.jpeg_scan_plan.specs.declared.Plan.{Plan}
 use Rattle.jpeg_scan_plan.specs.Plans.{chan}
 use Rattle.jpeg_scan_plan.specs.Marks.{restarted, broke_in}
 use Rattle.jpeg_scan_plan.proofs.Marks.{broke_first}
+use Rattle.jpeg_engine.proofs.Following.{led_on, led_off}
 use Rattle.jpeg_scan.proofs.Onward.{past}
 use Rattle.jpeg_write_bits.specs.declared.Pen.{Pen}
 use Rattle.jpeg_write_scan.specs.declared.Moved.{Moved}
 use Rattle.jpeg_write_scan.specs.Steps.{Quiet}
 use Rattle.jpeg_write_scan.specs.Pass.{blocks_at, Moves}
-use Rattle.jpeg_write_scan.specs.Engines.{Follows, Led, block_here, Alike, Worded, Passed}
+use Rattle.jpeg_engine.specs.Engines.{Follows, Led, block_here, Alike}
+use Rattle.jpeg_write_scan.specs.Engines.{Worded, Passed}
 use Rattle.jpeg_write_scan.proofs.Quiets.{quiet_levels}
 use Rattle.jpeg_write_scan.proofs.McuPassed as plain
 use Rattle.jpeg_write_scan.proofs.McuPassed.{block_in}
 
--- how many blocks an MCU has, as the code counts them
-pub count_is : {n n' : Plan} {a b : ℕ} (k : ℕ) → n' ≡ n → b ≡ n'.blocks - k → a ≡ min n'.per b → a ≡ blocks_at n k
-count_is k e f g = g ∙ ap₂ min (ap (λ (n : Plan). n.per) e) (f ∙ ap (λ (n : Plan). n.blocks - k) e)
-
-pub count_in : {n n' : Plan} {a b j : ℕ} (k : ℕ) → n' ≡ n → b ≡ n'.blocks - k → a ≡ min n'.per b → j < a → j < blocks_at n k
-count_in {j = j} k e f g = subst (λ (a : ℕ). j < a) (count_is k e f g)
-
--- the blocks of a plan can be counted
-pub countable : (n : Plan) (k : ℕ) {a b j d : ℕ} → d ≡ k + j → b ≡ n.blocks - k → a ≡ min n.per b → j < a → Fits w64 n.blocks → Fits w64 (d + 1)
-countable n k e f g h most = omega arith
-
--- the channel of block j, by the order as the blocks before it left it
-pub channel_is : (order j : ℕ) {o c : ℕ} → c ≡ o % 4 → o ≡ order / 4 ^ j → c ≡ chan order j
-channel_is order j e h = e ∙ ap (λ (o : ℕ). o % 4) h
-
 module _ {P : Type 0} (meets : Bits → P → Type 0) where
   -- ---- what an engine answers, by what the rules answer
-
-  -- a restart that led on
-  pub record LedOn (x : Result (ScanCursor Bits) Fault) (c : ScanCursor P) : Type 0 where
-    pub start : ScanCursor Bits
-    pub is : Ok start ≡ x
-    pub follows : Follows meets start c
-
-  pub led_on : (x : Result (ScanCursor Bits) Fault) {c : ScanCursor P} → Led meets x (Ok c) → LedOn x c
-  led_on (Ok q) f = record { start = q; is = refl; follows = f }
-  led_on (Err f) l = absurd l
-
-  pub led_off : (x : Result (ScanCursor Bits) Fault) {f : Fault} → Led {P = P} meets x (Err f) → Err f ≡ x
-  led_off (Ok q) l = absurd l
-  led_off (Err g) e = ap Err (sym e)
 
   -- a block that was read
   pub record Got (o : Read Bits (List ℤ)) (r : BlockRead P) (levels : List ℤ) : Type 0 where
@@ -89,7 +59,9 @@ module _ {P : Type 0} (meets : Bits → P → Type 0) where
   -- ---- the walk over the blocks
 
   -- before block j the cursor w follows `here`, where the rules stand; the restart led to a cursor that w₀ follows
-  pub record Walk (s : List ℕ) (n : Plan) (m : ℕ) (from : Moved Bits) (old : List ℕ) (w₀ : ScanCursor P) (pen : Option Pen) (mid new : List ℕ) (w : ScanCursor P) (ink : Option Pen) (j : ℕ) : Type 0 where
+  pub record Walk
+      (s : List ℕ) (n : Plan) (m : ℕ) (from : Moved Bits) (old : List ℕ) (w₀ : ScanCursor P) (pen : Option Pen) (mid new : List ℕ)
+      (w : ScanCursor P) (ink : Option Pen) (j : ℕ) : Type 0 where
     pub start : ScanCursor Bits
     pub here : ScanCursor Bits
     pub begun : Follows meets start w₀
@@ -110,7 +82,7 @@ module _ {P : Type 0} (meets : Bits → P → Type 0) where
       → Moves (cut (due_before i m) (restart_before i m)) from.ink old pen mid
       → Walk s n m from old w pen mid mid w pen 0
   begin {s} {n} {m} {from} {old} {r} {w} {pen} {mid} l a g e o =
-      let x = led_on (restarted s n.interval m from.cursor) (subst (Led meets (restarted s n.interval m from.cursor)) g a) in
+      let x = led_on meets (restarted s n.interval m from.cursor) (subst (Led meets (restarted s n.interval m from.cursor)) g a) in
       let put = subst (λ (i : ℕ). Moves (cut (due_before i m) (restart_before i m)) from.ink old pen mid) e o in
       record { start = x.start; here = x.start; begun = x.follows; follows = x.follows; walk = plain.begin l x.is put }
 
@@ -122,71 +94,73 @@ module _ {P : Type 0} (meets : Bits → P → Type 0) where
       → w ≡ says (broke_in from.cursor from.cursor f)
       → Passed {P = P} meets says s n m from old (Err w) old
   stopped says s n m from old {r} {f} a g e =
-      let off = led_off (restarted s n.interval m from.cursor) (subst (Led meets (restarted s n.interval m from.cursor)) g a) in
+      let off = led_off meets (restarted s n.interval m from.cursor) (subst (Led meets (restarted s n.interval m from.cursor)) g a) in
       record { told = Err (broke_at from.cursor f); went = plain.stopped s n m from old off; along = e ∙ ap says (broke_first from.cursor from.cursor f refl) }
 
-  module _ (says : Break → Break) {s : List ℕ} {n : Plan} {m : ℕ} {from : Moved Bits} {old : List ℕ} {w₀ : ScanCursor P} {pen : Option Pen} {mid new : List ℕ} {w : ScanCursor P} {ink : Option Pen} {j : ℕ}
-      (x : Walk s n m from old w₀ pen mid new w ink j) where
-    -- how many blocks were done
-    pub done_is : w.done ≡ w₀.done + j
-    done_is = x.follows.place ∙ x.walk.along.place ∙ ap (λ (k : ℕ). k + j) (sym x.begun.place)
+  module _
+      (says : Break → Break) {s : List ℕ} {n : Plan} {m : ℕ} {from : Moved Bits} {old : List ℕ} {w₀ : ScanCursor P} {pen : Option Pen}
+      {mid new : List ℕ} {w : ScanCursor P} {ink : Option Pen} {j : ℕ} (x : Walk s n m from old w₀ pen mid new w ink j)
+    where
+      -- how many blocks were done
+      pub done_is : w.done ≡ w₀.done + j
+      done_is = x.follows.place ∙ x.walk.along.place ∙ ap (λ (k : ℕ). k + j) (sym x.begun.place)
 
-    -- the last block is written
-    pub whole : j ≡ blocks_at n w₀.done → Passed meets says s n m from old (Ok (record { cursor = w; ink = ink })) new
-    whole h =
-        record {
-          told = Ok (record { cursor = x.here; ink = ink });
-          went = plain.whole x.walk (h ∙ ap (λ (d : ℕ). blocks_at n d) x.begun.place);
-          along = (x.follows, refl);
-        }
+      -- the last block is written
+      pub whole : j ≡ blocks_at n w₀.done → Passed meets says s n m from old (Ok (record { cursor = w; ink = ink })) new
+      whole h =
+          record {
+            told = Ok (record { cursor = x.here; ink = ink });
+            went = plain.whole x.walk (h ∙ ap (λ (d : ℕ). blocks_at n d) x.begun.place);
+            along = (x.follows, refl);
+          }
 
-    -- ---- block j
+      -- ---- block j
 
-    module _ (h : j < blocks_at n w₀.done) {c : ℕ} (u : c ≡ chan n.order j) where
-      inside : j < blocks_at n x.start.done
-      inside = subst (λ (d : ℕ). j < blocks_at n d) x.begun.place h
+      module _ (h : j < blocks_at n w₀.done) {c : ℕ} (u : c ≡ chan n.order j) where
+        inside : j < blocks_at n x.start.done
+        inside = subst (λ (d : ℕ). j < blocks_at n d) x.begun.place h
 
-      -- what was read there, behind the prediction as it is held
-      module _ {y : ℤ} (same : y ≡ get_or w.predictors c (pos 0)) where
-        behind : y ≡ get_or x.here.predictors c (pos 0)
-        behind = same ∙ ap (λ (ps : List ℤ). get_or ps c (pos 0)) x.follows.predicts
+        -- what was read there, behind the prediction as it is held
+        module _ {y : ℤ} (same : y ≡ get_or w.predictors c (pos 0)) where
+          behind : y ≡ get_or x.here.predictors c (pos 0)
+          behind = same ∙ ap (λ (ps : List ℤ). get_or ps c (pos 0)) x.follows.predicts
 
-        module _ {a : Result (BlockRead P) Fault} (levels : List ℤ) (t : Alike meets (block_here s n c y x.here.bits) a levels) where
-          there : {b : Result (BlockRead P) Fault} → a ≡ b → Alike meets (block_here s n c (get_or x.here.predictors c (pos 0)) x.here.bits) b levels
-          there {b} g =
-              subst (λ (z : ℤ). Alike meets (block_here s n c z x.here.bits) b levels) behind
-              (subst (λ (b : Result (BlockRead P) Fault). Alike meets (block_here s n c y x.here.bits) b levels) g t)
+          module _ {a : Result (BlockRead P) Fault} (levels : List ℤ) (t : Alike meets (block_here s n c y x.here.bits) a levels) where
+            there : {b : Result (BlockRead P) Fault} → a ≡ b → Alike meets (block_here s n c (get_or x.here.predictors c (pos 0)) x.here.bits) b levels
+            there {b} g =
+                subst (λ (z : ℤ). Alike meets (block_here s n c z x.here.bits) b levels) behind
+                (subst (λ (b : Result (BlockRead P) Fault). Alike meets (block_here s n c y x.here.bits) b levels) g t)
 
-          pub broken : {f : Fault} → a ≡ Err f → {v : Break} → v ≡ says (broke_in from.cursor x.here f) → Passed {P = P} meets says s n m from old (Err v) new
-          broken {f} g e =
-              record { told = Err (broke_in from.cursor x.here f); went = plain.broken x.walk inside u (no_block _ levels (there g)); along = e }
+            pub broken : {f : Fault} → a ≡ Err f → {v : Break} → v ≡ says (broke_in from.cursor x.here f) → Passed {P = P} meets says s n m from old (Err v) new
+            broken {f} g e =
+                record { told = Err (broke_in from.cursor x.here f); went = plain.broken x.walk inside u (no_block _ levels (there g)); along = e }
 
-          module _ {r : BlockRead P} (g : a ≡ Ok r) where
-            read : Got (block_here s n c (get_or x.here.predictors c (pos 0)) x.here.bits) r levels
-            read = got_block _ (there g)
+            module _ {r : BlockRead P} (g : a ≡ Ok r) where
+              read : Got (block_here s n c (get_or x.here.predictors c (pos 0)) x.here.bits) r levels
+              read = got_block _ (there g)
 
-            -- its levels are zero from the place on that it is said to reach
-            pub quiet : Quiet r.reach levels
-            quiet = read.quiet
+              -- its levels are zero from the place on that it is said to reach
+              pub quiet : Quiet r.reach levels
+              quiet = read.quiet
 
-            pub further :
-                {ws : List ℕ}
-                → Worded s n ws
-                → {first : ℤ}
-                → first ≡ r.first
-                → {o : Option Pen} {new' : List ℕ}
-                → length new' ≡ length new
-                → Moves (onto (block_in ws c y levels)) ink new o new'
-                → Walk s n m from old w₀ pen mid new' (record { bits = r.after; predictors = set w.predictors c first; done = w.done + 1 }) o (j + 1)
-            further {ws} filled {first} e {o} {new'} long put =
-                record {
-                  start = x.start;
-                  here = past x.here c (get_or levels 0 (pos 0)) read.behind;
-                  begun = x.begun;
-                  follows = record {
-                    met = read.met;
-                    predicts = ap (λ (ps : List ℤ). set ps c first) x.follows.predicts ∙ ap (set x.here.predictors c) (e ∙ sym read.first);
-                    place = ap (λ (d : ℕ). d + 1) x.follows.place;
-                  };
-                  walk = plain.further x.walk inside u read.is filled long (subst (λ (z : ℤ). Moves (onto (block_in ws c z levels)) ink new o new') behind put);
-                }
+              pub further :
+                  {ws : List ℕ}
+                  → Worded s n ws
+                  → {first : ℤ}
+                  → first ≡ r.first
+                  → {o : Option Pen} {new' : List ℕ}
+                  → length new' ≡ length new
+                  → Moves (onto (block_in ws c y levels)) ink new o new'
+                  → Walk s n m from old w₀ pen mid new' (record { bits = r.after; predictors = set w.predictors c first; done = w.done + 1 }) o (j + 1)
+              further {ws} filled {first} e {o} {new'} long put =
+                  record {
+                    start = x.start;
+                    here = past x.here c (get_or levels 0 (pos 0)) read.behind;
+                    begun = x.begun;
+                    follows = record {
+                      met = read.met;
+                      predicts = ap (λ (ps : List ℤ). set ps c first) x.follows.predicts ∙ ap (set x.here.predictors c) (e ∙ sym read.first);
+                      place = ap (λ (d : ℕ). d + 1) x.follows.place;
+                    };
+                    walk = plain.further x.walk inside u read.is filled long (subst (λ (z : ℤ). Moves (onto (block_in ws c z levels)) ink new o new') behind put);
+                  }

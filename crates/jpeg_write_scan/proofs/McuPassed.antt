@@ -29,7 +29,7 @@ use Rattle.jpeg_write_bits.specs.declared.Pen.{Pen}
 use Rattle.jpeg_write_codes.specs.Words.{coder_of}
 use Rattle.jpeg_write_codes.specs.Sheets.{sheet, words_in}
 use Rattle.jpeg_write_scan.specs.declared.Moved.{Moved}
-use Rattle.jpeg_write_scan.specs.Sheets.{bases_of}
+use Rattle.jpeg_huffman_table.specs.Looks.{paired}
 use Rattle.jpeg_write_scan.specs.Pass.{blocks_at, Fit, Moves, coming, resuming, Went}
 use Rattle.jpeg_write_scan.proofs.SheetFilled.{sheet_block}
 use Rattle.jpeg_write_scan.proofs.Comings.{coming_stop, coming_restart, resuming_none, coming_inside, resuming_stop, resuming_next}
@@ -45,7 +45,9 @@ stopped s n m from old u =
 
 -- before block j: `pen` and `mid` are the ink and the bytes behind the restart, which led from the cursor of `from` to `start`; q, `ink` and
 -- `new` are the cursor, the ink and the bytes now
-pub record Walk (s : List ℕ) (n : Plan) (m : ℕ) (from : Moved Bits) (old : List ℕ) (start : ScanCursor Bits) (pen : Option Pen) (mid new : List ℕ) (q : ScanCursor Bits) (ink : Option Pen) (j : ℕ) : Type 0 where
+pub record Walk
+    (s : List ℕ) (n : Plan) (m : ℕ) (from : Moved Bits) (old : List ℕ) (start : ScanCursor Bits) (pen : Option Pen) (mid new : List ℕ)
+    (q : ScanCursor Bits) (ink : Option Pen) (j : ℕ) : Type 0 where
   pub marked : length mid ≡ length old
   pub size : length new ≡ length mid
   pub led : Ok start ≡ restarted s n.interval m from.cursor
@@ -90,7 +92,12 @@ module _ {s : List ℕ} {n : Plan} {m : ℕ} {from : Moved Bits} {old : List ℕ
         each = λ p st e i. to_blocks p st e i ∙ all_in p st (leb n.per j) refl;
       }
     where
-      all_in : (p : scan.Plan) → Stands (head n s) n p → (t : Bool) → leb n.per j ≡ t → entered j (coming s p n.blocks q ink new) (resuming s p n.blocks from.cursor q ink new) ≡ coming s p n.blocks q ink new
+      all_in :
+          (p : scan.Plan)
+          → Stands (head n s) n p
+          → (t : Bool)
+          → leb n.per j ≡ t
+          → entered j (coming s p n.blocks q ink new) (resuming s p n.blocks from.cursor q ink new) ≡ coming s p n.blocks q ink new
       all_in p st true l = entered_later j _ _ (omega (arith, st.some, leb-true n.per j l))
       all_in p st false l =
           let out : n.blocks ≤ q.done = omega (arith, leb-false n.per j l, w.along.place) in
@@ -126,7 +133,7 @@ module _ {s : List ℕ} {n : Plan} {m : ℕ} {from : Moved Bits} {old : List ℕ
               ∙ ap broke (turn_names w.along from.cursor (sym same_done) f);
         }
 
-    pub further : {b : Bits} {l : List ℤ} → block_at (head n s) n s c q ≡ got l b → {ws : List ℕ} → ws ≡ sheet (head n s) (bases_of n)
+    pub further : {b : Bits} {l : List ℤ} → block_at (head n s) n s c q ≡ got l b → {ws : List ℕ} → ws ≡ sheet (head n s) (paired n.dcs n.acs)
         → {r : Option Pen} {new' : List ℕ} → length new' ≡ length new → Moves (onto (block_in ws c (get_or q.predictors c (pos 0)) l)) ink new r new'
         → Walk s n m from old start pen mid new' (past q c (get_or l 0 (pos 0)) b) r (j + 1)
     further {b} {l} g {ws} filled {r} {new'} long a =

@@ -27,7 +27,8 @@ use Rattle.jpeg_write_bits.specs.declared.Pen.{Pen}
 use Rattle.jpeg_write_bits.specs.Page.{Spot, fresh}
 use Rattle.jpeg_write_scan.specs.declared.Moved.{Moved}
 use Rattle.jpeg_write_scan.specs.Pass.{final_by, last_part, Closes, Went}
-use Rattle.jpeg_write_scan.specs.Engines.{Follows, Followed, Along, WentBy, told_by, RanBy}
+use Rattle.jpeg_engine.specs.Engines.{Follows}
+use Rattle.jpeg_write_scan.specs.Engines.{Followed, Along, WentBy, told_by, RanBy}
 use Rattle.jpeg_write_scan.proofs.ScanPassed as plain
 
 -- ---- how many MCUs there are
@@ -87,7 +88,12 @@ module _ {P : Type 0} (meets : Bits → P → Type 0) where
           record { told = r; ran = plain.ended_done x.walk h g long k; same = closes_told says (final_by at.ink new (some last_part)) k }
 
       pub ended_not : closes s x.here.bits ≡ false → {b : Break} → b ≡ says (broke_in x.here x.here Broken) → RanBy says s n old (Err (Broke b)) new
-      ended_not g e = record { told = Err (Broke (broke_at x.here Broken)); ran = plain.ended_not x.walk h g; same = ap (λ (w : Break). Err (Broke w)) (e ∙ ap says (broke_first x.here x.here Broken refl)) }
+      ended_not g e =
+          record {
+            told = Err (Broke (broke_at x.here Broken));
+            ran = plain.ended_not x.walk h g;
+            same = ap (λ (w : Break). Err (Broke w)) (e ∙ ap says (broke_first x.here x.here Broken refl));
+          }
 
     -- ---- one MCU more
 

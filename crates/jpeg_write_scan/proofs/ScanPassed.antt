@@ -59,7 +59,8 @@ module _ {s : List ℕ} {n : Plan} {old new : List ℕ} {at : Moved Bits} {m : �
           size = long ∙ w.size;
           each = λ p st.
               subst⁻¹ (λ (o : Scanned (Cursor Bits) (math.Option Spot)). Answers (closing s o) r new') (at_last p st)
-              (subst⁻¹ (λ (o : Read Bits (Unit {0})). Answers (here (file s) (cursor_of at.cursor) (onward o (λ _. give (final_by at.ink new (some last_part))))) r new') (end_there s at.cursor.bits e) a.told);
+              (subst⁻¹ (λ (o : Read Bits (Unit {0})). Answers (here (file s) (cursor_of at.cursor) (onward o (λ _. give (final_by at.ink new (some last_part))))) r new')
+              (end_there s at.cursor.bits e) a.told);
         }
 
     pub ended_not : closes s at.cursor.bits ≡ false → Ran s n old (Err (Broke (broke_at at.cursor Broken))) new
@@ -69,7 +70,8 @@ module _ {s : List ℕ} {n : Plan} {old new : List ℕ} {at : Moved Bits} {m : �
           size = w.size;
           each = λ p st.
               subst⁻¹ (λ (o : Scanned (Cursor Bits) (math.Option Spot)). Answers (closing s o) (Err (Broke (broke_at at.cursor Broken))) new) (at_last p st)
-              (subst⁻¹ (λ (o : Read Bits (Unit {0})). Answers (here (file s) (cursor_of at.cursor) (onward o (λ _. give (final_by at.ink new (some last_part))))) (Err (Broke (broke_at at.cursor Broken))) new)
+              (subst⁻¹ (λ (o : Read Bits (Unit {0})). Answers (here (file s) (cursor_of at.cursor) (onward o (λ _. give (final_by at.ink new (some last_part)))))
+              (Err (Broke (broke_at at.cursor Broken))) new)
               (end_not s at.cursor.bits e) refl);
         }
 

@@ -5,7 +5,8 @@ use mathlib.Core.Bool.{Bool, true, false}
 use mathlib.Core.List.{List, [], ◌++◌}
 use mathlib.Core.Option as math
 use mathlib.Core.Option.{none, some}
-use Rattle.std.specs.Prelude.{Some, Result, Ok, Err}
+use Rattle.std.specs.Prelude.{Option, Some, None, Result, Ok, Err}
+use Rattle.std.specs.Option.{ok_or}
 use native.Mathlib.Nat.{zero-add, suc-ne-zero}
 use native.Mathlib.Omega.{arith}
 use lib.IntN.{ℤ}
@@ -26,7 +27,8 @@ use Rattle.reading.specs.Code.Scans.{at_start, cursor_of, nowhere, scan_of, sett
 use Rattle.reading.specs.Settled.{written, settled_scan}
 use Rattle.jpeg_scan_plan.specs.declared.Plan.{Plan}
 use Rattle.jpeg_scan.specs.Steps.{ahead}
-use Rattle.jpeg_scan_plan.proofs.Standing.{Ready}
+use Rattle.jpeg_scan_plan.specs.Plans.{plan_for}
+use Rattle.jpeg_scan_plan.proofs.Standing.{Ready, unready}
 use Rattle.jpeg_scan.proofs.Ends.{scan_stop, scan_done, scan_open}
 use Rattle.jpeg_scan_plan.specs.Marks.{closes}
 use Rattle.jpeg_scan_plan.proofs.Marks.{end_there, end_not}
@@ -173,3 +175,9 @@ many_stays s r old h = sym (says_stop old (settled_many s r h)).1
 pub settled_unread : (s : List ℕ) (r : Record) → r.blocks < 2 ^ 32 → scan_of s r ≡ broke nowhere → settled_of s r ≡ broke nowhere
 unfolding settled_of
 settled_unread s r h e = rw (lt-ltb r.blocks (2 ^ 32) h) (ap (settled_read (scan.plan_of s r)) e)
+
+-- where a record has no plan
+pub settled_unplanned : (s : List ℕ) (r : Record) (o : Option Plan) {w v : Break} → r.blocks < 2 ^ 32 → o ≡ plan_for s r → v ≡ nowhere
+    → Err w ≡ ok_or o v → settled_of s r ≡ broke w
+settled_unplanned s r None {w} {v} h e n x = let same : w ≡ v = cc in settled_unread s r h (unready s r e) ∙ ap broke (sym (same ∙ n))
+settled_unplanned s r (Some p) h e n x = absurd cc

@@ -37,7 +37,7 @@ use Rattle.jpeg_scan_plan.specs.declared.Plan.{Plan}
 use Rattle.jpeg_scan_plan.proofs.Standing.{Readable, readable_says, Ready}
 use Rattle.jpeg_write_codes.specs.Words.{word_of, code_words}
 use Rattle.jpeg_write_codes.specs.Sheets.{sheet, words_in, zeros_coded, sure}
-use Rattle.jpeg_write_scan.specs.Sheets.{bases_of}
+use Rattle.jpeg_huffman_table.specs.Looks.{paired}
 use Rattle.jpeg_write_scan.specs.Pass.{foretold}
 use Rattle.jpeg_write_scan.proofs.SettledAnswers.{Passed, settled_is, stays_err, stays_short, writes_all}
 use Rattle.jpeg_write_scan.proofs.SheetFilled.{words_dc, words_ac}
@@ -49,7 +49,13 @@ unfolding zeros_coded
 coded_each ws zero e i h = absurd (not-suc-le-zero h)
 coded_each ws (suc n) e i h = go (eqb (get_or ws (256 * n) 0) 0) refl e (coded_each ws n)
   where
-    go : (t : Bool) → eqb (get_or ws (256 * n) 0) 0 ≡ t → cond t false (zeros_coded ws n) ≡ true → (zeros_coded ws n ≡ true → (i : ℕ) → i < n → get_or ws (256 * i) 0 ≡ 0 → ⊥) → get_or ws (256 * i) 0 ≡ 0 → ⊥
+    go :
+        (t : Bool)
+        → eqb (get_or ws (256 * n) 0) 0 ≡ t
+        → cond t false (zeros_coded ws n) ≡ true
+        → (zeros_coded ws n ≡ true → (i : ℕ) → i < n → get_or ws (256 * i) 0 ≡ 0 → ⊥)
+        → get_or ws (256 * i) 0 ≡ 0
+        → ⊥
     go true q f ih = λ z. suc-ne-zero 0 cc
     go false q f ih = here (ℕ_discrete i n)
       where
@@ -106,7 +112,7 @@ Roomy (whole none b) room = ⊥
 Roomy (whole (some t) b) room = length t ≤ room
 Roomy (broke w) room = Unit {0}
 
-module _ {s : List ℕ} {r : Record} {n : Plan} (u : Ready s r n) {ws : List ℕ} (w : ws ≡ sheet (take n.start s) (bases_of n)) where
+module _ {s : List ℕ} {r : Record} {n : Plan} (u : Ready s r n) {ws : List ℕ} (w : ws ≡ sheet (take n.start s) (paired n.dcs n.acs)) where
   has : Readable s r
   has = readable_says s r u.readable_is
 
@@ -202,7 +208,7 @@ module _ (old : List ℕ) (t : Bool) (o : Scanned Bits (math.Option (List ℕ)))
         go true (broke k) h q a = absurd (suc-ne-zero 0 cc)
 
 -- what was foretold to fit is written
-module _ {s : List ℕ} {r : Record} {n : Plan} (u : Ready s r n) {ws : List ℕ} (w : ws ≡ sheet (take n.start s) (bases_of n)) (few : r.blocks < 2 ^ 32) (ab : AllBytes s) (old : List ℕ) where
+module _ {s : List ℕ} {r : Record} {n : Plan} (u : Ready s r n) {ws : List ℕ} (w : ws ≡ sheet (take n.start s) (paired n.dcs n.acs)) (few : r.blocks < 2 ^ 32) (ab : AllBytes s) (old : List ℕ) where
   pub sure_written : {x : Result ℕ Unsettled} → x ≡ foretold (sure r ws (length s - n.start) (length old)) (length old) (settled_of s r) → {k : ℕ} → x ≡ Ok k → k ≤ length old
       → {y : Result ℕ Unsettled} {new : List ℕ} → Passed (settled_of s r) old y new → new ≡ laid_over (settled_of s r) old
   sure_written e g l a = told_fits old (sure r ws (length s - n.start) (length old)) (settled_of s r) e g l (sure_fits u w few ab (length old)) a

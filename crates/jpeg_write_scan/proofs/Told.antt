@@ -1,7 +1,7 @@
 -- What an engine answers of a scan: what the rules answer, but of a break what the engine says of breaks.
 use Prim.Native.Nat.{ℕ, ◌-◌, ◌≤◌, ◌<◌, ◌^◌}
 use mathlib.Core.Path.{◌≡◌, refl, sym, ap, ◌∙◌}
-use mathlib.Core.Bool.{Bool}
+use mathlib.Core.Bool.{Bool, true}
 use mathlib.Core.List.{List}
 use mathlib.Core.Option as math
 use mathlib.Core.Option.{none, some}
@@ -14,15 +14,18 @@ use Rattle.reading.specs.declared.Record.{Record}
 use Rattle.reading.specs.declared.Unsettled.{Unsettled}
 use Rattle.reading.specs.declared.Unsettled.TheVariants.{Lacking, Broke}
 use Rattle.reading.specs.Scan.{Scanned}
-use Rattle.reading.specs.Code.Scans.{settled_of, scan_settled, laid_over}
+use Rattle.reading.specs.Code.Answers.{scan_read}
+use Rattle.reading.specs.Code.Scans.{scan_of, settled_of, scan_settled, laid_over}
 use Rattle.reading.proofs.FileBytes.{AllBytes}
 use Rattle.jpeg_scan_plan.specs.declared.Plan.{Plan}
 use Rattle.jpeg_scan_plan.proofs.Standing.{Ready}
+use Rattle.jpeg_scan.specs.Steps.{said_by}
+use Rattle.jpeg_scan.proofs.ScanFollowed.{said_broken}
 use Rattle.jpeg_write_codes.specs.Sheets.{sure}
 use Rattle.jpeg_write_scan.specs.Pass.{foretold}
 use Rattle.jpeg_write_scan.specs.Engines.{Worded, told_by, RanBy, MeasuresBy}
 use Rattle.jpeg_write_scan.proofs.SettledAnswers.{Passed, passed_settled, measured_settled}
-use Rattle.jpeg_write_scan.proofs.SureScans.{told_err, told_short, sure_written}
+use Rattle.jpeg_write_scan.proofs.SureScans.{told_err, told_short, sure_written, read_stop}
 
 -- ---- an answer, told by an engine
 
@@ -65,6 +68,25 @@ module _ (says : Break → Break) where
         → MeasuresBy says s n x
         → told_by says x ≡ told_by says (scan_settled (settled_of s r))
     measured_by u few m = ap (told_by says) m.same ∙ told_twice m.told ∙ ap (told_by says) (measured_settled u few m.measured)
+
+    -- what reading tells of a scan that breaks
+    pub stop_by :
+        {s : List ℕ} {r : Record} {n : Plan}
+        → Ready s r n
+        → {ws : List ℕ}
+        → Worded s n ws
+        → r.blocks < 2 ^ 32
+        → (room : ℕ)
+        → {x : Result (Unit {0}) Break}
+        → x ≡ said_by says (scan_read (scan_of s r))
+        → {v : Break}
+        → x ≡ Err v
+        → told_by says (Err (Broke v)) ≡ told_by says (foretold true room (settled_of s r))
+    stop_by {s} {r} u w few room e g =
+        let k = said_broken says (scan_read (scan_of s r)) (sym g ∙ e) in
+        ap (λ (z : Break). Err (Broke (says z))) k.2
+        ∙ ap (λ (z : Break). Err (Broke z)) (once k.0)
+        ∙ ap (told_by says) (read_stop u w few room k.1 refl)
 
     -- ---- what follows for the answer and the buffer
 

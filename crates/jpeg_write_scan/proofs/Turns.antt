@@ -69,7 +69,13 @@ turn_fits l p k run full h low e = go (leb (length l) k) refl (leb 16 run) refl
         (record { few = omega arith; later = omega (arith, leb-true 16 run g); within = h; low = omega arith; less = omega (arith, leb-true 16 run g) })
     go false f false g =
         subst (Fits l k run) (turn_value l p k run (leb-false (length l) k f) {d = value_at l p k} (leb-false 16 run g) refl refl refl refl)
-        (record { few = category_few (nat_abs (value_at l p k)); later = omega arith; within = omega (arith, leb-false (length l) k f); low = omega arith; less = omega (arith, leb-false (length l) k f) })
+        (record {
+          few = category_few (nat_abs (value_at l p k));
+          later = omega arith;
+          within = omega (arith, leb-false (length l) k f);
+          low = omega arith;
+          less = omega (arith, leb-false (length l) k f);
+        })
 
 -- ---- zeros
 
@@ -236,8 +242,10 @@ module _ (dc ac : List ℕ) (p : ℤ) (l : List ℤ) (k run : ℕ) where
     at_level g =
         level_far run ∙ far_near (coder_of ac) (get_or l k (pos 0)) (rest_bits (coder_of ac) (drop (suc k) l) 0) run g
         ∙ value_code ac (16 * run + size (get_or l k (pos 0))) (get_or l k (pos 0)) (rest_bits (coder_of ac) (drop (suc k) l) 0)
-        ∙ ap (λ w. word_code w (field_of (size (get_or l k (pos 0))) (get_or l k (pos 0))) (size (get_or l k (pos 0))) then rest_bits (coder_of ac) (drop (suc k) l) 0) (word_later dc ac k (16 * run + size (get_or l k (pos 0))) apart)
-        ∙ ap (λ (r : Written). word_code (word_at dc ac k (16 * run + size (get_or l k (pos 0)))) (field_of (size (get_or l k (pos 0))) (get_or l k (pos 0))) (size (get_or l k (pos 0))) then r) (sym next)
+        ∙ ap (λ w. word_code w (field_of (size (get_or l k (pos 0))) (get_or l k (pos 0))) (size (get_or l k (pos 0))) then rest_bits (coder_of ac) (drop (suc k) l) 0)
+        (word_later dc ac k (16 * run + size (get_or l k (pos 0))) apart)
+        ∙ ap (λ (r : Written). word_code (word_at dc ac k (16 * run + size (get_or l k (pos 0)))) (field_of (size (get_or l k (pos 0))) (get_or l k (pos 0))) (size (get_or l k (pos 0))) then r)
+        (sym next)
       where
         next : onwards dc ac p l (k + 1) 0 ≡ rest_bits (coder_of ac) (drop (suc k) l) 0
         next = rest_of dc ac p l (k + 1) 0 (omega arith) ∙ ap (λ n. rest_bits (coder_of ac) (drop n l) 0) (add-one k)

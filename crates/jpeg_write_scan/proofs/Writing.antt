@@ -47,7 +47,12 @@ module _ {w : Written} {q : Page} {out : List ℕ} where
   puts_lack h e = subst (λ (r : Option Pen). Told w q r out) e h.told
 
 -- a symbol with a field of at most 12 bits, by a proper pen
-pub puts_symbol : (p : Pen) (x field n : ℕ) (old : List ℕ) {r : Option Pen} {new : List ℕ} → Proper p → n ≤ 12 → stroke r new ≡ stroke_of (symbol_bits p x field n) (page old p) → Puts (word_code x field n) (page old p) r new
+pub puts_symbol :
+    (p : Pen) (x field n : ℕ) (old : List ℕ) {r : Option Pen} {new : List ℕ}
+    → Proper p
+    → n ≤ 12
+    → stroke r new ≡ stroke_of (symbol_bits p x field n) (page old p)
+    → Puts (word_code x field n) (page old p) r new
 unfolding stroke_of
 puts_symbol p x field n old {r} {new} h l e =
     record { told = go (word_code x field n) refl (e ∙ ap (λ (w : Written). stroke_of w (page old p)) (symbol_is old p x field n h l)) }

@@ -1,6 +1,5 @@
 pub mod Puts
 pub mod Steps
 pub mod Join
-pub mod Sheets
 pub mod Pass
 pub mod Engines

@@ -1,5 +1,8 @@
 // A record's scan, read and written settled (the rules' 'The settled scan'): blocks, restarts and the end, and the pass over a whole
 // scan. A pen stores a byte where the lent buffer has room and counts it in any case, so that one path both measures and writes.
+// What is asked of a pen, of an ink, of levels and of words (`Proper`, `Fit`, `Quiet`, `Worded`) is one word of a clause each; a type for each
+// would have to be made and taken apart at every call, and would be no plainer. An engine and the words of its tables stand apart: tried, one
+// struct of both costs 1.3 hundredths of settle where an MCU has one block, and 0.5 where it has six.
 #![tactic(auto)]
 
 ghost use Rattle.std.specs.Prelude.{◌≡◌, ◌+◌, ◌*◌, ◌-◌, ◌≤◌, ◌<◌, ◌^◌, length, take};
@@ -16,13 +19,10 @@ ghost use Rattle.jpeg_write_codes.specs.Words.{coder_of};
 ghost use Rattle.jpeg_write_symbols.specs.Turns.{zeros_at};
 ghost use Rattle.jpeg_write_scan.specs.Steps.{Quiet, word_at};
 ghost use Rattle.jpeg_write_codes.specs.Sheets.{words_in, sure};
-ghost use Rattle.jpeg_write_scan.specs.Sheets.{bases_of};
 ghost use Rattle.jpeg_write_scan.specs.Pass.{final_by, Fit, Moves, last_part, Closes, foretold};
-ghost use Rattle.jpeg_write_scan.specs.Engines.{Follows, Followed, Worded, Serves, WentBy, RanBy, MeasuresBy, told_by};
+ghost use Rattle.jpeg_write_scan.specs.Engines.{Followed, Worded, Serves, WentBy, RanBy, MeasuresBy, told_by};
 
-mod engine;
-
-use engine::{Engine, Fast, Plain};
+use jpeg_engine::{Engine, Fast, Plain};
 use jpeg_scan_plan::Plan;
 use jpeg_write_bits::Pen;
 use reading::{Break, Fault, Record, ScanCursor, Unsettled};
@@ -48,7 +48,7 @@ fn zeros_to(levels: &[i16], place: usize, reach: usize) -> usize
 
 // A block of levels by the words of its two tables, behind the prediction; the levels from `reach` on
 // are zero. One turn for each level that is not zero, for each
-// 240 and for the end code. (No level at all lacks its code.)
+// 240 and for the end code. (No level at all lacks its code.) The loop goes on to a place that is read, so that no `for` counts it.
 fn put_block(
     out: &mut [u8],
     p: Pen,
@@ -61,7 +61,7 @@ fn put_block(
     requires { Proper p × Quiet reach levels.now }
     ensures { Puts (block_by (coder_of dc.now) (coder_of ac.now) pred levels.now) (page out.old p) result out.new }
 {
-    if levels.len() == 0 {
+    if levels.is_empty() {
         return None;
     }
     let mut pen = p;
@@ -145,7 +145,7 @@ fn mcu<E: Engine>(
     before: Moved<E::Place>,
     out: &mut [u8],
 ) -> Result<Moved<E::Place>, Break>
-    requires { E.ready engine.now × Worded (E.file engine.now) (E.plan_of engine.now) words.now × Fit before.ink × Followed (E.meets engine.now) before.cursor }
+    requires { Worded (E.file engine.now) (E.plan_of engine.now) words.now × Fit before.ink × Followed (E.meets engine.now) before.cursor }
     ensures { WentBy (E.meets engine.now) E.says (E.file engine.now) (E.plan_of engine.now) m before out.old result out.new }
 {
     let plan = engine.plan();
@@ -173,7 +173,7 @@ fn mcu<E: Engine>(
 // A pass over a whole scan: it is read to its end or to a fault, and written from the start of the buffer on until a code is
 // wanting.
 fn run<E: Engine>(engine: &E, words: &[u32], out: &mut [u8]) -> Result<usize, Unsettled>
-    requires { E.ready engine.now × (0 < (E.plan_of engine.now).per) × Worded (E.file engine.now) (E.plan_of engine.now) words.now }
+    requires { Worded (E.file engine.now) (E.plan_of engine.now) words.now }
     ensures { RanBy E.says (E.file engine.now) (E.plan_of engine.now) out.old result out.new }
 {
     let plan = engine.plan();
@@ -193,10 +193,10 @@ fn run<E: Engine>(engine: &E, words: &[u32], out: &mut [u8]) -> Result<usize, Un
 
 // A pass that keeps nothing: what a scan comes to.
 fn measure<E: Engine>(engine: &E, words: &[u32]) -> Result<usize, Unsettled>
-    requires { E.ready engine.now × (0 < (E.plan_of engine.now).per) × Worded (E.file engine.now) (E.plan_of engine.now) words.now }
+    requires { Worded (E.file engine.now) (E.plan_of engine.now) words.now }
     ensures { MeasuresBy E.says (E.file engine.now) (E.plan_of engine.now) result }
 {
-    run(engine, words, &mut [0u8; 1])
+    run(engine, words, &mut [])
 }
 
 // What is known of a scan before it is written. Measuring it takes longer than reading it, so it is measured only where reading
@@ -207,13 +207,13 @@ fn foretell<E: Engine>(
     words: &[u32],
     room: usize,
 ) -> Result<usize, Unsettled>
-    requires { E.ready engine.now × Serves (E.file engine.now) found (E.plan_of engine.now) × Worded (E.file engine.now) (E.plan_of engine.now) words.now }
+    requires { Serves (E.file engine.now) found (E.plan_of engine.now) × Worded (E.file engine.now) (E.plan_of engine.now) words.now }
     ensures { told_by E.says result ≡ told_by E.says (foretold (sure found words.now (length (E.file engine.now) - (E.plan_of engine.now).start) room) room (settled_of (E.file engine.now) found)) }
 {
     if !jpeg_write_codes::sure(found, words, engine.coded(), room) {
         return measure(engine, words);
     }
-    engine.validate(found)?;
+    jpeg_scan::validate_by(*engine)?;
     Ok(room)
 }
 
@@ -225,7 +225,7 @@ fn settle<E: Engine>(
     words: &[u32],
     out: &mut [u8],
 ) -> Result<usize, Unsettled>
-    requires { E.ready engine.now × Serves (E.file engine.now) found (E.plan_of engine.now) × Worded (E.file engine.now) (E.plan_of engine.now) words.now × AllBytes (E.file engine.now) }
+    requires { Serves (E.file engine.now) found (E.plan_of engine.now) × Worded (E.file engine.now) (E.plan_of engine.now) words.now × AllBytes (E.file engine.now) }
     ensures { (told_by E.says result ≡ told_by E.says (scan_settled (settled_of (E.file engine.now) found))) × (out.new ≡ laid_over (settled_of (E.file engine.now) found) out.old) }
 {
     let n = foretell(engine, found, words, out.len())?;
@@ -235,31 +235,20 @@ fn settle<E: Engine>(
     run(engine, words, out)
 }
 
-// Where the eight tables stand: of each channel that of the first level and that of the later ones.
-fn bases(plan: Plan) -> [usize; 8]
-    ensures { result ≡ bases_of plan }
-{
-    let dcs = plan.dcs;
-    let acs = plan.acs;
-    [
-        dcs[0], acs[0], dcs[1], acs[1], dcs[2], acs[2], dcs[3], acs[3],
-    ]
-}
+// With so many blocks or more, which no header gives, a record's scan is Broken: so no count of its bytes wraps.
+const TOO_MANY: usize = 1 << 32;
 
-// The scan of a record, read and written settled. A record with 2^32 blocks or more, or with numbers by which no scan can be read, is
-// Broken.
+// The scan of a record, read and written settled. A record with too many blocks, or with numbers by which no scan can be read, is Broken.
 #[tactic(auto, using(crate::proofs::SettledAnswers::many_says, crate::proofs::SettledAnswers::many_stays))]
 pub fn settled(s: &[u8], found: Record, out: &mut [u8]) -> Result<usize, Unsettled>
     ensures { (result ≡ scan_settled (settled_of s.now found)) × (out.new ≡ laid_over (settled_of s.now found) out.old) }
 {
-    if 4294967296 <= found.blocks {
+    if TOO_MANY <= found.blocks {
         return Err(Unsettled::Broke(Break::nowhere()));
     }
-    let plan = Plan::of(s, found);
-    if plan.per == 0 {
-        return Err(Unsettled::Broke(Break::nowhere()));
-    }
-    let words = jpeg_write_codes::sheet(&s[..plan.start], bases(plan));
+    let plan = Plan::of(s, found).ok_or(Break::nowhere())?;
+    let bases = jpeg_huffman_table::paired(plan.dcs, plan.acs);
+    let words = jpeg_write_codes::sheet(&s[..plan.start], bases);
     settle(&Plain { s, plan }, found, &words, out)
 }
 
@@ -268,11 +257,14 @@ pub fn settled(s: &[u8], found: Record, out: &mut [u8]) -> Result<usize, Unsettl
 pub fn settled_wide(s: &[u8], found: Record, out: &mut [u8]) -> Result<usize, Unsettled>
     ensures { (result ≡ scan_settled (settled_of s.now found)) × (out.new ≡ laid_over (settled_of s.now found) out.old) }
 {
-    let plan = Plan::of(s, found);
-    if plan.per == 0 || !(100..4294967296).contains(&found.blocks) {
+    let Some(plan) = Plan::of(s, found) else {
+        return settled(s, found, out);
+    };
+    if !(jpeg_engine::LEAST..TOO_MANY).contains(&found.blocks) {
         return settled(s, found, out);
     }
-    let words = jpeg_write_codes::sheet(&s[..plan.start], bases(plan));
+    let bases = jpeg_huffman_table::paired(plan.dcs, plan.acs);
+    let words = jpeg_write_codes::sheet(&s[..plan.start], bases);
     let look = &jpeg_huffman_table::looks(&s[..plan.start], plan.dcs, plan.acs);
     match settle(&Fast { s, plan, look }, found, &words, out) {
         Err(Unsettled::Broke(_)) => settled(s, found, out),

@@ -1,5 +1,5 @@
 -- Records that `same` takes for equal are equal, and it takes equal ones for equal.
-use mathlib.Core.Path.{◌≡◌, refl, sym, subst, subst⁻¹}
+use mathlib.Core.Path.{◌≡◌, refl}
 use mathlib.Core.Bool.{Bool, true, false}
 use mathlib.Core.List.{List, [], ◌∷◌}
 use Prim.Native.Nat.{ℕ}
@@ -18,20 +18,6 @@ lists_equal [] (y ∷ b) t = absurd t
 lists_equal (x ∷ a) [] t = absurd t
 lists_equal (x ∷ a) (y ∷ b) t = rw (eqb→eq x y (and_left (eqb x y) (eq_list a b) t), lists_equal a b (and_right (eqb x y) (eq_list a b) t)) refl
 
-pub lists_apart : (a b : List ℕ) → (a ≡ b → ⊥) → false ≡ eq_list a b
-lists_apart a b n = go (eq_list a b) refl
-  where
-    go : (t : Bool) → eq_list a b ≡ t → false ≡ t
-    go true e = absurd (n (lists_equal a b (subst⁻¹ T e tt)))
-    go false e = refl
-
-itself : (a : List ℕ) → true ≡ eq_list a a
-itself [] = refl
-itself (x ∷ a) = rw (eq-eqb x x refl) (itself a)
-
-pub lists_alike : (a b : List ℕ) → a ≡ b → true ≡ eq_list a b
-lists_alike a b e = subst (λ l. true ≡ eq_list a l) e (itself a)
-
 pub flags_equal : (a b : Bool) → T (eq_bool a b) → a ≡ b
 flags_equal true true t = refl
 flags_equal true false t = absurd t
@@ -42,7 +28,8 @@ self : (n : ℕ) → eqb n n ≡ true
 self n = eq-eqb n n refl
 
 lself : (l : List ℕ) → eq_list l l ≡ true
-lself l = sym (itself l)
+lself [] = refl
+lself (x ∷ l) = rw (self x) (lself l)
 
 bself : (b : Bool) → eq_bool b b ≡ true
 bself true = refl

@@ -3,11 +3,11 @@ use Prim.Native.Nat.{ℕ, ◌+◌, ◌/◌, ◌%◌, ◌≤◌}
 use mathlib.Core.Path.{◌≡◌, subst⁻¹}
 use mathlib.Core.Bool.{Bool, true}
 use mathlib.Core.List.{List}
-use lib.Dec.{T, leb, eqb, leb→le, eqb→eq}
+use lib.Dec.{T, leb, leb→le}
 use lib.ListN.{length}
 use Rattle.reading.specs.Tests.{within, apart, all}
 use Rattle.reading.specs.Huffman.{sum, codes_fit}
-use Rattle.reading.specs.Header.{byte, quantizer_fits, counts_of, symbols_of, listable, table_fits, scan_known}
+use Rattle.reading.specs.Header.{byte, quantizer_fits, counts_of, symbols_of, listable, table_fits}
 use Rattle.reading.proofs.Plain.{and_left, and_right}
 pub use Rattle.whole.specs.Tests.{all_at}
 
@@ -49,6 +49,3 @@ module _ (b : List ℕ) where
         alone = and_left (apart (symbols_of b)) _ z;
         taken = and_right (apart (symbols_of b)) _ z;
       }
-
-  pub scan_few : (ch : ℕ) → T (scan_known b ch) → byte b 0 ≡ ch
-  scan_few ch t = eqb→eq (byte b 0) ch (and_left (eqb (byte b 0) ch) _ t)

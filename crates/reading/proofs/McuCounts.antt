@@ -1,29 +1,16 @@
 -- Laws of the MCUs of a side: for a frame's numbers they are the rules' own.
-use mathlib.Core.Path.{◌≡◌, refl, sym, ◌∙◌, subst⁻¹}
-use mathlib.Core.Bool.{Bool, true, false, not}
+use mathlib.Core.Path.{◌≡◌, refl, sym, ◌∙◌}
+use mathlib.Core.Bool.{true, false}
 use Prim.Native.Nat.{ℕ, zero, suc, ◌*◌, ◌<◌, ◌≤◌}
-use borrow.Author.Tests.{le-leb, lt-leb, not-true, not-false}
-use lib.Dec.{T}
+use borrow.Author.Tests.{le-leb, lt-leb}
 use native.Mathlib.Omega.{arith}
 use native.Mathlib.Nat.{not-suc-le-zero}
 use Rattle.std.specs.Int.{div_ceil}
 use Rattle.reading.specs.Tests.{within}
 use Rattle.reading.specs.Layout.{ceiling}
 use Rattle.reading.specs.Code.Mcus.{mcus_of}
-use Rattle.reading.proofs.Fits.{within_known}
 
--- ---- a test that was made
-
--- t is what `within` answered
-module _ (least most n : ℕ) {t : Bool} (e : t ≡ within least most n) where
-  pub within_is : not t ≡ false → within least most n ≡ true
-  within_is p = sym e ∙ not-false t p
-
-  pub within_not : not t ≡ true → within least most n ≡ false
-  within_not p = sym e ∙ not-true t p
-
-  pub within_both : not t ≡ false → (least ≤ n) × (n ≤ most)
-  within_both p = within_known least most n (subst⁻¹ T (within_is p) tt)
+-- ---- a test that passes
 
 pub between : (least most n : ℕ) → least ≤ n → n ≤ most → within least most n ≡ true
 between least most n a b = rw (le-leb least n a, le-leb n most b) refl

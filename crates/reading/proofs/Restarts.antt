@@ -1,19 +1,19 @@
--- Padding, a byte at a place, what is read before a block, and the restart before an MCU: one law for each way through their tests.
+-- Padding, a byte at a place, and what is read before a block: one law for each way through their tests.
 use mathlib.Core.List.{List}
-use mathlib.Core.Path.{◌≡◌, refl, sym, ap}
+use mathlib.Core.Path.{◌≡◌, refl, sym}
 use mathlib.Core.Bool.{Bool, true, false, cond}
-use Prim.Native.Nat.{ℕ, ◌+◌, ◌-◌, ◌/◌, ◌%◌, ◌^◌, ◌<◌, ◌≤◌}
-use native.Mathlib.Nat.{mod-eq_of_lt, div-eq_of_lt, div-zero, le-div_iff_mul-le}
+use Prim.Native.Nat.{ℕ, ◌-◌, ◌%◌, ◌^◌, ◌<◌, ◌≤◌}
+use native.Mathlib.Nat.{mod-eq_of_lt}
 use native.Mathlib.Omega.{arith}
 use lib.Pow.{pow_mono}
 use lib.Dec.{eqb}
 use lib.ListN.{length, get_or}
 use lib.IntN.{ℤ}
-use borrow.Author.Tests.{lt-ltb, le-ltb, ne_eqb}
+use borrow.Author.Tests.{ne_eqb}
 use Rattle.reading.specs.Tests.{◌and◌, is_at}
 use Rattle.reading.specs.Bits.{Source, padded}
 use Rattle.reading.specs.Reader.{◌>>◌, give}
-use Rattle.reading.specs.Layout.{mcu_of, opens_mcu, due_before, restart_before, restart_due, restart_code}
+use Rattle.reading.specs.Layout.{mcu_of, opens_mcu, due_before, restart_due, restart_code}
 use Rattle.reading.specs.Scan.{Plan, no_predictors, restart, ahead}
 use Rattle.reading.proofs.FileBytes.{element_in, element_out}
 
@@ -25,9 +25,6 @@ padded_over byte left h i =
     let p : 2 ^ 9 ≤ 2 ^ left = pow_mono {i = 9} h in
     let z : byte % 2 ^ left ≡ byte = mod-eq_of_lt (omega arith) in
     sym (ne_eqb _ _ (λ (e : byte % 2 ^ left ≡ 2 ^ left - 1). let y : ⊥ = omega arith in y))
-
-pub padded_is : (byte left p : ℕ) → p ≡ 2 ^ left → eqb (byte % p) (p - 1) ≡ padded (record { at = 0; byte = byte; left = left })
-padded_is byte left p e = rw e
 
 -- ---- a byte at a place
 
@@ -51,25 +48,3 @@ ahead_is src p k ps = go (opens_mcu p.shape k)
         ≡ cond (b and due_before p.interval (mcu_of p.shape k)) (src.marker (restart_code p.shape p.interval k) >> give no_predictors) (give ps)
     go true = refl
     go false = refl
-
--- ---- the restart before MCU m
-
-module _ (interval m : ℕ) where
-  pub due_first : m ≡ 0 → false ≡ due_before interval m
-  due_first e = rw (le-ltb 0 m (omega arith))
-
-  module _ (h : m ≡ 0 → ⊥) where
-    pub due_none : interval ≡ 0 → false ≡ due_before interval m
-    due_none e = rw (lt-ltb 0 m (omega arith), le-ltb 0 interval (omega arith))
-
-    pub due_is : (interval ≡ 0 → ⊥) → eqb (m % interval) 0 ≡ due_before interval m
-    due_is i = rw (lt-ltb 0 m (omega arith), lt-ltb 0 interval (omega arith))
-
-  pub code_early : m < interval → 208 ≡ restart_before interval m
-  code_early h = ap (λ (k : ℕ). 208 + (k - 1) % 8) (sym (div-eq_of_lt h))
-
-  pub code_none : interval ≡ 0 → 208 ≡ restart_before interval m
-  code_none e = rw (e, div-zero)
-
-  pub code_some : interval ≤ m → (interval ≡ 0 → ⊥) → 1 ≤ m / interval
-  code_some h i = (le-div_iff_mul-le {k = interval} {x = 1} {y = m} (omega arith)).1 (omega arith)

@@ -9,12 +9,14 @@ use native.Mathlib.Nat.{mod-lt, not-suc-le-zero, mul-le-mul}
 use lib.Dec.{T, leb, ltb, eqb, leb→le}
 use lib.ListN.{length, get_or, take}
 use borrow.Author.Tests.{le-leb, lt-leb, lt-ltb, ltb-false}
+use Rattle.std.specs.Prelude.{Some, None}
 use Rattle.reading.specs.declared.Frame.{Frame}
+use Rattle.reading.specs.declared.Mcu.{Mcu}
 use Rattle.reading.specs.Tests.{◌and◌, within, apart, all_from}
 use Rattle.reading.specs.Layout.{Factors, Shape, one_by_one, area, areas, widest, highest, per_mcu, channels_in, channel_in, channel_of}
 use Rattle.reading.specs.Tables.{factors_in, factors_from, shape_of}
 use Rattle.reading.specs.Header.{byte, each_from, each, each_channel, across_of, down_of, counted, sampling_fits, quants_fit, frame_of, frame_known, frame_fits}
-use Rattle.reading.specs.Code.Mcus.{factors_fit, sampled, no_mcu, measured}
+use Rattle.reading.specs.Code.Mcus.{factors_fit, sampled, measured}
 use Rattle.reading.proofs.Plain.{and_left, and_right}
 use Rattle.reading.proofs.Fits.{within_known, all_at}
 
@@ -240,57 +242,59 @@ module _ (ch : ℕ) (across down : List ℕ) where
 
 -- what the code answers, by the ways out of its tests
 module _ (f : Frame) where
-  pub measured_count : within 1 4 f.channels ≡ false → no_mcu ≡ measured f
+  -- the MCU of a frame, in the rules' words
+  abbrev pub mcu_in : Mcu
+  mcu_in = record { across = widest (shape_of f).factors; down = highest (shape_of f).factors; blocks = areas (shape_of f).factors }
+
+  pub measured_count : within 1 4 f.channels ≡ false → None ≡ measured f
   unfolding measured
   measured_count e = rw e refl
 
-  pub measured_unfit : all_from f.channels 0 (factors_fit f.across f.down) ≡ false → no_mcu ≡ measured f
+  pub measured_unfit : all_from f.channels 0 (factors_fit f.across f.down) ≡ false → None ≡ measured f
   unfolding measured
   measured_unfit e = go (within 1 4 f.channels)
     where
       go : (t : Bool)
-          → no_mcu
-          ≡ cond (t and all_from f.channels 0 (factors_fit f.across f.down) and leb (areas (shape_of f).factors) 10)
-          (record { across = widest (shape_of f).factors; down = highest (shape_of f).factors; blocks = areas (shape_of f).factors }) no_mcu
+          → None
+          ≡ cond (t and all_from f.channels 0 (factors_fit f.across f.down) and leb (areas (shape_of f).factors) 10) (Some mcu_in) None
       go true = rw e refl
       go false = refl
 
   module _ (count : within 1 4 f.channels ≡ true) (fits : all_from f.channels 0 (factors_fit f.across f.down) ≡ true) where
-    pub measured_many : 10 < areas (shape_of f).factors → no_mcu ≡ measured f
+    pub measured_many : 10 < areas (shape_of f).factors → None ≡ measured f
     unfolding measured
     measured_many h = rw (count, fits, lt-leb (areas (shape_of f).factors) 10 h) refl
 
-    pub measured_so : areas (shape_of f).factors ≤ 10
-        → record { across = widest (shape_of f).factors; down = highest (shape_of f).factors; blocks = areas (shape_of f).factors } ≡ measured f
+    pub measured_so : areas (shape_of f).factors ≤ 10 → Some mcu_in ≡ measured f
     unfolding measured
     measured_so h = rw (count, fits, le-leb (areas (shape_of f).factors) 10 h) refl
 
--- what was measured, in the rules' words
-pub measured_is : (f : Frame) → Sampling f
-    → measured f ≡ record { across = widest (shape_of f).factors; down = highest (shape_of f).factors; blocks = areas (shape_of f).factors }
-unfolding measured
-measured_is f ok = rw (sampled_so f ok) refl
+  -- what was measured, in the rules' words
+  pub measured_is : Sampling f → measured f ≡ Some mcu_in
+  unfolding measured
+  measured_is ok = rw (sampled_so f ok) refl
 
--- and where it is nothing, the sampling is none that a frame can have
-pub measured_none : (f : Frame) → (measured f).blocks ≡ 0 → sampled f ≡ false
-unfolding measured
-measured_none f e = go (sampled f) refl e
-  where
-    go : (t : Bool) → sampled f ≡ t
-        → (cond t (record { across = widest (shape_of f).factors; down = highest (shape_of f).factors; blocks = areas (shape_of f).factors }) no_mcu).blocks ≡ 0
-        → t ≡ false
-    go true p z = let y : ⊥ = omega (arith, blocks_least f (sampled_says f p), (sampled_says f p).some, z) in absurd y
-    go false p z = refl
+  -- where nothing was, the sampling is none that a frame can have
+  pub measured_none : None ≡ measured f → sampled f ≡ false
+  unfolding measured
+  measured_none e = go (sampled f) e
+    where
+      go : (t : Bool) → None ≡ cond t (Some mcu_in) None → t ≡ false
+      go true e = absurd cc
+      go false e = refl
 
-pub measured_some : (f : Frame) → ((measured f).blocks ≡ 0 → ⊥) → sampled f ≡ true
-unfolding measured
-measured_some f n = go (sampled f) n
-  where
-    go : (t : Bool)
-        → ((cond t (record { across = widest (shape_of f).factors; down = highest (shape_of f).factors; blocks = areas (shape_of f).factors }) no_mcu).blocks ≡ 0 → ⊥)
-        → t ≡ true
-    go true n = refl
-    go false n = absurd (n refl)
+  -- and where something was, it is such sampling, and the MCU is that of the rules
+  module _ {m : Mcu} (e : Some m ≡ measured f) where
+    pub measured_some : sampled f ≡ true
+    unfolding measured
+    measured_some = go (sampled f) e
+      where
+        go : (t : Bool) → Some m ≡ cond t (Some mcu_in) None → t ≡ true
+        go true e = refl
+        go false e = absurd cc
+
+    pub measured_mcu : m ≡ mcu_in
+    measured_mcu = let same : Some m ≡ Some mcu_in = e ∙ measured_is (sampled_says f measured_some) in cc
 
 -- ---- a frame that is read
 

@@ -3,17 +3,19 @@
 // stands at a place of a list, how many MCUs a side has and what an MCU holds.
 #![tactic(auto)]
 
-ghost use Rattle.std.specs.Prelude.{◌≡◌, ◌-◌, max, leb, get_or};
+ghost use Rattle.std.specs.Prelude.{◌≡◌, cond, get_or};
 ghost use Rattle.reading.specs.declared.Refusal.TheVariants.{Scan};
 ghost use Rattle.reading.specs.declared.Unsettled.TheVariants.{Broke};
 ghost use Rattle.reading.specs.Tests.{within};
-ghost use Rattle.reading.specs.Code.Mcus.{mcus_of, no_mcu, measured};
-ghost use Rattle.reading.specs.Header.{no_frame, no_tables, opening, moved, with_frame, with_interval, no_record};
+ghost use Rattle.reading.specs.Block.{dc_taken, ac_taken};
+ghost use Rattle.reading.specs.Tables.{chosen};
+ghost use Rattle.reading.specs.Code.Mcus.{mcus_of, measured};
+ghost use Rattle.reading.specs.Header.{opening, moved, with_frame, with_interval, no_record, kind_of};
 ghost use Rattle.reading.specs.Bits.{first_bit};
 ghost use Rattle.reading.specs.Code.Scans.{at_start, broke_at, nowhere, refusal_of};
-ghost use Rattle.reading.specs.Calls.{fault_number, number_of, number, nothing_named, named_by, named};
+ghost use Rattle.reading.specs.Calls.{fault_number, number_of, number, named_by, named};
 
-// Whether a number lies between two others, both included.
+// Whether a number lies between two others, both included: one word of the rules, which their definitions cite, and so one here.
 pub fn within(least: usize, most: usize, n: usize) -> bool
     ensures { result ≡ within least most n }
 {
@@ -27,8 +29,27 @@ pub fn at_or<T: Copy>(list: &[T], place: usize, other: T) -> T
     list.get(place).copied().unwrap_or(other)
 }
 
+// The place that a list of places has for a channel, by the channel's id; 0 where it has none.
+pub fn chosen(places: &[usize], ids: &[usize], channel: usize) -> usize
+    ensures { result ≡ chosen places.now ids.now channel }
+{
+    at_or(places, at_or(ids, channel, 0), 0)
+}
+
+// Whether a block takes a symbol: as its first one a category 0..11; later the end, 16 zeros, or any run of zeros with a value of size
+// 1..10. A table may list no others.
+pub fn takes(first: bool, x: usize) -> bool
+    ensures { result ≡ cond first (dc_taken x) (ac_taken x) }
+{
+    if first {
+        x <= 11
+    } else {
+        x == 0 || x == 240 || within(1, 10, x % 16)
+    }
+}
+
 // The MCUs across of a width and the largest sampling across, or down of a height and the largest sampling down: the ceiling of
-// side / 8 factor. 0 for a side or a factor that no frame has.
+// side / 8 factor. 0, and no Option, for a side or a factor that no frame has: such a side has no MCUs (`mcus_of`).
 pub fn mcus(side: usize, factor: usize) -> usize
     ensures { result ≡ mcus_of side factor }
 {
@@ -170,6 +191,22 @@ pub enum Kind {
     Others,
 }
 
+impl From<u8> for Kind {
+    ghost from_gives = { λ code kind. kind ≡ kind_of code };
+
+    fn from(code: u8) -> Self {
+        match code {
+            192..=193 => Self::Frames,
+            196 => Self::Tables,
+            218 => Self::Scans,
+            219 => Self::Quants,
+            221 => Self::Intervals,
+            224..=239 | 254 => Self::Skips,
+            _ => Self::Others,
+        }
+    }
+}
+
 // What the header reads next: a marker, or the tables of a segment that ends at the place given.
 #[derive(Clone, Copy, Debug, PartialEq, Eq)]
 pub enum Case {
@@ -179,8 +216,9 @@ pub enum Case {
 }
 
 // The frame: its sides, one to four channels, and for each channel its sampling across and down, its id and its quantizer's, 0 behind the
-// last one. All zero where no frame was read.
-#[derive(Clone, Copy, Debug, PartialEq, Eq)]
+// last one. The struct that C sees and the theorems have such a list for each of these, and not one of channels; so have Tables and Record.
+// All zero where no frame was read, and no Option: so the rules have it in the header's state and in the record of a refusal (`no_frame`).
+#[derive(Clone, Copy, Debug, Default, PartialEq, Eq)]
 pub struct Frame {
     pub width: usize,
     pub height: usize,
@@ -200,24 +238,14 @@ pub struct Mcu {
 }
 
 impl Mcu {
-    fn none() -> Self
-        ensures { result ≡ no_mcu }
-    {
-        Self {
-            across: 0,
-            down: 0,
-            blocks: 0,
-        }
-    }
-
-    // the MCUs of a frame; all zero for sampling that no frame has: more than four channels, a factor outside 1 to 4, or more than
-    // ten blocks
-    pub fn of(frame: Frame) -> Self
+    // the MCUs of a frame; none for sampling that no frame has: more than four channels, a factor outside 1 to 4, or more than ten
+    // blocks
+    pub fn of(frame: Frame) -> Option<Self>
         ensures { result ≡ measured frame }
     {
         let channels = frame.channels;
         if !within(1, 4, channels) {
-            return Self::none();
+            return None;
         }
         let mut wide = 0usize;
         let mut high = 0usize;
@@ -226,25 +254,26 @@ impl Mcu {
             let h = frame.across[c];
             let v = frame.down[c];
             if !within(1, 4, h) || !within(1, 4, v) {
-                return Self::none();
+                return None;
             }
             wide = wide.max(h);
             high = high.max(v);
             blocks += h * v;
         }
         if 10 < blocks {
-            return Self::none();
+            return None;
         }
-        Self {
+        Some(Self {
             across: wide,
             down: high,
             blocks,
-        }
+        })
     }
 }
 
-// Where each table starts, by its id: quantizers, DC and AC tables. 0 where there is none.
-#[derive(Clone, Copy, Debug, PartialEq, Eq)]
+// Where each table starts, by its id: quantizers, DC and AC tables. 0 where there is none: so the rules have it of a table that is absent,
+// and the records that C and the theorems see hold these numbers, so they are no Options.
+#[derive(Clone, Copy, Debug, Default, PartialEq, Eq)]
 pub struct Tables {
     pub quants: [usize; 4],
     pub dcs: [usize; 4],
@@ -263,7 +292,7 @@ pub struct Header {
 
 // What inspect finds: the frame; the tables that stand when the scan is met; for each channel the ids of its Huffman tables (0 behind
 // the last channel); the first coded byte; the sizes and the work that follow from the frame.
-#[derive(Clone, Copy, Debug, PartialEq, Eq)]
+#[derive(Clone, Copy, Debug, Default, PartialEq, Eq)]
 pub struct Record {
     pub frame: Frame,
     pub tables: Tables,
@@ -278,36 +307,6 @@ pub struct Record {
     pub colour: bool,
 }
 
-impl Frame {
-    // no frame yet
-    pub fn none() -> Self
-        ensures { result ≡ no_frame }
-    {
-        Self {
-            width: 0,
-            height: 0,
-            channels: 0,
-            across: [0; 4],
-            down: [0; 4],
-            ids: [0; 4],
-            qids: [0; 4],
-        }
-    }
-}
-
-impl Tables {
-    // no table yet
-    pub fn none() -> Self
-        ensures { result ≡ no_tables }
-    {
-        Self {
-            quants: [0; 4],
-            dcs: [0; 4],
-            acs: [0; 4],
-        }
-    }
-}
-
 impl Header {
     // the state behind the file's first two bytes
     pub fn fresh() -> Self
@@ -316,8 +315,8 @@ impl Header {
         Self {
             at: 2,
             case: Case::Marker,
-            tables: Tables::none(),
-            frame: Frame::none(),
+            tables: Tables::default(),
+            frame: Frame::default(),
             interval: 0,
         }
     }
@@ -355,23 +354,11 @@ impl Header {
 }
 
 impl Record {
-    // the record of a refusal
+    // the record of a refusal: the rules' word for a record of zeros
     pub fn none() -> Self
         ensures { result ≡ no_record }
     {
-        Self {
-            frame: Frame::none(),
-            tables: Tables::none(),
-            dcids: [0; 4],
-            acids: [0; 4],
-            interval: 0,
-            start: 0,
-            blocks: 0,
-            scratch: 0,
-            output: 0,
-            work: 0,
-            colour: false,
-        }
+        Self::default()
     }
 }
 
@@ -410,22 +397,6 @@ impl Budget {
     {
         Self { left }
     }
-
-    // a budget equal to the price suffices
-    pub fn covers(self, price: u64) -> bool
-        ensures { result ≡ leb price self.left }
-    {
-        price <= self.left
-    }
-
-    // what is left behind a price; nothing where the price is the larger
-    pub fn less(self, price: u64) -> Self
-        ensures { result ≡ record { left = self.left - price } }
-    {
-        Self {
-            left: self.left.saturating_sub(price),
-        }
-    }
 }
 
 // What turns a block's double sum into a sample: MIDDLE is added, the sum is divided by a step and rounded down, and what lies outside
@@ -454,19 +425,11 @@ impl Level {
     pub const MOST: i64 = 2047;
 }
 
-// The block and the place that an answer names, both 0 where it names none.
-#[derive(Clone, Copy, Debug, PartialEq, Eq)]
+// The block and the place that an answer names; the rules have both 0 where it names none.
+#[derive(Clone, Copy, Debug, Default, PartialEq, Eq)]
 pub struct Named {
     pub block: usize,
     pub place: usize,
-}
-
-impl Named {
-    fn none() -> Self
-        ensures { result ≡ nothing_named }
-    {
-        Self { block: 0, place: 0 }
-    }
 }
 
 impl Refusal {
@@ -494,7 +457,7 @@ impl Refusal {
         ensures { result ≡ named_by self }
     {
         let Self::Scan(w) = self else {
-            return Named::none();
+            return Named::default();
         };
         Named {
             block: w.block,
@@ -518,7 +481,7 @@ pub fn place_named(verdict: Verdict) -> Named
     ensures { result ≡ named verdict }
 {
     match verdict {
-        Ok(()) => Named::none(),
+        Ok(()) => Named::default(),
         Err(x) => x.named(),
     }
 }
@@ -526,7 +489,8 @@ pub fn place_named(verdict: Verdict) -> Named
 // Whether a call accepted, or why it refused.
 pub type Verdict = Result<(), Refusal>;
 
-// What inspect answers.
+// What inspect answers. The budget and the record stand beside the verdict, and not in its Ok: the rules give a refusal a budget too, and a
+// record of zeros (`inspection` of `specs/Calls`).
 #[derive(Clone, Copy)]
 pub struct Inspection {
     pub verdict: Verdict,
@@ -534,14 +498,15 @@ pub struct Inspection {
     pub found: Record,
 }
 
-// What decode answers, beside the two buffers.
+// What decode answers, beside the two buffers. A refusal has a budget too, so it stands beside the verdict.
 #[derive(Clone, Copy)]
 pub struct Decoding {
     pub verdict: Verdict,
     pub budget: Budget,
 }
 
-// What settle answers, beside the buffer.
+// What settle answers, beside the buffer. A refusal has a budget too, and for want of room the length that is asked for, so both stand beside
+// the verdict.
 #[derive(Clone, Copy)]
 pub struct Settling {
     pub verdict: Verdict,
@@ -556,7 +521,7 @@ pub struct Part {
     pub length: usize,
 }
 
-// What has_comment answers.
+// What has_comment answers. A refusal has a budget too, and says that no comment is there, so both stand beside the verdict.
 #[derive(Clone, Copy)]
 pub struct Presence {
     pub verdict: Verdict,

@@ -30,13 +30,9 @@ impl From<io::Error> for Stop {
 
 // Number k of a list of 8-byte numbers, high byte first; 0 behind its end.
 fn number(list: &[u8], k: u8) -> u64 {
-    match list
-        .get(8 * usize::from(k)..)
+    list.get(8 * usize::from(k)..)
         .and_then(|rest| rest.first_chunk::<8>())
-    {
-        Some(bytes) => u64::from_be_bytes(*bytes),
-        None => 0,
-    }
+        .map_or(0, |bytes| u64::from_be_bytes(*bytes))
 }
 
 fn size(list: &[u8], k: u8) -> usize {
@@ -91,10 +87,33 @@ fn record(list: &[u8]) -> Result<Record, Stop> {
     })
 }
 
+// What is to be done: the file is inspected, decoded by its own record, settled, or decoded by a record that is given.
+#[derive(Clone, Copy)]
+enum Job {
+    Inspect = 1,
+    DecodeOwn = 2,
+    Settle = 3,
+    DecodeGiven = 4,
+}
+
+impl TryFrom<u64> for Job {
+    type Error = Stop;
+
+    fn try_from(number: u64) -> Result<Self, Stop> {
+        match number {
+            1 => Ok(Self::Inspect),
+            2 => Ok(Self::DecodeOwn),
+            3 => Ok(Self::Settle),
+            4 => Ok(Self::DecodeGiven),
+            _ => Err(Stop::Bad),
+        }
+    }
+}
+
 // What a case asks: the job, the colour choice, the limits and the budget, the room of the two buffers, and how long its file is.
 #[derive(Clone, Copy)]
 struct Case {
-    job: u64,
+    job: Job,
     colour: bool,
     limits: Limits,
     budget: Budget,
@@ -106,7 +125,7 @@ struct Case {
 // A case from its nine numbers.
 fn case_of(head: &[u8]) -> Result<Case, Stop> {
     Ok(Case {
-        job: number(head, 0),
+        job: Job::try_from(number(head, 0))?,
         colour: choice(head, 1)?,
         limits: Limits {
             input: size(head, 2),
@@ -187,7 +206,7 @@ fn decoded(
     let Decoding { verdict, budget } = jpeg::decode(s, found, output, scratch, case.budget);
     println!(rt;
         "{} {} {} {} {}",
-        case.job,
+        case.job as u8,
         reading::number(verdict),
         budget.left,
         adler(output),
@@ -234,11 +253,10 @@ fn answered(
     scratch: &mut [u8],
 ) -> Result<(), Stop> {
     match case.job {
-        1 => inspected(rt, case, s)?,
-        2 => decoded(rt, case, s, own_record(case, s), output, scratch)?,
-        3 => settled(rt, case, s, output)?,
-        4 => decoded(rt, case, s, given(rt)?, output, scratch)?,
-        _ => return Err(Stop::Bad),
+        Job::Inspect => inspected(rt, case, s)?,
+        Job::DecodeOwn => decoded(rt, case, s, own_record(case, s), output, scratch)?,
+        Job::Settle => settled(rt, case, s, output)?,
+        Job::DecodeGiven => decoded(rt, case, s, given(rt)?, output, scratch)?,
     }
     Ok(())
 }

@@ -9,32 +9,26 @@ use reading::{Record, Refusal};
 use std::io;
 use tillsparrow_streams::Numbers;
 
-// a byte of the list, as a number
+// a byte of the list, as a number, and how large it is at most
 fn byte(list: &[u8], place: usize) -> usize
     ensures { result < 256 }
 {
-    usize::from(reading::at_or(list, place, 0))
+    jpeg_header_rules::byte_at(list, place)
 }
 
 // two bytes, high byte first
 fn number(list: &[u8], place: usize) -> usize
     ensures { result < 65536 }
 {
-    if place < list.len() {
-        256 * byte(list, place) + byte(list, place + 1)
-    } else {
-        0
-    }
+    jpeg_header_rules::word_at(list, place)
 }
 
 // a part of the list, into the file from a place on; what does not fit is left out
 fn copied(list: &[u8], from: usize, length: usize, file: &mut [u8; 1024], to: usize)
     requires { (from < 65536) × (length < 65536) × (to < 16777216) }
 {
-    for i in 0..length {
-        if to + i < 1024 {
-            file[to + i] = reading::at_or(list, from + i, 0);
-        }
+    for (byte, place) in file.iter_mut().skip(to).zip(from..from + length) {
+        *byte = reading::at_or(list, place, 0);
     }
 }
 
@@ -81,7 +75,7 @@ fn fields(rt: &impl Print, head: Result<Record, Refusal>) -> io::Result<()> {
 // ---- the list
 
 // the vector at a place of the list; answers the place of the next one
-fn vector(rt: &impl Print, list: &[u8], at: usize, index: u64) -> io::Result<usize>
+fn vector(rt: &impl Print, list: &[u8], at: usize, index: usize) -> io::Result<usize>
     requires { at < 1048576 }
     ensures { IfOk result (λ next. at < next) }
 {
@@ -101,11 +95,12 @@ fn run(rt: &impl Print, list: &[u8]) -> io::Result<()> {
         return Ok(());
     }
     let mut at = number(list, 0);
-    let mut index = 0;
-    // the next vector's place follows from this one
-    while at < list.len() {
+    // the next vector's place follows from this one, and each takes a byte at least
+    for index in 0..list.len() {
+        if list.len() <= at {
+            break;
+        }
         at = vector(rt, list, at, index)?;
-        index += 1;
     }
     Ok(())
 }

@@ -184,35 +184,36 @@ fn settled(rt: &impl Print) -> io::Result<()> {
     settle(rt, "P5, a symbol twice", &twice, 139)
 }
 
-// F with a DC table that has the code 10 for one symbol more
-fn with_dc(rt: &impl Print, name: &str, symbol: u8) -> io::Result<()> {
-    let mut table = *TWO_ZEROS;
+// a table of two codes whose second symbol is another
+fn second(table: &[u8; 23], symbol: u8) -> [u8; 23] {
+    let mut table = *table;
     table[22] = symbol;
-    let mut s = [1; 142];
-    block(&mut s, &table, AC, b"\x3f");
-    inspect(rt, name, &s, tillsparrow_streams::limits(), 10000)
+    table
 }
 
-// the same of its AC table
-fn with_ac(rt: &impl Print, name: &str, symbol: u8) -> io::Result<()> {
-    let mut table = *RUNS;
-    table[22] = symbol;
+// F with these tables, of which one has a code more
+fn with_tables(rt: &impl Print, name: &str, dc: &[u8], ac: &[u8]) -> io::Result<()> {
     let mut s = [1; 142];
-    block(&mut s, DC, &table, b"\x3f");
+    block(&mut s, dc, ac, b"\x3f");
     inspect(rt, name, &s, tillsparrow_streams::limits(), 10000)
 }
 
 // tables that list a symbol twice, or one that a block never takes, and their neighbours
 fn tables(rt: &impl Print) -> io::Result<()> {
-    with_dc(rt, "DC 0 and 0", 0)?;
-    with_dc(rt, "DC 0 and 11", 11)?;
-    with_dc(rt, "DC 0 and 12", 12)?;
-    with_ac(rt, "AC 0 and 0", 0)?;
-    with_ac(rt, "AC 0 and 11", 11)?;
-    with_ac(rt, "AC 0 and 16", 16)?;
-    with_ac(rt, "AC 0 and 224", 224)?;
-    with_ac(rt, "AC 0 and 240", 240)?;
-    with_ac(rt, "AC 0 and 250", 250)
+    for (name, symbol) in [("DC 0 and 0", 0), ("DC 0 and 11", 11), ("DC 0 and 12", 12)] {
+        with_tables(rt, name, &second(TWO_ZEROS, symbol), AC)?;
+    }
+    for (name, symbol) in [
+        ("AC 0 and 0", 0),
+        ("AC 0 and 11", 11),
+        ("AC 0 and 16", 16),
+        ("AC 0 and 224", 224),
+        ("AC 0 and 240", 240),
+        ("AC 0 and 250", 250),
+    ] {
+        with_tables(rt, name, DC, &second(RUNS, symbol))?;
+    }
+    Ok(())
 }
 
 // two blocks with the coded byte 63 each, and bytes between them and behind them

@@ -8,7 +8,7 @@ use Rattle.reading.specs.Tests.{◌or◌}
 use Rattle.reading.specs.Calls.{inspect, Decoded, decode}
 use Rattle.tillsparrow_streams.specs.declared.Answer.{Answer}
 use Rattle.tillsparrow_streams.specs.declared.Line.TheVariants.{Picture}
-use Rattle.tillsparrow_streams.specs.Answers.{own_limits, ample, refusing, text_of}
+use Rattle.tillsparrow_streams.specs.Answers.{own_limits, ample, refusing, replying, text_of}
 
 -- the answer with the two buffers
 pub record Answered : Type 0 where
@@ -21,8 +21,7 @@ leaving answer out scratch = record { answer = answer; output = out; scratch = s
 
 -- accepted: the head of the picture, which stands at the start of the output
 abbrev pub reply : Record → Verdict → Answer
-reply r (Ok u) = record { line = Picture r; follow = r.output }
-reply r (Err x) = refusing x
+reply r v = replying v (Picture r) r.output
 
 abbrev pub drawn : Record → Decoded → Answered
 drawn r d = leaving (reply r d.answer.verdict) d.output d.scratch

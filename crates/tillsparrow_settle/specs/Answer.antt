@@ -1,10 +1,10 @@
 -- What the program answers to a file: the line of a refusal, or the settled file.
-use Rattle.std.specs.Prelude.{ℕ, List, Ok, Err}
+use Rattle.std.specs.Prelude.{ℕ, List}
 use Rattle.reading.specs.Verdicts.{Verdict}
 use Rattle.reading.specs.Calls.{Rewritten}
 use Rattle.tillsparrow_streams.specs.declared.Answer.{Answer}
 use Rattle.tillsparrow_streams.specs.declared.Line.TheVariants.{Empty}
-use Rattle.tillsparrow_streams.specs.Answers.{refusing, text_of}
+use Rattle.tillsparrow_streams.specs.Answers.{replying, text_of}
 
 -- the answer with the buffer
 pub record Answered : Type 0 where
@@ -16,8 +16,7 @@ leaving answer out = record { answer = answer; output = out }
 
 -- accepted: the settled file, which stands at the start of the output, with no line before it
 abbrev pub reply : ℕ → Verdict → Answer
-reply n (Ok u) = record { line = Empty; follow = n }
-reply n (Err x) = refusing x
+reply n v = replying v Empty n
 
 abbrev pub answered : Rewritten → Answered
 answered w = leaving (reply w.answer.length w.answer.verdict) w.output

@@ -2,3 +2,4 @@
 pub mod Digits
 pub mod Behind
 pub mod Lines
+pub mod Listed

@@ -1,13 +1,9 @@
 -- A record as a list of numbers: the order in which the programs write it.
-use Rattle.std.specs.Prelude.{ℕ, ◌+◌, cond, List, [], ◌∷◌, ◌++◌, get_or, set}
+use Rattle.std.specs.Prelude.{ℕ, cond, List, [], ◌∷◌, ◌++◌, get_or}
 use Rattle.reading.specs.declared.Record.{Record}
 
-abbrev four : List ℕ → List ℕ
+abbrev pub four : List ℕ → List ℕ
 four l = get_or l 0 0 ∷ get_or l 1 0 ∷ get_or l 2 0 ∷ get_or l 3 0 ∷ []
-
--- a list in which four numbers were stored from a place on
-abbrev pub four_at : List ℕ → ℕ → List ℕ → List ℕ
-four_at l at e = set (set (set (set l at (get_or e 0 0)) (at + 1) (get_or e 1 0)) (at + 2) (get_or e 2 0)) (at + 3) (get_or e 3 0)
 
 -- the frame's numbers, the channels' factors and ids, the places of the tables, the scan's numbers, and 1 where colour is chosen, else 0
 unfoldable pub numbers_of : Record → List ℕ

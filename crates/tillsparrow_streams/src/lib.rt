@@ -1,22 +1,17 @@
-// What the programs share: a stream read, an answer written, the lines of a refusal and of a picture's head, a text put into a buffer,
-// a record as its numbers, and the limits that they run with.
+// What the programs share: a stream read, an answer written, a run from one stream to another, the lines of a refusal and of a picture's
+// head, a text put into a buffer, a record as its numbers, and the limits that they run with.
 #![tactic(auto)]
 
-ghost use Rattle.std.specs.Prelude.{◌+◌, ◌<◌, ◌≤◌, ◌≡◌, OnOk, true, length, take};
+ghost use Rattle.std.specs.Prelude.{ℕ, ◌+◌, ◌≤◌, ◌≡◌, List, OnOk, length, take};
 ghost use Rattle.std.specs.Io.KnownBytes.{Appends, Consumes};
 ghost use Rattle.tillsparrow_streams.specs.Read.{Fills, Took};
-ghost use Rattle.tillsparrow_streams.specs.Lines.{refused, picture_head, line_text, fitting, placed};
-ghost use Rattle.tillsparrow_streams.specs.Answers.{own_limits, refusing, text_of};
-ghost use Rattle.tillsparrow_streams.specs.Numbers.{four_at, numbers_of};
+ghost use Rattle.tillsparrow_streams.specs.Lines.{line_text, fitting, placed};
+ghost use Rattle.tillsparrow_streams.specs.Answers.{own_limits, refusing, replying, text_of, Answered};
+ghost use Rattle.tillsparrow_streams.specs.Numbers.{numbers_of};
 
-use reading::{Limits, Record, Refusal};
+use reading::{Frame, Limits, Record, Refusal, Tables, Verdict};
 use std::io::{Read, Write};
 use std::{fmt, io};
-
-// What a program says on standard error where it cannot go on.
-pub const UNREAD: &str = "tillsparrow: the input cannot be read";
-
-pub const UNWRITTEN: &str = "tillsparrow: the output cannot be written";
 
 // A read of a stream failed, behind so many bytes.
 #[derive(Clone, Copy, Debug, PartialEq, Eq)]
@@ -46,21 +41,22 @@ pub fn read_full<R: Read>(stream: &mut R, buffer: &mut [u8]) -> usize
     ensures room { result ≤ length buffer.new }
     ensures bytes { Consumes (R.remaining stream.old) (R.remaining stream.new) (take result buffer.new) }
 {
-    match fill(stream, buffer) {
-        Ok(n) => n,
-        Err(unread) => unread.behind,
-    }
+    fill(stream, buffer).unwrap_or_else(|unread| unread.behind)
 }
 
-// Writes the first n bytes to a stream: whether they are there and could be written.
-pub fn write_first<W: Write>(stream: &mut W, bytes: &[u8], n: usize) -> bool
-    ensures room { result ≡ true → n ≤ length bytes.now }
-    ensures written { result ≡ true → Appends (W.contents stream.old) (W.contents stream.new) (take n bytes.now) }
+// Writes the first n bytes to a stream; it is an error that there are fewer, too. The length stands beside the buffer here and in `Answer`, since
+// an answer that lent that part would hold the buffer, of which the contracts of the programs' `convert` say how it is left; docs/DECISIONS.md
+// names these calls.
+pub fn write_first<W: Write>(stream: &mut W, bytes: &[u8], n: usize) -> io::Result<()>
+    ensures room { OnOk result (n ≤ length bytes.now) }
+    ensures written { OnOk result (Appends (W.contents stream.old) (W.contents stream.new) (take n bytes.now)) }
 {
-    n <= bytes.len() && stream.write_all(&bytes[..n]).is_ok()
+    let first = bytes.get(..n).ok_or(io::ErrorKind::InvalidInput)?;
+    stream.write_all(first)
 }
 
-// Puts a text into a line from a place on, as much of it as there is room for; answers the place behind it.
+// Puts a text into a line from a place on, as much of it as there is room for; answers the place behind it. A place, and no rest of the
+// slice, goes from call to call: the contract fixes the whole line, as it lies in fixed memory.
 pub fn put(line: &mut [u8], at: usize, text: &[u8]) -> usize
     ensures behind { result ≡ at + fitting line.old at text.now }
     ensures written { line.new ≡ placed line.old at text.now }
@@ -81,37 +77,27 @@ pub enum Line {
     Picture(Record),
 }
 
-// `refused N` and a newline.
-fn write_refusal<W: Write>(stream: &mut W, number: u8) -> io::Result<()>
-    ensures { OnOk result (Appends (W.contents stream.old) (W.contents stream.new) (refused number)) }
-{
-    writeln!(stream, "refused {number}")
-}
+impl fmt::Display for Line {
+    ghost use Rattle.std.specs.Prelude.{Some};
 
-// The kind of a picture, its sides, and 255, the largest sample.
-fn write_head<W: Write>(stream: &mut W, found: Record) -> io::Result<()>
-    ensures { OnOk result (Appends (W.contents stream.old) (W.contents stream.new) (picture_head found)) }
-{
-    let kind = if found.frame.channels == 1 {
-        "P5"
-    } else {
-        "P6"
-    };
-    writeln!(
-        stream,
-        "{kind}\n{} {}\n255",
-        found.frame.width, found.frame.height
-    )
-}
+    ghost output = { λ line. Some (line_text line) };
 
-#[tactic(auto, unfolding(crate::specs::Lines::line_text))]
-fn write_line<W: Write>(stream: &mut W, line: Line) -> io::Result<()>
-    ensures { OnOk result (Appends (W.contents stream.old) (W.contents stream.new) (line_text line)) }
-{
-    match line {
-        Line::Empty => Ok(()),
-        Line::Refused(x) => write_refusal(stream, x.number()),
-        Line::Picture(found) => write_head(stream, found),
+    #[tactic(auto, unfolding(crate::specs::Lines::line_text))]
+    fn fmt<W: fmt::Write>(&self, f: &mut fmt::Formatter<W>) -> fmt::Result {
+        match self {
+            Self::Empty => Ok(()),
+            Self::Refused(x) => writeln!(f, "refused {}", x.number()),
+            Self::Picture(found) => {
+                let Frame {
+                    width,
+                    height,
+                    channels,
+                    ..
+                } = found.frame;
+                let kind = if channels == 1 { "P5" } else { "P6" };
+                writeln!(f, "{kind}\n{width} {height}\n255")
+            }
+        }
     }
 }
 
@@ -132,14 +118,58 @@ impl Answer {
             follow: 0,
         }
     }
+
+    // a line and what follows it where a call accepted, else its refusal's line
+    pub fn of(verdict: Verdict, line: Line, follow: usize) -> Self
+        ensures { result ≡ replying verdict line follow }
+    {
+        match verdict {
+            Ok(()) => Self { line, follow },
+            Err(x) => Self::refused(x),
+        }
+    }
 }
 
-// Writes an answer to a stream: whether its bytes are there and could be written.
-pub fn write<W: Write>(stream: &mut W, answer: Answer, output: &[u8]) -> bool
-    ensures room { result ≡ true → answer.follow ≤ length output.now }
-    ensures written { result ≡ true → Appends (W.contents stream.old) (W.contents stream.new) (text_of answer output.now) }
+// Writes an answer to a stream; it is an error that the output has fewer bytes than follow the line, too.
+pub fn write<W: Write>(stream: &mut W, answer: Answer, output: &[u8]) -> io::Result<()>
+    ensures room { OnOk result (answer.follow ≤ length output.now) }
+    ensures written { OnOk result (Appends (W.contents stream.old) (W.contents stream.new) (text_of answer output.now)) }
 {
-    write_line(stream, answer.line).is_ok() && write_first(stream, output, answer.follow)
+    write!(stream, "{}", answer.line)?;
+    write_first(stream, output, answer.follow)
+}
+
+// What a program makes of a file: it writes its answer to a stream.
+pub trait Program {
+    ghost written: { List ℕ → List ℕ };
+
+    fn answer<W: Write>(stream: &mut W, s: &[u8]) -> io::Result<()>
+        ensures { OnOk result (Appends (W.contents stream.old) (W.contents stream.new) (written s.now)) };
+}
+
+// Why a program cannot go on; written, what it says on standard error.
+#[derive(Clone, Copy, Debug, PartialEq, Eq)]
+pub enum Fault {
+    Unread,
+    Unwritten,
+}
+
+impl fmt::Display for Fault {
+    fn fmt<W: fmt::Write>(&self, f: &mut fmt::Formatter<W>) -> fmt::Result {
+        f.write_str(match self {
+            Self::Unread => "tillsparrow: the input cannot be read",
+            Self::Unwritten => "tillsparrow: the output cannot be written",
+        })
+    }
+}
+
+// Runs a program from one stream to another. One byte more than the input limit is looked at, so that a longer file is seen to be longer.
+pub fn run<P: Program, R: Read, W: Write>(input: &mut R, output: &mut W) -> Result<(), Fault>
+    ensures { OnOk result (Answered P.written (R.remaining input.old) (R.remaining input.new) (W.contents output.old) (W.contents output.new)) }
+{
+    let mut file = [0; Limits::BUFFER + 1];
+    let n = fill(input, &mut file).map_err(|_| Fault::Unread)?;
+    P::answer(output, &file[..n]).map_err(|_| Fault::Unwritten)
 }
 
 // The limits of a program with buffers of 65,536 bytes.
@@ -164,14 +194,6 @@ pub fn no_limits() -> Limits
     }
 }
 
-// Four numbers into a list from a place on.
-fn four(list: &mut [usize; 46], at: usize, entries: [usize; 4])
-    requires { at + 3 < 46 }
-    ensures { list.new ≡ four_at list.old at entries }
-{
-    list[at..at + 4].copy_from_slice(&entries);
-}
-
 // A record's 46 numbers in their order; written, a blank stands before each.
 #[derive(Clone, Copy)]
 pub struct Numbers(pub [usize; 46]);
@@ -181,26 +203,30 @@ impl From<Record> for Numbers {
     ghost from_gives = { λ found numbers. numbers.0 ≡ numbers_of found };
 
     fn from(found: Record) -> Self {
+        let Frame {
+            across,
+            down,
+            ids,
+            qids,
+            ..
+        } = found.frame;
+        let Tables { quants, dcs, acs } = found.tables;
+        let Record { dcids, acids, .. } = found;
+        let frame = [found.frame.width, found.frame.height, found.frame.channels];
+        let lists = [across, down, ids, qids, dcids, acids, quants, dcs, acs];
+        let scan = [
+            found.interval,
+            found.start,
+            found.blocks,
+            found.scratch,
+            found.output,
+            found.work as usize,
+            usize::from(found.colour),
+        ];
         let mut list = [0; 46];
-        list[0] = found.frame.width;
-        list[1] = found.frame.height;
-        list[2] = found.frame.channels;
-        four(&mut list, 3, found.frame.across);
-        four(&mut list, 7, found.frame.down);
-        four(&mut list, 11, found.frame.ids);
-        four(&mut list, 15, found.frame.qids);
-        four(&mut list, 19, found.dcids);
-        four(&mut list, 23, found.acids);
-        four(&mut list, 27, found.tables.quants);
-        four(&mut list, 31, found.tables.dcs);
-        four(&mut list, 35, found.tables.acs);
-        list[39] = found.interval;
-        list[40] = found.start;
-        list[41] = found.blocks;
-        list[42] = found.scratch;
-        list[43] = found.output;
-        list[44] = found.work as usize;
-        list[45] = usize::from(found.colour);
+        list[..3].copy_from_slice(&frame);
+        list[3..39].copy_from_slice(lists.as_flattened());
+        list[39..].copy_from_slice(&scan);
         Self(list)
     }
 }

@@ -3,8 +3,8 @@ use Rattle.std.proofs.Common.{◌-◌}
 use Rattle.jpeg_bits_wide.proofs.Filling.{cursor, Filling}
 use Rattle.jpeg_bits_wide.proofs.filled.Given as goal
 
-abbrev pub invariant-more : goal.invariant-more
-invariant-more l = Filling l.s l.fn.w (cursor l.at l.acc l.left)
+abbrev pub invariant-loop-left : goal.invariant-loop-left
+invariant-loop-left l = Filling l.s l.fn.w (cursor l.at l.acc l.left)
 
-abbrev pub decreases-more : goal.decreases-more
-decreases-more l = 57 - l.left
+abbrev pub decreases-loop-left : goal.decreases-loop-left
+decreases-loop-left l = 57 - l.left

@@ -3,11 +3,11 @@ use Rattle.std.proofs.Common.{◌≡◌, ◌-◌, cond, eqb}
 use Rattle.jpeg_block.proofs.Remaining.{Walk}
 use Rattle.jpeg_block.proofs.walk.Given as goal
 
-abbrev pub invariant-walk : goal.invariant-walk
-invariant-walk l = record {
+abbrev pub invariant-loop-place : goal.invariant-loop-place
+invariant-loop-place l = record {
   base : l.base ≡ cond (eqb l.place 0) l.dc l.ac;
   walk : Walk l.t l.s l.dc l.ac l.pred l.initial.here l.here l.place l.reach l.levels;
 }
 
-abbrev pub decreases-walk : goal.decreases-walk
-decreases-walk l = 64 - l.place
+abbrev pub decreases-loop-place : goal.decreases-loop-place
+decreases-loop-place l = 64 - l.place

@@ -17,9 +17,9 @@ whole s p g e = go (cut_at s p) refl
     go true q = let r = rw q at e in absurd (cc r)
     go false q = let r = rw q at e in (segment_room s p q, cc r)
 
-pub returns-in_ok-from-in-218 : goal.returns-in_ok-from-in-218
+pub returns-in-Scans : goal.returns-in-Scans
 unfolding stop_if stepped
-returns-in_ok-from-in-218 c =
-    let found = whole c.args.s.now c.args.state.at c.in_ok-from-in-218.field-0 c.in_ok-from-in-218.ensures in
+returns-in-Scans c =
+    let found = whole c.args.s.now c.args.state.at c.in_ok-from.field-0 c.in_ok-from.ensures in
     let read = c.scan.ensures ∙ ap stepped (behind_framed c.args.state _ c.requires.1) in
     grind (arith, common_steps)

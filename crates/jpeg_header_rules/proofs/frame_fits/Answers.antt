@@ -1,4 +1,4 @@
--- The tests in the code's order are those of the definition: the MCU's blocks stand for the count of channels and the sum of blocks.
+-- The tests in the code's order are those of the definition: that there is an MCU stands for the count of channels and the sum of blocks.
 use Rattle.std.proofs.Common.{rules, tests}
 use Rattle.jpeg_header_rules.proofs.Sampled.{frame_tests}
 use Rattle.jpeg_header_rules.proofs.frame_fits.Goals as goal

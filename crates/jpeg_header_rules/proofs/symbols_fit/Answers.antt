@@ -8,7 +8,7 @@ loop-symbol-init c = (refl, rest_first c.args.class 256 c.args.symbols.now)
 
 pub loop-symbol-preserved : goal.loop-symbol-preserved
 loop-symbol-preserved c =
-    let listed = sym c.listable.ensures ∙ c.if-not-listable.false in (
+    let listed = sym c.takes.ensures ∙ c.if-not-takes.false in (
       length-set _ _ _ ∙ c.loop-symbol.invariant.0,
       c.loop-symbol.invariant.1
           ∙ rest_on c.args.class _ c.args.symbols.now _ c.loop-symbol-test.true c.from-x.ensures (omega arith) c.if-met-x.false listed,

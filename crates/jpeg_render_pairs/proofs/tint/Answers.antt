@@ -1,5 +1,5 @@
 -- Each pixel's three bytes are luma and what is added to it.
-use Rattle.std.proofs.Common.{arith, ◌*◌, ◌∙◌}
+use Rattle.std.proofs.Common.{arith, ◌*◌}
 use Rattle.jpeg_render_row.proofs.Drawing.{drawn_none, drawn_first, three_channels}
 use Rattle.jpeg_render_pairs.specs.Parts.{summed}
 use Rattle.jpeg_render_pairs.proofs.Tinting.{shade_fits, shade}
@@ -16,6 +16,6 @@ unfolding summed
 loop-i-preserved c =
     drawn_first c.loop-i.invariant (omega arith)
     (three_channels (summed c.args.luma.now c.args.reds.now c.args.greens.now c.args.blues.now c.loop-i.i) (c.loop-i.i * 3) c.loop-i.out
-    (c.short_to_byte.ensures ∙ shade (c.fits-luma _) c.requires.red (omega arith))
-    (c.short_to_byte-in-loop-i.ensures ∙ shade (c.fits-luma _) c.requires.green (omega arith))
-    (c.short_to_byte-in-loop-i-2.ensures ∙ shade (c.fits-luma _) c.requires.blue (omega arith)))
+    (shade (c.fits-luma _) c.requires.red (omega arith) c.to_byte.ensures)
+    (shade (c.fits-luma _) c.requires.green (omega arith) c.to_byte-in-loop-i.ensures)
+    (shade (c.fits-luma _) c.requires.blue (omega arith) c.to_byte-in-loop-i-2.ensures))

@@ -1,60 +1,65 @@
--- `mcu`: a restart or a block that breaks, and the blocks that were read (OneMcu).
-use Rattle.std.proofs.Common.{◌≡◌, ◌∙◌, ◌<◌, ◌/◌, ◌%◌, sym, ap, Ok, rules, arith}
+-- `mcu`: a restart or a block that breaks, and the blocks that were read (McuFollowed).
+use Rattle.std.proofs.Common.{◌≡◌, ◌∙◌, ◌/◌, ap, Ok, get_or, pos, rules, arith}
 use Rattle.std.proofs.lemmas.Result.{err_from_is_err_and}
 use mir.Syntax.{w32}
 use mir.Val.{SFits}
 use mir.Facts.{to_z-of_z}
-use Rattle.reading.specs.Code.Answers.{said, levels_of}
-use Rattle.reading.specs.Code.Scans.{broke_at}
-use Rattle.jpeg_scan_plan.specs.Plans.{chan}
-use Rattle.jpeg_scan_plan.specs.Marks.{restarted, broke_in}
-use Rattle.jpeg_scan_plan.proofs.Standing.{later_digit}
-use Rattle.jpeg_scan.proofs.Onward.{block_at}
-use Rattle.jpeg_scan.proofs.OneMcu.{head, begin, err_from_match, halted, whole, broken, further}
+use Rattle.jpeg_scan_plan.specs.declared.Plan.{Plan}
+use Rattle.jpeg_scan_plan.specs.Marks.{broke_in}
+use Rattle.jpeg_scan_plan.proofs.Standing.{later_digit, first_digit}
+use Rattle.jpeg_engine.proofs.Counting.{count_is, count_in, countable, channel_is}
+use Rattle.jpeg_scan.proofs.OneMcu.{err_from_match}
+use Rattle.jpeg_scan.proofs.McuFollowed.{begin, halted, whole, broken, further}
 use Rattle.jpeg_scan.proofs.mcu.Goals as goal
 
-pub returns-in_err-at : goal.returns-in_err-at
-returns-in_err-at c =
+pub returns-in_err-bits : goal.returns-in_err-bits
+returns-in_err-bits g c = λ q f.
     let p = err_from_is_err_and c.from_residual.result c.from_residual.ensures.1 in
-    let q = err_from_match c.restart.result c.in_err-at.ensures.cases (λ x h. cc) in
-    let is : c.in_err-at.field-0.0 ≡ broke_at c.args.before q.0 = search rules in
-    rw (p.1, p.2, is) (halted _ _ _ _ _ _ (sym q.1 ∙ c.restart.ensures))
+    let r = err_from_match c.restart.result c.in_err-bits.ensures.cases (λ x h. cc) in
+    let is : c.in_err-bits.field-0.0 ≡ g.E.Engine.says (broke_in q q r.0) = search rules in
+    rw (p.1, p.2) (halted _ g.E.Engine.says _ _ _ _ _ _ (c.restart.ensures q f) r.1 is)
 
 pub loop-init : goal.loop-init
-loop-init c = (begin _ _ _ _ _, search rules)
+loop-init g c =
+    let on : c.restart.result ≡ Ok c.in_ok-bits.field-0 = search rules in
+    record {
+      digits = ap (λ (n : Plan). n.order) c.plan-plan.ensures ∙ first_digit _;
+      count = omega arith;
+      walks = λ q f. begin _ _ _ _ _ _ _ (c.restart.ensures q f) on;
+    }
 
 pub returns-in_err-read : goal.returns-in_err-read
-returns-in_err-read c =
-    let a = c.args in
-    let at = c.loop.at in
-    let i = c.channel-c.result in
+returns-in_err-read g c = λ q f.
     let p = err_from_is_err_and c.from_residual-in_err-read.result c.from_residual-in_err-read.ensures.1 in
-    let q = err_from_match c.block.result c.in_err-read.ensures.cases (λ x h. cc) in
-    let is : c.in_err-read.field-0.0 ≡ broke_in a.before at q.0 = search rules in
-    let from : Ok c.in_ok-at.at ≡ restarted a.s.now a.plan.interval a.m a.before = search rules in
-    let left : at.done < a.plan.blocks = omega (arith, c.loop.invariant.0.along.place) in
-    let here : i ≡ chan a.plan.order c.loop.counter = c.channel-c.ensures ∙ ap (λ k. k % 4) c.loop.invariant.1 in
-    let read : c.block.result ≡ said (block_at (head a.plan a.s.now) a.plan a.s.now i at) = search (rules, c.block.ensures) in
-    rw (p.1, p.2, is) (broken c.loop.invariant.0 a.m a.before from (omega arith) left here read q.1)
+    let r = err_from_match c.block.result c.in_err-read.ensures.cases (λ x h. cc) in
+    let x = c.loop.invariant.walks q f in
+    let e = g.E.Engine in
+    let held : SFits w32 (get_or c.loop.predictors c.channel-c.result (pos 0)) = search rules in
+    let is : c.in_err-read.field-0.0 ≡ e.says (broke_in q x.here r.0) = search rules in
+    let i = count_in c.in_ok-bits.field-0.done c.plan-plan.ensures c.saturating_sub.ensures c.min-end.ensures c.loop-test.true in
+    rw (p.1, p.2)
+    (broken _ e.says x i (channel_is _ _ c.channel-c.ensures c.loop.invariant.digits) (to_z-of_z held) c.block.new.levels c.block.ensures r.1 is)
+
+pub overflow_add-done : goal.overflow_add-done
+overflow_add-done g c =
+    countable c.plan-plan.result.now _ c.loop.invariant.count c.saturating_sub.ensures c.min-end.ensures c.loop-test.true (search rules)
 
 pub loop-preserved : goal.loop-preserved
-loop-preserved c =
-    let a = c.args in
-    let at = c.loop.at in
-    let i = c.channel-c.result in
-    let left : at.done < a.plan.blocks = omega (arith, c.loop.invariant.0.along.place) in
-    let here : i ≡ chan a.plan.order c.loop.counter = c.channel-c.ensures ∙ ap (λ k. k % 4) c.loop.invariant.1 in
-    let read : c.block.result ≡ said (block_at (head a.plan a.s.now) a.plan a.s.now i at) = search (rules, c.block.ensures) in
-    let kept : c.block.new.levels ≡ levels_of (block_at (head a.plan a.s.now) a.plan a.s.now i at) = search (rules, c.block.ensures) in
-    let fits : SFits w32 c.in_ok-read.read.first = search rules in
-    let got : c.block.result ≡ Ok c.in_ok-read.read = search rules in (
-      rw (to_z-of_z fits) (further c.loop.invariant.0 (omega arith) left here read got kept c.paint.ensures.written c.requires.1),
-      ap (λ k. k / 4) c.loop.invariant.1 ∙ later_digit a.plan.order c.loop.counter,
-    )
+loop-preserved g c =
+    let e = g.E.Engine in
+    let held : SFits w32 (get_or c.loop.predictors c.channel-c.result (pos 0)) = search rules in
+    let first : SFits w32 c.in_ok-read.read.first = search rules in
+    let got : c.block.result ≡ Ok c.in_ok-read.read = search rules in
+    let i = count_in c.in_ok-bits.field-0.done c.plan-plan.ensures c.saturating_sub.ensures c.min-end.ensures c.loop-test.true in
+    record {
+      digits = ap (λ o. o / 4) c.loop.invariant.digits ∙ later_digit _ c.loop.counter;
+      count = omega (arith, c.loop.invariant.count);
+      walks = λ q f.
+          further _ e.says (c.loop.invariant.walks q f) i (channel_is _ _ c.channel-c.ensures c.loop.invariant.digits) (to_z-of_z held)
+          c.block.new.levels c.block.ensures got (to_z-of_z first) (simp (c.head-t.ensures, c.plan-plan.ensures) at c.paint.ensures.written) c.requires;
+    }
 
 pub returns : goal.returns
-returns c =
-    let a = c.args in
-    let from : Ok c.in_ok-at.at ≡ restarted a.s.now a.plan.interval a.m a.before = search rules in
-    let along = c.loop.invariant.0.along in
-    whole c.loop.invariant.0 a.m a.before from (omega (arith, along.few, along.left))
+returns g c =
+    let end : c.loop.counter ≡ c.min-end.result = omega (arith, c.min-end.ensures) in
+    λ q f. whole _ g.E.Engine.says (c.loop.invariant.walks q f) (end ∙ count_is _ c.plan-plan.ensures c.saturating_sub.ensures c.min-end.ensures)

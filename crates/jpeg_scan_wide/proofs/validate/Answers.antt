@@ -1,13 +1,20 @@
--- `validate`: what `run` reads without its samples was read; all else the plain engine answers.
-use Rattle.std.proofs.Common.{sym, length-take-le}
-use Rattle.reading.specs.Code.Answers.{scan_read}
-use Rattle.reading.specs.Code.Scans.{scan_of}
+-- `validate`: no plan; and the plan of a record begins in the file.
+use Rattle.std.proofs.Common.{◌∙◌, sym, length-take-le}
+use Rattle.std.proofs.lemmas.Result.{err_from_is_err_and}
 use Rattle.jpeg_scan_plan.proofs.Standing.{ready}
-use Rattle.jpeg_scan_wide.proofs.AllMcus.{was_read}
+use Rattle.jpeg_scan.proofs.Ends.{unplanned}
 use Rattle.jpeg_scan_wide.proofs.validate.Goals as goal
 
-pub slice_bounds-looks-end : goal.slice_bounds-looks-end
-slice_bounds-looks-end c = sym (length-take-le _ _ (ready c.args.s.now c.args.found c.of-plan.ensures c.if-plan-eq0.false).inside)
+pub returns-in_err-plan : goal.returns-in_err-plan
+returns-in_err-plan c =
+    let p = err_from_is_err_and c.from_residual.result c.from_residual.ensures.1 in
+    rw (p.1, p.2) (unplanned c.args.s.now c.args.found _ c.of.ensures c.nowhere.ensures c.in_err-plan.ensures.value)
 
-pub returns-then-run : goal.returns-then-run
-returns-then-run c = was_read (scan_read (scan_of c.args.s.now c.args.found)) c.run.ensures.0 c.if-run.true
+pub slice_bounds-looks-end : goal.slice_bounds-looks-end
+slice_bounds-looks-end c =
+    sym (length-take-le _ _ (ready c.args.s.now c.args.found (sym c.in_ok-plan.ensures.ok_part ∙ c.of.ensures)).inside)
+
+pub invariant_of-validate_by : goal.invariant_of-validate_by
+invariant_of-validate_by c =
+    let u = ready c.args.s.now c.args.found (sym c.in_ok-plan.ensures.ok_part ∙ c.of.ensures) in
+    record { begins = u.inside; some = u.numbers.some; looked = c.looks.ensures }

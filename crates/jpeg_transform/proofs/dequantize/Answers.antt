@@ -1,5 +1,6 @@
 -- One level more is one store more.
-use Rattle.std.proofs.Common.{◌≡◌, ◌^◌, ◌≤◌, ℕ, List, ℤ, pos, nat_abs, ◌*ℤ◌, get_or, set, take, min, w16, w64, to_z, of_z, ◌∙◌, ap, ap₂, to_z-of_z, arith, rules}
+use Rattle.std.proofs.Common.{◌≡◌, ◌^◌, ◌≤◌, ℕ, List, ℤ, pos, nat_abs, ◌*ℤ◌, get_or, set}
+use Rattle.std.proofs.Common.{take, min, w16, w64, to_z, of_z, ◌∙◌, ap, ap₂, to_z-of_z, arith, rules}
 use native.Mathlib.Decide.{dec_le}
 use mir.Val.{SFits}
 use Rattle.whole.specs.Expressions.{fits_abs}
@@ -9,7 +10,10 @@ use Rattle.jpeg_transform.proofs.Coefficients.{coefficients_none, coefficients_n
 use Rattle.jpeg_transform.proofs.dequantize.Goals as goal
 
 pub loop-k-init : goal.loop-k-init
-loop-k-init c = record { made = c.requires ∙ coefficients_none c.args.quantizer.now c.args.levels.now; small = rw c.requires (within_zeros (2 ^ 23) 64) }
+loop-k-init c = record {
+  made = c.requires ∙ coefficients_none c.args.quantizer.now c.args.levels.now;
+  small = rw c.requires (within_zeros (2 ^ 23) 64);
+}
 
 pub bounds-block-place : goal.bounds-block-place
 bounds-block-place c = omega (arith, zigzag_below c.loop-k.k (omega arith))

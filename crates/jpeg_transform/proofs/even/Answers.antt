@@ -1,4 +1,4 @@
--- Each operation is a part of the half's expressions, which fit by a computed bound.
+-- Each operation is a part of the half's expressions, which fit by a computed bound: the law is `ok`, and an answer names its expression.
 use Rattle.whole.specs.Expressions.{Exp, var, add, sub}
 use Rattle.jpeg_transform.specs.Halves.{by, sum, gap, near, far, even_of}
 use Rattle.jpeg_transform.proofs.Lines.{ok, four}

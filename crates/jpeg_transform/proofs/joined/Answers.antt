@@ -1,4 +1,4 @@
--- Each sum and difference fits, and they are the outputs.
+-- Each sum and difference fits, by `join_fits` at its expression, and they are the outputs.
 use Rattle.whole.specs.Expressions.{var, add, sub}
 use Rattle.jpeg_transform.proofs.Lines.{join_fits, joins}
 use Rattle.jpeg_transform.proofs.joined.Goals as goal

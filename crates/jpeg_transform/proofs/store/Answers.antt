@@ -13,4 +13,5 @@ loop-y-init c = refl
 pub loop-y-preserved : goal.loop-y-preserved
 loop-y-preserved c =
     puts_next _ c.args.x 8 _ c.loop-y.y _ _ _ c.loop-y.invariant (omega arith)
-    (to_z-of_z {w = w32} (sfits_of c.in_steps.type_inv) ∙ c.in_steps.ensures ∙ ap in_steps (to_z-of_z {w = w64} (fits_abs (c.requires.1.each c.loop-y.y) tt)))
+    (to_z-of_z {w = w32} (sfits_of c.in_steps.type_inv) ∙ c.in_steps.ensures
+    ∙ ap in_steps (to_z-of_z {w = w64} (fits_abs (c.requires.1.each c.loop-y.y) tt)))

@@ -11,7 +11,8 @@ use Rattle.jpeg_transform.proofs.Coefficients.{painted_long}
 use Rattle.jpeg_transform.proofs.transformed.Goals as goal
 
 -- the two passes, one after the other
-two_passes : (c : List ℤ) {made passed steps : List ℤ} → steps ≡ columns_of passed → passed ≡ rows_of made → made ≡ c → list_of 64 (λ k. to_byte (at steps k)) ≡ samples c
+two_passes : (c : List ℤ) {made passed steps : List ℤ} → steps ≡ columns_of passed → passed ≡ rows_of made → made ≡ c
+    → list_of 64 (λ k. to_byte (at steps k)) ≡ samples c
 two_passes c g e h = ap (λ xs. list_of 64 (λ k. to_byte (at xs k))) (g ∙ ap columns_of (e ∙ ap rows_of h)) ∙ both c
 
 pub columns-requires : goal.columns-requires

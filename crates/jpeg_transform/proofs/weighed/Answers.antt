@@ -23,7 +23,8 @@ small t =
     let p = t.requires.0.each in
     let q = t.requires.1.each in
     (under_cons (2 ^ 40) c.0 (p 0) (under_cons (2 ^ 40) c.1 (p 1) (under_cons (2 ^ 40) c.2 (p 2) (under_cons (2 ^ 40) c.3 (p 3)
-    (under_cons (2 ^ 14) k.0 (q 0) (under_cons (2 ^ 14) k.1 (q 1) (under_cons (2 ^ 14) k.2 (q 2) (under_cons (2 ^ 14) k.3 (q 3) (under_nil {bs = []}))))))))).each
+    (under_cons (2 ^ 14) k.0 (q 0) (under_cons (2 ^ 14) k.1 (q 1)
+    (under_cons (2 ^ 14) k.2 (q 2) (under_cons (2 ^ 14) k.3 (q 3) (under_nil {bs = []}))))))))).each
 
 ok : (e : Exp) → T (safe w64 L e) → (t : goal.After-struct_told-8-1) → Fine w64 (at (l t)) e
 ok e s t = fine w64 (at (l t)) L (small t) e s

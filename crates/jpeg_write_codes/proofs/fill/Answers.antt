@@ -13,8 +13,10 @@ use Rattle.jpeg_write_codes.proofs.fill.Goals as goal
 pub loop-bits-init : goal.loop-bits-init
 loop-bits-init c =
     let t = c.args.t.now in
-    let e : c.iter-symbols.result.rest.now ≡ drop (c.args.base + 16) t = c.iter-symbols.ensures.rest ∙ between_to_end t (c.args.base + 16) (length t) (omega arith) in
-    subst⁻¹ (λ (ys : List ℕ). Filling t c.args.base (length c.args.words.now) c.args.words.now ys 0 0 0) e (filling_start t c.args.base _ c.args.words.now refl c.requires.1)
+    let e : c.iter-symbols.result.rest.now ≡ drop (c.args.base + 16) t =
+    c.iter-symbols.ensures.rest ∙ between_to_end t (c.args.base + 16) (length t) (omega arith) in
+    subst⁻¹ (λ (ys : List ℕ). Filling t c.args.base (length c.args.words.now) c.args.words.now ys 0 0 0) e
+    (filling_start t c.args.base _ c.args.words.now refl c.requires.1)
 
 pub loop-init : goal.loop-init
 loop-init c =
@@ -22,7 +24,9 @@ loop-init c =
     let b = c.loop-bits.bits in
     let e : c.args.base + b - 1 ≡ c.args.base + (b - 1) = omega arith in (
       power_is b (omega arith),
-      filling_length t c.args.base _ _ _ (b - 1) _ b _ c.loop-bits.invariant (omega arith) (omega arith) c.requires.0 (sub-zero (get_or t (c.args.base + b - 1) 0) ∙ ap (λ (k : ℕ). get_or t k 0) e) (omega (arith, c.type_inv.t (c.args.base + b - 1))),
+      filling_length t c.args.base _ _ _ (b - 1) _ b _ c.loop-bits.invariant (omega arith) (omega arith) c.requires.0
+          (sub-zero (get_or t (c.args.base + b - 1) 0) ∙ ap (λ (k : ℕ). get_or t k 0) e)
+          (omega (arith, c.type_inv.t (c.args.base + b - 1))),
     )
 
 pub returns-in_default : goal.returns-in_default
@@ -34,7 +38,8 @@ loop-preserved c =
     let o = get_or c.args.t.now (c.args.base + b - 1) 0 in
     let down : o - c.loop.counter ≡ suc (o - (c.loop.counter + 1)) = omega arith in (
       c.loop.invariant.0,
-      filling_symbol _ _ _ _ _ _ _ _ _ _ _ _ _ c.loop.invariant.1 c.in-Some.ensures.steps down (word_is b c.loop.code c.loop.invariant.0) c.keep.ensures,
+      filling_symbol _ _ _ _ _ _ _ _ _ _ _ _ _ c.loop.invariant.1 c.in-Some.ensures.steps down
+          (word_is b c.loop.code c.loop.invariant.0) c.keep.ensures,
     )
 
 pub loop-bits-preserved : goal.loop-bits-preserved

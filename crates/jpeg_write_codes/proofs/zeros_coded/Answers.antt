@@ -9,4 +9,6 @@ pub returns : goal.returns
 returns c =
     let ws = c.args.words.now in
     coded_cases ws _ c.args.tables
-    (cases_from_all _ _ _ (λ i. get_or ws (256 * i) 0 ≡ 0 → ⊥) (λ i. get_or ws (256 * i) 0 ≡ 0) c.all.ensures.ran (YieldsList-from_range 0 c.args.tables c.args.tables refl (sub-zero c.args.tables)) (λ x q k. search (rules, tests)) (λ x q k. search (rules, tests)))
+    (cases_from_all _ _ _ (λ i. get_or ws (256 * i) 0 ≡ 0 → ⊥) (λ i. get_or ws (256 * i) 0 ≡ 0) c.all.ensures.ran
+    (YieldsList-from_range 0 c.args.tables c.args.tables refl (sub-zero c.args.tables))
+    (λ x q k. search (rules, tests)) (λ x q k. search (rules, tests)))

@@ -8,9 +8,10 @@ use mir.Facts.{to_z-of_z}
 use Rattle.jpeg_scan_plan.specs.declared.Plan.{Plan}
 use Rattle.jpeg_scan_plan.proofs.Standing.{later_digit, first_digit}
 use Rattle.jpeg_scan_plan.specs.Marks.{broke_in}
+use Rattle.jpeg_engine.proofs.Counting.{count_is, count_in, countable, channel_is, channel_few}
 use Rattle.jpeg_scan.proofs.OneMcu.{err_from_match}
 use Rattle.jpeg_write_scan.proofs.SheetFilled.{sheet_long}
-use Rattle.jpeg_write_scan.proofs.McuFollowed.{count_is, count_in, countable, channel_is, begin, stopped, done_is, whole, broken, quiet, further}
+use Rattle.jpeg_write_scan.proofs.McuFollowed.{begin, stopped, done_is, whole, broken, quiet, further}
 use Rattle.jpeg_write_scan.proofs.mcu.Goals as goal
 
 pub returns-in_err-cursor : goal.returns-in_err-cursor
@@ -39,11 +40,12 @@ returns-in_err-read g c = λ q f.
     let is : c.in_err-read.field-0.0 ≡ e.says (broke_in q x.here r.0) = search rules in
     let i = count_in c.in_ok-cursor.cursor.done c.plan-plan.ensures c.saturating_sub.ensures c.min-end.ensures c.loop-test.true in
     rw (p.1, p.2, is)
-    (broken _ e.says x i (channel_is _ _ c.channel-c.ensures c.loop.invariant.digits) (to_z-of_z held) c.block.new.levels (c.block.ensures x.here.bits x.follows.met) r.1 refl)
+    (broken _ e.says x i (channel_is _ _ c.channel-c.ensures c.loop.invariant.digits) (to_z-of_z held) c.block.new.levels
+    (c.block.ensures (channel_few _ c.channel-c.ensures) x.here.bits x.follows.met) r.1 refl)
 
 pub put_on-ink-requires : goal.put_on-ink-requires
 put_on-ink-requires g c =
-    let x = c.loop.invariant.walks c.requires.3.one c.requires.3.follows in
+    let x = c.loop.invariant.walks c.requires.2.one c.requires.2.follows in
     let e = g.E.Engine in
     let n = e.plan_of c.args.engine.now in
     let k = c.channel-c.result in
@@ -51,14 +53,15 @@ put_on-ink-requires g c =
     let got : c.block.result ≡ Ok c.in_ok-read.read = search rules in
     let i = count_in c.in_ok-cursor.cursor.done c.plan-plan.ensures c.saturating_sub.ensures c.min-end.ensures c.loop-test.true in (
       x.walk.fit,
-      omega (arith, c.channel-c.ensures),
-      sheet_long _ n c.requires.1,
-      quiet _ e.says x i (channel_is _ _ c.channel-c.ensures c.loop.invariant.digits) (to_z-of_z held) c.block.new.levels (c.block.ensures x.here.bits x.follows.met) got,
+      channel_few _ c.channel-c.ensures,
+      sheet_long _ n c.requires.0,
+      quiet _ e.says x i (channel_is _ _ c.channel-c.ensures c.loop.invariant.digits) (to_z-of_z held) c.block.new.levels
+          (c.block.ensures (channel_few _ c.channel-c.ensures) x.here.bits x.follows.met) got,
     )
 
 pub overflow_add-cursor : goal.overflow_add-cursor
 overflow_add-cursor g c =
-    let x = c.loop.invariant.walks c.requires.3.one c.requires.3.follows in
+    let x = c.loop.invariant.walks c.requires.2.one c.requires.2.follows in
     countable c.plan-plan.result.now _ (done_is _ g.E.Engine.says x) c.saturating_sub.ensures c.min-end.ensures c.loop-test.true (search rules)
 
 pub loop-preserved : goal.loop-preserved
@@ -75,8 +78,9 @@ loop-preserved g c =
       digits = ap (λ o. o / 4) c.loop.invariant.digits ∙ later_digit _ c.loop.counter;
       walks = λ q f.
           let x = c.loop.invariant.walks q f in
-          further _ e.says x i (channel_is _ _ c.channel-c.ensures c.loop.invariant.digits) (to_z-of_z held) c.block.new.levels (c.block.ensures x.here.bits x.follows.met)
-          got c.requires.1 (to_z-of_z first) long c.put_on-ink.ensures;
+          further _ e.says x i (channel_is _ _ c.channel-c.ensures c.loop.invariant.digits) (to_z-of_z held) c.block.new.levels
+          (c.block.ensures (channel_few _ c.channel-c.ensures) x.here.bits x.follows.met)
+          got c.requires.0 (to_z-of_z first) long c.put_on-ink.ensures;
     }
 
 pub returns : goal.returns

@@ -1,5 +1,6 @@
 -- `put_block`: one turn writes its symbol, and the rest of the block is what comes behind it (`goes`, of Turns).
-use Rattle.std.proofs.Common.{◌≡◌, ◌∙◌, sym, ap, refl, ℕ, ℤ, List, to_z, of_z, w32, arith}
+use Rattle.std.proofs.Common.{◌≡◌, ◌∙◌, sym, ap, refl, ℕ, ℤ, List, length, to_z, of_z, w32, arith}
+use borrow.Author.Tests.{eqb-true, eqb-false}
 use mir.Facts.{to_z-of_z}
 use mir.Val.{SFits}
 use Rattle.reading.specs.Settled.{block_by}
@@ -14,11 +15,13 @@ whole : (dc ac : List ℕ) (p : ℤ) (l : List ℤ) → SFits w32 p → block_by
 whole dc ac p l f =
     ap (λ (z : ℤ). block_by (coder_of dc) (coder_of ac) z l) (sym (to_z-of_z f)) ∙ sym (onwards_block dc ac (to_z w32 (of_z w32 p)) l 0)
 
-pub returns-then-levels-eq0 : goal.returns-then-levels-eq0
-returns-then-levels-eq0 c = is_lack refl (block_empty c.args.dc.now c.args.ac.now c.args.pred c.args.levels.now c.if-levels-eq0.true)
+pub returns-then-is_empty : goal.returns-then-is_empty
+returns-then-is_empty c =
+    is_lack refl (block_empty c.args.dc.now c.args.ac.now c.args.pred c.args.levels.now (eqb-true _ 0 (sym c.if-is_empty.ensures)))
 
 pub loop-pen-init : goal.loop-pen-init
-loop-pen-init c = record { full = omega arith; within = omega arith; low = omega arith; onto = onto_start _ _ c.requires.0 }
+loop-pen-init c =
+    record { full = omega (arith, eqb-false (length c.args.levels.now) 0 (sym c.if-is_empty.ensures)); within = omega arith; low = omega arith; onto = onto_start _ _ c.requires.0 }
 
 pub overflow_add-place : goal.overflow_add-place
 overflow_add-place c =
@@ -44,7 +47,9 @@ returns-in_err-pen c =
 
 pub loop-pen-smaller : goal.loop-pen-smaller
 loop-pen-smaller c =
-    omega (arith, (goes c.args.dc.now c.args.ac.now _ c.args.levels.now _ _ c.loop-pen.invariant.full c.loop-pen.invariant.within c.loop-pen.invariant.low c.zeros_to-zeros.ensures c.if-is_over.ensures c.next-turn.ensures c.word_at-word.ensures).less)
+    let i = c.loop-pen.invariant in
+    let g = goes c.args.dc.now c.args.ac.now _ c.args.levels.now _ _ i.full i.within i.low c.zeros_to-zeros.ensures c.if-is_over.ensures c.next-turn.ensures c.word_at-word.ensures in
+    omega (arith, g.less)
 
 pub loop-pen-preserved : goal.loop-pen-preserved
 loop-pen-preserved c =

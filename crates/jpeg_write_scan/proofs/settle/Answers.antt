@@ -1,6 +1,5 @@
 -- `settle`: what is foretold is the answer, or that the scan fits; what is then written is the settled scan (Told).
 use mathlib.Core.Path.{◌∙◌, ap}
-use native.Mathlib.Omega.{arith}
 use Rattle.std.specs.Prelude.{Err}
 use Rattle.std.proofs.lemmas.Result.{err_from_is_err_and}
 use Rattle.jpeg_scan_plan.proofs.Standing.{ready}
@@ -19,5 +18,5 @@ returns-then-out-n g c = let e = g.E.Engine in short_by e.says g.met.E.Engine.sa
 pub returns : goal.returns
 returns g c =
     let e = g.E.Engine in
-    let u = ready (e.file c.args.engine.now) c.args.found c.requires.1.0 (λ z. omega (arith, c.requires.1.1, z)) in
-    written_by e.says g.met.E.Engine.says_once u c.requires.2 c.requires.1.2 c.requires.3 _ c.foretell.ensures c.in_ok-n.was c.if-out-n.false c.run.ensures
+    let u = ready (e.file c.args.engine.now) c.args.found c.requires.0.0 in
+    written_by e.says g.met.E.Engine.says_once u c.requires.1 c.requires.0.1 c.requires.2 _ c.foretell.ensures c.in_ok-n.was c.if-out-n.false c.run.ensures

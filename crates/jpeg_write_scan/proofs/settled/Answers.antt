@@ -1,25 +1,32 @@
 -- `settled`: no plan, and what a pass by bit places answers.
-use Rattle.std.proofs.Common.{sym, ap, ◌∙◌, arith, length-take-le, take}
+use Rattle.std.proofs.Common.{sym, ap, ◌∙◌, arith, length-take-le, take, Err, ◌<◌}
+use Rattle.std.proofs.lemmas.Result.{err_from_is_err_and}
 use Rattle.jpeg_block_wide.proofs.Stepping.{file_bytes}
-use Rattle.jpeg_scan_plan.proofs.Standing.{ready, unready}
+use Rattle.jpeg_scan_plan.proofs.Standing.{ready}
 use Rattle.jpeg_write_codes.specs.Sheets.{sheet}
-use Rattle.jpeg_write_scan.proofs.SettledAnswers.{says_stop, settled_unread}
+use Rattle.jpeg_write_scan.proofs.SettledAnswers.{says_stop, settled_unplanned}
 use Rattle.jpeg_write_scan.proofs.settled.Goals as goal
 
-pub returns-then-plan-eq0 : goal.returns-then-plan-eq0
-returns-then-plan-eq0 c =
+pub returns-in_err-plan : goal.returns-in_err-plan
+returns-in_err-plan c =
     let a = c.args in
-    let e = unready a.s.now a.found c.of-plan.ensures c.if-plan-eq0.true in
-    rw c.nowhere-then-plan-eq0.ensures (says_stop a.out.now (settled_unread a.s.now a.found (omega (arith, c.if-found-ge4294967296.false)) e))
+    let few : a.found.blocks < 4294967296 = omega arith in
+    let p = err_from_is_err_and c.from_residual.result c.from_residual.ensures.1 in
+    let e = says_stop a.out.now (settled_unplanned a.s.now a.found _ few c.of.ensures c.nowhere-2.ensures c.in_err-plan.ensures.value) in
+    (p.1 ∙ ap Err p.2 ∙ e.0, e.1)
 
 pub slice_bounds-sheet-end : goal.slice_bounds-sheet-end
-slice_bounds-sheet-end c = sym (length-take-le _ _ (ready c.args.s.now c.args.found c.of-plan.ensures c.if-plan-eq0.false).inside)
+slice_bounds-sheet-end c = sym (length-take-le _ _ (ready c.args.s.now c.args.found (sym c.in_ok-plan.ensures.ok_part ∙ c.of.ensures)).inside)
+
+pub invariant_of-settle : goal.invariant_of-settle
+invariant_of-settle c =
+    let u = ready c.args.s.now c.args.found (sym c.in_ok-plan.ensures.ok_part ∙ c.of.ensures) in
+    record { begins = u.inside; some = u.numbers.some }
 
 pub settle-requires : goal.settle-requires
 settle-requires c =
-    let n = c.of-plan.result in (
-      (ready c.args.s.now c.args.found c.of-plan.ensures c.if-plan-eq0.false).inside,
-      (c.of-plan.ensures, omega (arith, c.if-plan-eq0.false), omega (arith, c.if-found-ge4294967296.false)),
-      c.sheet-words.ensures ∙ ap (sheet (take n.start c.args.s.now)) c.bases.ensures,
+    let n = c.in_ok-plan.plan in (
+      (sym c.in_ok-plan.ensures.ok_part ∙ c.of.ensures, omega arith),
+      c.sheet-words.ensures ∙ ap (sheet (take n.start c.args.s.now)) c.paired-bases.ensures,
       file_bytes c.args.s.now c.type_inv.s,
     )

@@ -1,5 +1,5 @@
 -- `settled_wide`: what a fast pass answers, and where that one met a fault what a pass by bit places answers.
-use Rattle.std.proofs.Common.{rules, refl, sym, ap, ◌∙◌, arith, length-take-le, take, Err}
+use Rattle.std.proofs.Common.{rules, refl, sym, ap, ◌∙◌, length-take-le, take, Err}
 use Rattle.jpeg_block_wide.proofs.Stepping.{file_bytes}
 use Rattle.reading.specs.Code.Scans.{nowhere, settled_of, scan_settled, laid_over}
 use Rattle.jpeg_scan_plan.proofs.Standing.{ready}
@@ -9,17 +9,21 @@ use Rattle.jpeg_write_scan.proofs.Told.{told_broken}
 use Rattle.jpeg_write_scan.proofs.settled_wide.Goals as goal
 
 pub slice_bounds-sheet-end : goal.slice_bounds-sheet-end
-slice_bounds-sheet-end c = sym (length-take-le _ _ (ready c.args.s.now c.args.found c.of-plan.ensures c.if-plan-eq0.false).inside)
+slice_bounds-sheet-end c = sym (length-take-le _ _ (ready c.args.s.now c.args.found c.in-Some.ensures).inside)
 
 pub slice_bounds-looks-end : goal.slice_bounds-looks-end
-slice_bounds-looks-end c = sym (length-take-le _ _ (ready c.args.s.now c.args.found c.of-plan.ensures c.if-plan-eq0.false).inside)
+slice_bounds-looks-end c = sym (length-take-le _ _ (ready c.args.s.now c.args.found c.in-Some.ensures).inside)
+
+pub invariant_of-settle : goal.invariant_of-settle
+invariant_of-settle c =
+    let u = ready c.args.s.now c.args.found c.in-Some.ensures in
+    record { begins = u.inside; some = u.numbers.some; looked = c.looks.ensures }
 
 pub settle-requires : goal.settle-requires
 settle-requires c =
-    let n = c.of-plan.result in (
-      ((ready c.args.s.now c.args.found c.of-plan.ensures c.if-plan-eq0.false).inside, c.looks.ensures),
-      (c.of-plan.ensures, omega (arith, c.if-plan-eq0.false), search rules),
-      c.sheet-words.ensures ∙ ap (sheet (take n.start c.args.s.now)) c.bases.ensures,
+    let n = c.in-Some.plan in (
+      (c.in-Some.ensures, search rules),
+      c.sheet-words.ensures ∙ ap (sheet (take n.start c.args.s.now)) c.paired-bases.ensures,
       file_bytes c.args.s.now c.type_inv.s,
     )
 

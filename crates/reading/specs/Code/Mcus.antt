@@ -1,7 +1,7 @@
--- How many MCUs a side has and what an MCU holds, as the code counts them for any numbers: 0 for those that no frame has.
+-- How many MCUs a side has and what an MCU holds, as the code counts them for any numbers: 0 and none for those that no frame has.
 -- It is here for the code: a contract of an inner function cites it, and nothing in it needs to be believed by someone who reads
 -- the theorems of the calls.
-use Rattle.std.specs.Prelude.{ℕ, ◌*◌, Bool, cond, List, leb, get_or}
+use Rattle.std.specs.Prelude.{ℕ, ◌*◌, Bool, cond, List, leb, get_or, Option, Some, None}
 use Rattle.reading.specs.declared.Frame.{Frame}
 use Rattle.reading.specs.declared.Mcu.{Mcu}
 use Rattle.reading.specs.Tests.{◌and◌, within}
@@ -22,12 +22,9 @@ unfoldable pub sampled : Frame → Bool
 sampled f =
     within 1 4 f.channels and each_channel f.channels (factors_fit f.across f.down) and leb (areas (shape_of f).factors) 10
 
-abbrev pub no_mcu : Mcu
-no_mcu = record { across = 0; down = 0; blocks = 0 }
-
 -- what the MCUs of a frame are, for such sampling
-unfoldable pub measured : Frame → Mcu
+unfoldable pub measured : Frame → Option Mcu
 unfolding sampled
 measured f =
     let fs = (shape_of f).factors in
-    cond (sampled f) (record { across = widest fs; down = highest fs; blocks = areas fs }) no_mcu
+    cond (sampled f) (Some (record { across = widest fs; down = highest fs; blocks = areas fs })) None

@@ -20,7 +20,7 @@ most : (n : _) → within 1 4 n ≡ true → n ≤ 4
 most n e = (within_known 1 4 n (subst⁻¹ T e tt)).1
 
 pub returns-then-not-within : goal.returns-then-not-within
-returns-then-not-within c = c.none.ensures ∙ measured_count _ (sym c.within.ensures ∙ c.if-not-within.true)
+returns-then-not-within c = measured_count _ (sym c.within.ensures ∙ c.if-not-within.true)
 
 pub loop-c-init : goal.loop-c-init
 loop-c-init c =
@@ -37,7 +37,7 @@ returns-then-not-within-2 c =
       | then-not-within-2-via-then-not-within-2 w ↦ no_first (within 1 4 h) (within 1 4 v) (sym c.within-in-loop-c.ensures ∙ w.if-not-within-2.true)
       | then-not-within-2-via-else-not-within-2+then-not-within-3 w ↦ no_second (within 1 4 h) (within 1 4 v) (sym w.within-else-not-within-2.ensures ∙ w.if-not-within-3.true)
     ] in
-    c.none-then-not-within-2.ensures ∙ measured_unfit f (walk_unfit _ _ _ c.loop-c.invariant.1 c.loop-c-test.true unfit)
+    measured_unfit f (walk_unfit _ _ _ c.loop-c.invariant.1 c.loop-c-test.true unfit)
 
 pub overflow_add-blocks : goal.overflow_add-blocks
 overflow_add-blocks c =
@@ -57,7 +57,7 @@ loop-c-preserved c = (
 pub returns-then-blocks-gt10 : goal.returns-then-blocks-gt10
 returns-then-blocks-gt10 c =
     let w = walk_done _ _ _ c.loop-c.invariant.1 c.loop-c-test.false in
-    c.none-then-blocks-gt10.ensures ∙ measured_many _ c.loop-c.invariant.0 w.3 (omega (arith, w.2, c.if-blocks-gt10.true))
+    measured_many _ c.loop-c.invariant.0 w.3 (omega (arith, w.2, c.if-blocks-gt10.true))
 
 pub returns : goal.returns
 returns c =

@@ -1,4 +1,0 @@
-pub mod Between
-pub mod Following
-pub mod OneMcu
-pub mod AllMcus
