@@ -10,12 +10,20 @@ ghost use Rattle.jpeg_color.specs.Parts.{red_part, green_part, blue_part};
 
 use reading::Sample;
 
+// A number of 32 bits, clamped to 0..255.
+#[tactic(auto, using(crate::proofs::Clamps::clamps), unfolding(reading::specs::Colour::to_byte))]
+fn clamped(v: i32) -> u8
+    ensures { result ≡ to_byte v }
+{
+    v.clamp(Sample::LEAST as i32, Sample::MOST as i32) as u8
+}
+
 // A whole number, clamped to 0..255. It may be of any type that 32 bits hold: a loop that clamps numbers of 16 bits stays in them, and a
 // vector has twice as many of those.
 pub fn to_byte<T: Into<i32>>(v: T) -> u8
     ensures { (z : ℤ) × T.converts v z × (result ≡ to_byte z) }
 {
-    v.into().clamp(Sample::LEAST as i32, Sample::MOST as i32) as u8
+    clamped(v.into())
 }
 
 // What a chroma sample adds to luma in red: 91881 is 65536 + 26345.

@@ -181,8 +181,10 @@ pixels_one p a zero d = refl
 pixels_one p a (suc n) d =
     one_of (p n) a n (written (λ i. p i 0) a n d) refl ∙ ap (written (p n) (a + n * 1) 1) (pixels_one p a n d)
 
--- n pixels of one channel, copied to the start of a buffer
-pub copied_pixels : (s d ys : List ℕ) (from n : ℕ) → from + n ≤ length s → n ≤ length d → ys ≡ take (from + n - from) (drop from s)
-    → ys ++ drop n d ≡ pixels (λ i c. get_or s (from + i) 0) 1 0 n d
-copied_pixels s d ys from n read room e =
-    copied s d ys from 0 (from + n - from) n n read (omega arith) (omega arith) refl e ∙ pixels_one (λ i c. get_or s (from + i) 0) 0 n d
+-- n pixels of one channel, written one by one from the start of a buffer
+pub front_next : (f : ℕ → ℕ) (n : ℕ) (d e : List ℕ) {x : ℕ} → e ≡ written f 0 n d → x ≡ f n → set e n x ≡ written f 0 (n + 1) d
+front_next f n d e {x} p q = ap (λ k. set e k x) (sym (zero-add n)) ∙ written_next f 0 n d e p q
+
+pub front_pixels : (s d : List ℕ) (from k n : ℕ) {e : List ℕ} → e ≡ written (λ j. get_or s (from + j) 0) 0 k d → k ≡ n
+    → e ≡ pixels (λ i c. get_or s (from + i) 0) 1 0 n d
+front_pixels s d from k n p q = p ∙ ap (λ m. written (λ j. get_or s (from + j) 0) 0 m d) q ∙ pixels_one (λ i c. get_or s (from + i) 0) 0 n d

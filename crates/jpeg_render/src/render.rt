@@ -238,7 +238,9 @@ fn gray(samples: &[u8], from: usize, n: usize, out: &mut [u8])
     requires { (from + n ≤ length samples.now) × (n ≤ length out.old) }
     ensures { out.new ≡ pixels (λ i c. get_or samples.now (from + i) 0) 1 0 n out.old }
 {
-    out[..n].copy_from_slice(&samples[from..from + n]);
+    for i in 0..n {
+        out[i] = samples[from + i];
+    }
 }
 
 // The pixels of an MCU in one row.

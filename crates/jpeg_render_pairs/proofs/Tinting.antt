@@ -1,15 +1,16 @@
 -- What chroma samples add to luma: what a list of such numbers has, and that luma and they make pixels in colour.
 use Prim.Native.Nat.{ℕ, zero, suc, ◌/◌, ◌<◌, ◌≤◌}
-use mathlib.Core.Path.{◌≡◌, refl, ap, ◌∙◌}
+use mathlib.Core.Path.{◌≡◌, ap, ◌∙◌}
 use mathlib.Core.List.{List}
 use native.Mathlib.Omega.{arith}
 use lib.IntN.{ℤ, pos, nat_abs, ◌+ℤ◌}
 use lib.ListN.{length, get_or}
 use mir.Syntax.{w16}
-use mir.Val.{SFits, to_z, of_z}
-use Rattle.whole.specs.Expressions.{at}
+use mir.Val.{to_z, of_z}
+use mir.Facts.{to_z-of_z}
+use Rattle.whole.specs.Expressions.{at, fits_abs}
 use Rattle.reading.specs.Colour.{to_byte}
-use Rattle.jpeg_color.proofs.Luma.{red_is, green_is, blue_is, sum_fits, sum_is}
+use Rattle.jpeg_color.proofs.Luma.{red_is, green_is, blue_is}
 use Rattle.jpeg_render_pairs.specs.Tinted.{in_pairs}
 use Rattle.jpeg_render_pairs.specs.Parts.{First, Part, red_at, green_at, blue_at, summed}
 
@@ -29,15 +30,14 @@ pub record FilledTo (P : ℕ → ℤ → Type 0) (n i : ℕ) (u : List ℤ) : Ty
 
 -- ---- luma and what is added to it
 
-module _ {y i : ℕ} {u : List ℤ} (byte : y < 256) (small : First (λ k x. nat_abs x ≤ 1024) 16 u) (within : i < 16) where
-  pub shade_fits : SFits w16 (to_z w16 y +ℤ to_z w16 (of_z w16 (at u i)))
-  shade_fits = sum_fits w16 {x = at u i} (record { fits = byte }) (refl, small.each i within) tt
-
-  -- what the clamp of the sum, as the machine has it, ensures
-  pub shade : {r : ℕ} → (z : ℤ) × (z ≡ to_z w16 (of_z w16 (to_z w16 y +ℤ to_z w16 (of_z w16 (at u i))))) × (r ≡ to_byte z)
-      → r ≡ to_byte (pos y +ℤ at u i)
-  shade clamped =
-      clamped.2 ∙ ap to_byte (clamped.1 ∙ sum_is w16 {x = at u i} (record { fits = byte }) (refl, small.each i within) tt)
+-- a part is read from its list as it is, since it is small
+pub shade : {r : ℕ} (luma : List ℕ) (u : List ℤ) (i : ℕ)
+    → First (λ k x. nat_abs x ≤ 1024) 16 u
+    → i < 16
+    → r ≡ to_byte (pos (get_or luma i 0) +ℤ to_z w16 (of_z w16 (at u i)))
+    → r ≡ to_byte (pos (get_or luma i 0) +ℤ at u i)
+shade luma u i small within clamped =
+    clamped ∙ ap (λ z. to_byte (pos (get_or luma i 0) +ℤ z)) (to_z-of_z {w = w16} (fits_abs (small.each i within) tt))
 
 -- luma and the parts of a pixel's chroma samples make its colour
 pub summed_in_pairs : (luma cb cr : List ℕ) (n : ℕ) (reds greens blues : List ℤ)

@@ -3,16 +3,25 @@
 // buffer is too short for so many, the buffer stays as it was. The test is made once a row of an MCU.
 #![tactic(auto)]
 
-ghost use Rattle.std.specs.Prelude.{◌≡◌, ◌≤◌, ◌<◌, ◌/◌, ℕ, ℤ, nat_abs, pos, length};
+ghost use Rattle.std.specs.Prelude.{◌≡◌, ◌≤◌, ◌<◌, ◌/◌, ℕ, ℤ, nat_abs, pos, ◌+ℤ◌, length};
+ghost use Rattle.reading.specs.Colour.{to_byte};
 ghost use Rattle.jpeg_render_row.specs.Drawn.{pixels};
 ghost use Rattle.jpeg_render_pairs.specs.Parts.{First, Twice, summed, TintFits};
 ghost use Rattle.jpeg_render_pairs.specs.Tinted.{tinted};
+
+// The part of pixel i, which two pixels side by side have.
+fn part_of(parts: &[i16; 8], i: usize) -> i16
+    requires { i < 16 }
+    ensures { Twice parts.now i result }
+{
+    parts[i / 2]
+}
 
 // Each of 8 parts for two pixels.
 fn twice(parts: &[i16; 8]) -> [i16; 16]
     ensures { First (Twice parts.now) 16 result }
 {
-    std::array::from_fn(|i| parts[i / 2])
+    std::array::from_fn(|i| part_of(parts, i))
 }
 
 // What each of 8 chroma samples, or pairs of them, adds to luma in one channel, for two pixels each. A call is a loop that writes one
@@ -30,8 +39,15 @@ fn parts<F: Fn(usize) -> i32>(part: F) -> [i16; 16]
     twice(&parts)
 }
 
-// Pixels in colour from their luma samples and what is added to them. Sums and clamps stay in 16 bits, which makes the loop quick. Tried, a
-// slice for each pixel by `chunks_exact_mut`: 4:2:0 is drawn with twice the instructions.
+// A sample: luma and what the chroma samples add to it, clamped. Both stay in 16 bits, which makes the loop over pixels quick.
+fn with_luma(y: u8, part: i16) -> u8
+    requires { nat_abs part ≤ 1024 }
+    ensures { result ≡ to_byte (pos y +ℤ part) }
+{
+    jpeg_color::to_byte(y as i16 + part)
+}
+
+// Pixels in colour from their luma samples and what is added to them. Tried, a slice for each pixel by `chunks_exact_mut`: 4:2:0 is drawn with twice the instructions.
 fn tint(
     luma: &[u8; 32],
     reds: &[i16; 16],
@@ -44,10 +60,10 @@ fn tint(
     ensures { out.new ≡ pixels (summed luma.now reds.now greens.now blues.now) 3 0 n out.old }
 {
     for i in 0..n {
-        let y = luma[i] as i16;
-        out[i * 3] = jpeg_color::to_byte(y + reds[i]);
-        out[i * 3 + 1] = jpeg_color::to_byte(y + greens[i]);
-        out[i * 3 + 2] = jpeg_color::to_byte(y + blues[i]);
+        let y = luma[i];
+        out[i * 3] = with_luma(y, reds[i]);
+        out[i * 3 + 1] = with_luma(y, greens[i]);
+        out[i * 3 + 2] = with_luma(y, blues[i]);
     }
 }
 
