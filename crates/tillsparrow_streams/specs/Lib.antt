@@ -2,4 +2,5 @@
 pub mod Read
 pub mod Lines
 pub mod Answers
+pub mod Faults
 pub mod Numbers

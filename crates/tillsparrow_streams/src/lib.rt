@@ -6,8 +6,9 @@ ghost use Rattle.std.specs.Prelude.{ℕ, ◌+◌, ◌≤◌, ◌≡◌, List, On
 ghost use Rattle.std.specs.Io.KnownBytes.{Appends, Consumes};
 ghost use Rattle.tillsparrow_streams.specs.Read.{Fills, Took};
 ghost use Rattle.tillsparrow_streams.specs.Lines.{line_text, fitting, placed};
+ghost use Rattle.tillsparrow_streams.specs.Faults.{fault_text};
 ghost use Rattle.tillsparrow_streams.specs.Answers.{own_limits, refusing, replying, text_of, Answered};
-ghost use Rattle.tillsparrow_streams.specs.Numbers.{numbers_of};
+ghost use Rattle.tillsparrow_streams.specs.Numbers.{numbers_of, numbers_text};
 
 use reading::{Frame, Limits, Record, Refusal, Tables, Verdict};
 use std::io::{Read, Write};
@@ -155,6 +156,10 @@ pub enum Fault {
 }
 
 impl fmt::Display for Fault {
+    ghost use Rattle.std.specs.Prelude.{Some};
+
+    ghost output = { λ fault. Some (fault_text fault) };
+
     fn fmt<W: fmt::Write>(&self, f: &mut fmt::Formatter<W>) -> fmt::Result {
         f.write_str(match self {
             Self::Unread => "tillsparrow: the input cannot be read",
@@ -232,6 +237,10 @@ impl From<Record> for Numbers {
 }
 
 impl fmt::Display for Numbers {
+    ghost use Rattle.std.specs.Prelude.{Some};
+
+    ghost output = { λ numbers. Some (numbers_text numbers.0) };
+
     fn fmt<W: fmt::Write>(&self, f: &mut fmt::Formatter<W>) -> fmt::Result {
         for x in self.0 {
             write!(f, " {x}")?;
