@@ -3,3 +3,4 @@ pub mod Digits
 pub mod Behind
 pub mod Lines
 pub mod Listed
+pub mod Inline

@@ -1,10 +1,10 @@
 -- The lines that the programs write: a refusal's and the head of a picture; and a text put into a line.
-use Rattle.std.specs.Prelude.{ℕ, zero, suc, ◌+◌, ◌-◌, ◌/◌, ◌%◌, min, ◌≡◌, refl, cond, List, [], ◌∷◌, ◌++◌, ltb, eqb, length}
+use Rattle.std.specs.Prelude.{ℕ, zero, suc, ◌+◌, ◌-◌, ◌/◌, ◌%◌, min, ◌≡◌, refl, cond, List, [], ◌∷◌, ◌++◌, ltb, eqb, length, take}
 use Rattle.std.proofs.Math.Seq.{paste}
 use Rattle.reading.specs.declared.Record.{Record}
 use Rattle.reading.specs.Calls.{number_of}
 use Rattle.tillsparrow_streams.specs.declared.Line.{Line}
-use Rattle.tillsparrow_streams.specs.declared.Line.TheVariants.{Empty, Refused, Picture}
+use Rattle.tillsparrow_streams.specs.declared.Line.TheVariants.{Empty, Refused, Picture, Text}
 
 -- ---- texts
 
@@ -54,6 +54,7 @@ unfoldable pub line_text : Line → List ℕ
 line_text Empty = []
 line_text (Refused x) = refused (number_of x)
 line_text (Picture r) = picture_head r
+line_text (Text bytes n) = take n bytes
 
 -- how many bytes of a text have room in a line from a place on
 abbrev pub fitting : List ℕ → ℕ → List ℕ → ℕ

@@ -11,8 +11,9 @@ ghost use Rattle.tillsparrow_streams.specs.Answers.{own_limits, refusing, replyi
 ghost use Rattle.tillsparrow_streams.specs.Numbers.{numbers_of, numbers_text};
 
 use reading::{Frame, Limits, Record, Refusal, Tables, Verdict};
-use std::io::{Read, Write};
-use std::{fmt, io};
+use std::fmt::{self, InlineText, Write as _};
+use std::io::{self, Read, Write};
+use std::str;
 
 // A read of a stream failed, behind so many bytes.
 #[derive(Clone, Copy, Debug, PartialEq, Eq)]
@@ -70,12 +71,22 @@ pub fn put(line: &mut [u8], at: usize, text: &[u8]) -> usize
     at + n
 }
 
-// What stands before the bytes of its output that a program writes: nothing, `refused N`, or the head of a record's picture.
+// What stands before the bytes of its output that a program writes: nothing, `refused N`, the head of a record's picture, or the first
+// so many bytes of any text, which need not be UTF-8.
 #[derive(Clone, Copy, Debug, PartialEq, Eq)]
 pub enum Line {
     Empty,
     Refused(Refusal),
     Picture(Record),
+    Text {
+        bytes: [u8; Line::ROOM],
+        length: usize,
+    },
+}
+
+impl Line {
+    // the head of a picture has at most 49 bytes, whatever its record
+    pub const ROOM: usize = 64;
 }
 
 impl fmt::Display for Line {
@@ -97,6 +108,10 @@ impl fmt::Display for Line {
                 } = found.frame;
                 let kind = if channels == 1 { "P5" } else { "P6" };
                 writeln!(f, "{kind}\n{width} {height}\n255")
+            }
+            Self::Text { bytes, length } => {
+                let text = bytes.get(..*length).ok_or(fmt::Error)?;
+                f.write_str(str::from_utf8(text).map_err(|_| fmt::Error)?)
             }
         }
     }
@@ -131,12 +146,21 @@ impl Answer {
     }
 }
 
-// Writes an answer to a stream; it is an error that the output has fewer bytes than follow the line, too.
+// Writes an answer to a stream: its line by one `write_all`, so that the lines of programs that share a file or a pipe stay whole, and what
+// follows by another. It is an error that a text has fewer bytes than its length says, or the output fewer than follow the line, too.
 pub fn write<W: Write>(stream: &mut W, answer: Answer, output: &[u8]) -> io::Result<()>
     ensures room { OnOk result (answer.follow ≤ length output.now) }
     ensures written { OnOk result (Appends (W.contents stream.old) (W.contents stream.new) (text_of answer output.now)) }
 {
-    write!(stream, "{}", answer.line)?;
+    let mut text = InlineText::<{ Line::ROOM }>::new();
+    let line = match &answer.line {
+        Line::Text { bytes, length } => bytes.get(..*length).ok_or(io::ErrorKind::InvalidInput)?,
+        line => {
+            write!(text, "{line}").map_err(|_| io::ErrorKind::InvalidInput)?;
+            text.as_str().as_bytes()
+        }
+    };
+    stream.write_all(line)?;
     write_first(stream, output, answer.follow)
 }
 
