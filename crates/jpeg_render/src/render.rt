@@ -15,14 +15,24 @@ ghost use Rattle.jpeg_render.specs.Mcus.{OneFits, OneSpread, LanesFit, in_lanes,
 
 use crate::layout::Measured;
 
+// The 8 samples of a block in one row, to the places from x on. Here and in `gray` byte by byte: a copy of slices asks how far apart its two
+// places lie, and one of any length is a call of `memmove`, which the archive for C does without.
+fn gather_8(samples: &[u8], from: usize, x: usize, list: &mut [u8; 32])
+    requires { (from + 8 ≤ length samples.now) × (x + 8 ≤ 32) }
+    ensures { list.new ≡ written (λ j. get_or samples.now (from + j) 0) x 8 list.old }
+{
+    for j in 0..8 {
+        list[x + j] = samples[from + j];
+    }
+}
+
 // The samples of some blocks side by side: each has 8 of them.
 fn gather(samples: &[u8], from: usize, blocks: usize, list: &mut [u8; 32])
     requires { (from + 64 * blocks ≤ length samples.now + 56) × (blocks ≤ 4) }
     ensures { Gathered samples.now from (8 * blocks) list.new }
 {
     for block in 0..blocks {
-        let at = from + 64 * block;
-        list[8 * block..8 * block + 8].copy_from_slice(&samples[at..at + 8]);
+        gather_8(samples, from + 64 * block, 8 * block, list);
     }
 }
 

@@ -8,8 +8,8 @@ use native.Mathlib.Omega.{arith}
 use borrow.Author.Tests.{lt-ltb, le-ltb, ltb-true, ltb-false, lt-leb}
 use lib.Dec.{T, ltb, leb, leb→le}
 use lib.IntN.{ℤ}
-use lib.ListN.{length, take, drop, take-append-drop, drop_of_length-le, length-append, length-drop}
-use lib.Seq.{drop_at, drop-drop, take_all, length-take-le}
+use lib.ListN.{length, take, drop, set, get_or, take-append-drop, drop_of_length-le, length-append, length-drop}
+use lib.Seq.{set_at, drop_at, drop-cons, drop-drop, take-suc, take_all, length-take-le}
 use Rattle.reading.specs.declared.Bits.{Bits}
 use Rattle.reading.specs.declared.Budget.{Budget}
 use Rattle.reading.specs.declared.Break.{Break}
@@ -28,6 +28,25 @@ use Rattle.reading.proofs.Counted.{scan_levels}
 use Rattle.reading.proofs.Plain.{and_left}
 use Rattle.jpeg_write_scan.proofs.Lengths.{settled_length}
 use Rattle.jpeg_settle.specs.Refiled.{remade, scan_laid, joined, settled_into, refiled_by, refiled}
+
+-- ---- the head copied
+
+module _ (s out : List ℕ) (i : ℕ) where
+  pub copied_length : i ≤ length s → i ≤ length out → {out' : List ℕ} → out' ≡ take i s ++ drop i out → length out' ≡ length out
+  copied_length h k e = ap length e ∙ length-append (take i s) (drop i out) ∙ whole (length-take-le i s h) (length-drop i out)
+    where
+      whole : {m n : ℕ} → m ≡ i → n ≡ length out - i → m + n ≡ length out
+      whole p q = omega (arith, p, q, k)
+
+  pub copied_next : i < length s → i < length out → {out' : List ℕ} → out' ≡ take i s ++ drop i out → set out' i (get_or s i 0) ≡ take (i + 1) s ++ drop (i + 1) out
+  copied_next h k e =
+      ap (λ l. set l i (get_or s i 0)) (e ∙ ap (λ l. take i s ++ l) (drop-cons out i 0 k))
+      ∙ set_at (take i s) (get_or out i 0) (drop (suc i) out) (get_or s i 0) i (length-take-le i s (omega (arith, h)))
+      ∙ sym (ap (λ l. l ++ drop (suc i) out) (take-suc s i 0 h) ∙ append_assoc (take i s) (get_or s i 0 ∷ []) (drop (suc i) out))
+      ∙ ap (λ k. take k s ++ drop k out) next
+    where
+      next : suc i ≡ i + 1
+      next = omega arith
 
 -- ---- the scan's place
 

@@ -2,7 +2,7 @@
 // Any record may come in.
 #![tactic(auto)]
 
-ghost use Rattle.std.specs.Prelude.{◌≡◌, ◌+◌, ◌≤◌, ◌<◌, ◌^◌, length};
+ghost use Rattle.std.specs.Prelude.{◌≡◌, ◌+◌, ◌≤◌, ◌<◌, ◌^◌, ◌++◌, length, take, drop};
 ghost use Rattle.reading.specs.declared.Budget.{Budget};
 ghost use Rattle.reading.specs.Code.Scans.{settled_of, scan_settled, refusal_of};
 ghost use Rattle.jpeg_settle.specs.declared.Unfiled.TheVariants.{Refused};
@@ -57,6 +57,16 @@ fn scan(s: &[u8], found: Record, out: &mut [u8]) -> Result<usize, Unsettled>
     jpeg_write_scan::settled(s, found, &mut out[start..])
 }
 
+// The first n bytes. Byte by byte: a copy of slices of any length is a call of `memmove`, which the archive for C does without.
+fn copy(s: &[u8], n: usize, out: &mut [u8])
+    requires { (n ≤ length s.now) × (n ≤ length out.old) }
+    ensures { out.new ≡ take n s.now ++ drop n out.old }
+{
+    for i in 0..n {
+        out[i] = s[i];
+    }
+}
+
 // Behind a scan of n bytes: 7, or the head before it.
 #[tactic(auto, unfolding(crate::specs::Refiled::joined))]
 fn join(s: &[u8], start: usize, n: usize, out: &mut [u8]) -> Result<usize, Unfiled>
@@ -67,7 +77,7 @@ fn join(s: &[u8], start: usize, n: usize, out: &mut [u8]) -> Result<usize, Unfil
     if out.len() < length {
         return Err(Unfiled::Short(length));
     }
-    out[..start].copy_from_slice(&s[..start]);
+    copy(s, start, out);
     Ok(length)
 }
 

@@ -127,6 +127,16 @@ fn line(block: &[i64; 64], i: usize, s: usize) -> [i64; 8]
     std::array::from_fn(|k| block[i + k * s])
 }
 
+// Eight values, to the places from i on. One by one: a copy of slices asks how far apart its two places lie.
+fn put_row(block: &mut [i64; 64], i: usize, values: &[i64; 8])
+    requires { i + 7 < 64 }
+    ensures { block.new ≡ puts block.old (place i 1) (at values.now) 8 }
+{
+    for u in 0..8 {
+        block[i + u] = values[u];
+    }
+}
+
 // The row that starts at place i, each of its eight inputs replaced by the output at its place.
 fn row(block: &mut [i64; 64], i: usize)
     requires { (Within (2 ^ 40) block.old) × (i + 7 < 64) }
@@ -138,7 +148,7 @@ fn row(block: &mut [i64; 64], i: usize)
     if (c1 | c2 | c3 | c4 | c5 | c6 | c7) == 0 {
         block[i..i + 8].fill(c0 * 11585);
     } else {
-        block[i..i + 8].copy_from_slice(&outputs(c));
+        put_row(block, i, &outputs(c));
     }
 }
 

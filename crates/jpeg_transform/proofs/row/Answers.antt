@@ -46,7 +46,6 @@ returns-then-c1-c2-eq0 c =
     c.told-block c.requires.1
 
 pub returns-else-c1-c2-eq0 : goal.returns-else-c1-c2-eq0
+unfolding rowed
 returns-else-c1-c2-eq0 c =
-    written c.args.block.now c.copy_from_slice.new.self c.args.i
-    (c.copy_from_slice.ensures.after ∙ c.outputs.ensures ∙ inputs_lines c.args.block.now c.args.i 1 c.line-c.ensures)
-    c.told-block c.requires.1
+    c.put_row.ensures ∙ ap (λ (xs : List ℤ). puts c.args.block.now (place c.args.i 1) (at xs) 8) (c.outputs.ensures ∙ inputs_lines c.args.block.now c.args.i 1 c.line-c.ensures)
