@@ -31,10 +31,7 @@ use reading::{Break, Fault, Record, ScanCursor, Unsettled};
 fn word_at(dc: &[u32], ac: &[u32], place: usize, x: usize) -> usize
     ensures { result ≡ word_at dc.now ac.now place x }
 {
-    if place == 0 {
-        return jpeg_write_codes::word_of(dc, x);
-    }
-    jpeg_write_codes::word_of(ac, x)
+    jpeg_write_codes::word_of(if place == 0 { dc } else { ac }, x)
 }
 
 // How many levels from a place on are zero, where those from `reach` on are known to be zero and need not be looked at.

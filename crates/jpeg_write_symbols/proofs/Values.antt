@@ -7,7 +7,7 @@ use lib.ListN.{get_or}
 use Rattle.jpeg_write_symbols.specs.Turns.{value_at}
 
 module _ (l : List ℤ) (p : ℤ) where
-  pub value_first : (k : ℕ) → k ≡ 0 → get_or l 0 (pos 0) -ℤ p ≡ value_at l p k
+  pub value_first : (k : ℕ) → k ≡ 0 → get_or l k (pos 0) -ℤ p ≡ value_at l p k
   unfolding value_at
   value_first k e = rw e
 

@@ -31,25 +31,24 @@ fn value_at(levels: &[i16], pred: i32, place: usize) -> i64
     requires { place < length levels.now }
     ensures { result ≡ value_at levels.now pred place }
 {
+    let level = i64::from(levels[place]);
     if place == 0 {
-        return i64::from(levels[0]) - i64::from(pred);
+        return level - i64::from(pred);
     }
-    i64::from(levels[place])
+    level
 }
 
 // How many levels from a place on are zero; none at the first place, whose level is written in any case.
 pub fn zeros_from(levels: &[i16], place: usize) -> usize
     ensures { result ≡ zeros_at levels.now place }
 {
-    if place == 0 {
+    if place == 0 || levels.len() <= place {
         return 0;
     }
-    for k in place..levels.len() {
-        if levels[k] != 0 {
-            return k - place;
-        }
-    }
-    levels.len().saturating_sub(place)
+    levels[place..]
+        .iter()
+        .take_while(|level| **level == 0)
+        .count()
 }
 
 // All is written: the levels are at their end, and no zeros wait for the end code.
@@ -57,10 +56,7 @@ pub fn zeros_from(levels: &[i16], place: usize) -> usize
 pub fn is_over(count: usize, place: usize, run: usize) -> bool
     ensures { result ≡ over count place run }
 {
-    if count <= place {
-        return run == 0;
-    }
-    false
+    count <= place && run == 0
 }
 
 // What is written next of a block: a symbol, the low `size` bits of a field behind it; and from which place on, behind how
