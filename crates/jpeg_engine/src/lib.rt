@@ -172,7 +172,7 @@ impl<'a> Engine for Plain<'a> {
 }
 
 // Before the first block of a scan whose first coded byte is at `at`.
-fn fresh(at: usize) -> ScanCursor<Wide>
+pub fn fresh(at: usize) -> ScanCursor<Wide>
     ensures { result ≡ started at }
 {
     ScanCursor {
@@ -184,7 +184,7 @@ fn fresh(at: usize) -> ScanCursor<Wide>
 
 // Before MCU m: where a restart is due, its marker, and the predictors become 0. Where eight bits or more are left no marker is next.
 #[tactic(auto, unfolding(crate::specs::Between::restarted_wide))]
-fn restart(
+pub fn restart(
     s: &[u8],
     from: ScanCursor<Wide>,
     m: usize,
@@ -217,7 +217,7 @@ fn restart(
 
 // After the last block: the marker 217, and no byte behind it.
 #[tactic(auto, unfolding(crate::specs::Between::ends_wide))]
-fn at_end(s: &[u8], w: Wide) -> bool
+pub fn at_end(s: &[u8], w: Wide) -> bool
     ensures { result ≡ ends_wide s.now w }
 {
     w.left <= 7 && jpeg_scan_plan::at_end(s, jpeg_bits_wide::narrow(w))

@@ -8,9 +8,16 @@ ghost use Rattle.reading.specs.Code.Scans.{scan_of};
 ghost use Rattle.reading.specs.Code.Answers.{scan_read};
 ghost use Rattle.jpeg_scan.specs.Steps.{drawn_for};
 
+use jpeg_bits_wide::Wide;
 use jpeg_engine::Fast;
 use jpeg_scan_plan::Plan;
-use reading::{Break, Record};
+use reading::{Break, Record, ScanCursor};
+
+// Between the MCUs: before the first block, the restart, the end, at any cursor of the fast engine.
+pub use jpeg_engine::{at_end, fresh, restart};
+
+// A scan before a block, as the fast engine keeps it: up to 64 bits at once, the predictors and the count of blocks done.
+pub type WideCursor = ScanCursor<Wide>;
 
 // The scan of a record is read, and nothing is kept of it.
 pub fn validate(s: &[u8], found: Record) -> Result<(), Break>
