@@ -79,13 +79,13 @@ module _
             → Stands (take n.start s) n p
             → (ahead s p n.blocks q₀ ≡ broke b) × (write ≡ false → new' ≡ old)
         broken {b} v p st =
-            let x : Behind s p n q write new (Err b) new' = v.each p st at_mcu i in
+            let x : Behind s p n q write new (Err b) new' = v.each p st at_mcu in
             ((o p st).same ∙ ap (before (o p st).levels) x.0 ∙ before_broke (o p st).levels b, λ (t : write ≡ false). x.1 t ∙ unchanged p st t)
 
         -- it is read
         module _ {b : ScanCursor Bits} (v : Went s n m q write new (Ok b) new') where
           passed : (p : scan.Plan) → Stands (take n.start s) n p → Passed s p n q b write new new'
-          passed p st = v.each p st at_mcu i
+          passed p st = v.each p st at_mcu
 
           pub gained : (p : scan.Plan) → Stands (take n.start s) n p → b.done ≡ q.done + min n.per (n.blocks - q.done)
           gained p st = let x = passed p st in omega (arith, x.place, x.count)

@@ -73,28 +73,47 @@ module _ {P : Type 0} (meets : Bits → P → Type 0) where
       let x = led_on meets (restarted s n.interval m turn) (subst (Led meets (restarted s n.interval m turn)) g a) in
       record { start = x.start; here = x.start; led = x.is; begun = x.follows; follows = x.follows; walk = plain.begin s n write old x.start }
 
+  -- blocks are left at a cursor that is followed
+  pub left : {n n' : Plan} {q : ScanCursor Bits} {w : ScanCursor P} → n' ≡ n → Follows meets q w → w.done < n'.blocks → q.done < n.blocks
+  left e f h = omega (arith, f.place, ap (λ (n : Plan). n.blocks) e)
+
+  -- no block is left
+  pub over :
+      (says : Break → Break) (s : List ℕ) (m : ℕ) (turn : ScanCursor Bits) (write : Bool) (old : List ℕ) {n n' : Plan} {w : ScanCursor P}
+      → n' ≡ n
+      → Follows meets turn w
+      → n'.blocks ≤ w.done
+      → Told meets says s n m turn write old (Ok w) old
+  over says s m turn write old {n} e f h =
+      record {
+        told = Ok turn;
+        went = plain.over s n m turn write old (omega (arith, f.place, ap (λ (n : Plan). n.blocks) e));
+        along = f;
+      }
+
   -- the restart breaks
   pub halted :
       (says : Break → Break) (s : List ℕ) (n : Plan) (m : ℕ) (turn : ScanCursor Bits) (write : Bool) (old : List ℕ)
       {r : Result (ScanCursor P) Fault} {f : Fault} {v : Break}
+      → turn.done < n.blocks
       → Led meets (restarted s n.interval m turn) r
       → r ≡ Err f
       → v ≡ says (broke_in turn turn f)
       → Told {P = P} meets says s n m turn write old (Err v) old
-  halted says s n m turn write old {r} {f} a g e =
+  halted says s n m turn write old {r} {f} i a g e =
       let off = led_off meets (restarted s n.interval m turn) (subst (Led meets (restarted s n.interval m turn)) g a) in
-      record { told = _; went = plain.halted s n m turn write old off; along = e ∙ ap says (broke_first turn turn f refl) }
+      record { told = _; went = plain.halted s n m turn write old i off; along = e ∙ ap says (broke_first turn turn f refl) }
 
   module _
       (says : Break → Break) {s : List ℕ} {n : Plan} {m : ℕ} {turn : ScanCursor Bits} {write : Bool} {old : List ℕ} {w₀ : ScanCursor P}
       {new : List ℕ} {w : ScanCursor P} {j : ℕ} (x : Walk s n m turn write old w₀ new w j)
     where
       -- the last block of the MCU is read, or of the scan
-      pub whole : j ≡ min n.per (n.blocks - w₀.done) → Told meets says s n m turn write old (Ok w) new
-      whole h =
+      pub whole : turn.done < n.blocks → j ≡ min n.per (n.blocks - w₀.done) → Told meets says s n m turn write old (Ok w) new
+      whole i h =
           record {
             told = Ok x.here;
-            went = plain.whole x.walk m turn x.led (h ∙ ap (λ (k : ℕ). min n.per (n.blocks - k)) x.begun.place);
+            went = plain.whole x.walk m turn i x.led (h ∙ ap (λ (k : ℕ). min n.per (n.blocks - k)) x.begun.place);
             along = x.follows;
           }
 
@@ -118,11 +137,17 @@ module _ {P : Type 0} (meets : Bits → P → Type 0) where
                 (subst (λ (b : Result (BlockRead P) Fault). Alike meets (block_here s n c y x.here.bits) b levels) g
                 (t (plain.below n.order j u) x.here.bits x.follows.met))
 
-            pub broken : {f : Fault} → a ≡ Err f → {v : Break} → v ≡ says (broke_in turn x.here f) → Told {P = P} meets says s n m turn write old (Err v) new
-            broken g e =
+            pub broken :
+                turn.done < n.blocks
+                → {f : Fault}
+                → a ≡ Err f
+                → {v : Break}
+                → v ≡ says (broke_in turn x.here f)
+                → Told {P = P} meets says s n m turn write old (Err v) new
+            broken i g e =
                 record {
                   told = _;
-                  went = plain.broken x.walk within inside u (refused _ levels (there g)) m turn x.led refl;
+                  went = plain.broken x.walk within inside u (refused _ levels (there g)) m turn i x.led refl;
                   along = e;
                 }
 

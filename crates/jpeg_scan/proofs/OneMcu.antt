@@ -227,11 +227,11 @@ module _
 
     -- ---- the MCU to whose blocks its restart led from `turn`
 
-    module _ (m : ℕ) (turn : ScanCursor Bits) (r : Ok from ≡ restarted s n.interval m turn) where
+    module _ (m : ℕ) (turn : ScanCursor Bits) (i : turn.done < n.blocks) (r : Ok from ≡ restarted s n.interval m turn) where
       same_done : turn.done ≡ from.done
       same_done = sym (restart_done s n.interval m turn r)
 
-      module _ (p : scan.Plan) (st : Stands (head n s) n p) (e : turn.done ≡ m * n.per) (i : turn.done < n.blocks) where
+      module _ (p : scan.Plan) (st : Stands (head n s) n p) (e : turn.done ≡ m * n.per) where
         to_blocks : ahead s p n.blocks turn ≡ resumed s p n.blocks turn from
         to_blocks = restart_next st s m n.blocks turn e i ∙ ap (λ (z : Result (ScanCursor Bits) Fault). went turn z (resumed s p n.blocks turn)) (sym r)
 
@@ -251,7 +251,7 @@ module _
 
       -- its last block, or the scan's, is read
       pub whole : j ≡ min n.per (n.blocks - from.done) → Went s n m turn write old (Ok q) new
-      whole c = record { size = w.size; each = λ p st e i. passed p st e i c }
+      whole c = record { size = w.size; each = λ p st e. passed p st e c }
 
     -- ---- block j
 
@@ -281,28 +281,48 @@ module _
         -- it breaks
         pub broken :
             (m : ℕ) (turn : ScanCursor Bits)
+            → turn.done < n.blocks
             → Ok from ≡ restarted s n.interval m turn
             → {f : Fault}
             → x ≡ Err f
             → Went s n m turn write old (Err (broke_in turn q f)) new
-        broken m turn r g =
+        broken m turn l r g =
             record {
               size = w.size;
-              each = λ p st e l. (
-                to_blocks m turn r p st e l ∙ stops p m st (at_from m turn r p st e l) h i u v g turn (same_done m turn r),
-                unwritten p m st (at_from m turn r p st e l) h i u v,
+              each = λ p st e. (
+                to_blocks m turn l r p st e ∙ stops p m st (at_from m turn l r p st e) h i u v g turn (same_done m turn l r),
+                unwritten p m st (at_from m turn l r p st e) h i u v,
               );
             }
+
+-- no block is left
+pub over :
+    (s : List ℕ) (n : Plan) (m : ℕ) (turn : ScanCursor Bits) (write : Bool) (old : List ℕ)
+    → n.blocks ≤ turn.done
+    → Went s n m turn write old (Ok turn) old
+over s n m turn write old h =
+    record {
+      size = refl;
+      each = λ p st e.
+          record {
+            levels = [];
+            count = omega arith;
+            place = omega arith;
+            same = sym (before_none (ahead s p n.blocks turn));
+            here = λ quant qs. sym (inked_none p.shape quant write turn.done old);
+          };
+    }
 
 -- the restart of an MCU breaks
 pub halted :
     (s : List ℕ) (n : Plan) (m : ℕ) (turn : ScanCursor Bits) (write : Bool) (old : List ℕ) {f : Fault}
+    → turn.done < n.blocks
     → Err f ≡ restarted s n.interval m turn
     → Went s n m turn write old (Err (broke_at turn f)) old
-halted s n m turn write old r =
+halted s n m turn write old i r =
     record {
       size = refl;
-      each = λ p st e i. (
+      each = λ p st e. (
         restart_next st s m n.blocks turn e i ∙ ap (λ (z : Result (ScanCursor Bits) Fault). went turn z (resumed s p n.blocks turn)) (sym r),
         λ t. refl,
       );

@@ -1,5 +1,5 @@
 -- The steps in which a scan is read: the blocks from a cursor on, the blocks of an MCU; and what is left in the scratch.
-use Rattle.std.specs.Prelude.{◌≡◌, List, [], ◌∷◌, ◌++◌, Bool, true, false, ℕ, zero, suc, ◌+◌, ◌*◌, ◌-◌, ◌<◌, min, length, get_or, set, take, drop, ℤ, pos, Some, Result, Ok, Err}
+use Rattle.std.specs.Prelude.{◌≡◌, List, [], ◌∷◌, ◌++◌, Bool, true, false, ℕ, zero, suc, ◌+◌, ◌*◌, ◌-◌, min, length, get_or, set, take, drop, ℤ, pos, Some, Result, Ok, Err}
 use Rattle.reading.specs.declared.Bits.{Bits}
 use Rattle.reading.specs.declared.Break.{Break}
 use Rattle.reading.specs.declared.Record.{Record}
@@ -73,7 +73,7 @@ abbrev pub Behind : List ℕ → scan.Plan → Plan → ScanCursor Bits → Bool
 Behind s p n from write old (Ok q) new = Passed s p n from q write old new
 Behind s p n from write old (Err w) new = (ahead s p n.blocks from ≡ broke w) × (write ≡ false → new ≡ old)
 
--- for every plan of the rules that the numbers stand for, where MCU m starts at the cursor and blocks are left
+-- for every plan of the rules that the numbers stand for, where MCU m starts at the cursor; behind the last block none is left to read
 pub record Went
     (s : List ℕ) (n : Plan) (m : ℕ) (from : ScanCursor Bits) (write : Bool) (old : List ℕ)
     (r : Result (ScanCursor Bits) Break) (new : List ℕ) : Type 0 where
@@ -82,7 +82,6 @@ pub record Went
       (p : scan.Plan)
       → Stands (take n.start s) n p
       → from.done ≡ m * n.per
-      → from.done < n.blocks
       → Behind s p n from write old r new
 
 -- ---- by an engine

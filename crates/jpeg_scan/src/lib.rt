@@ -41,9 +41,9 @@ pub fn paint(
     );
 }
 
-// MCU m, before which the scan stands at `before`: the restart, where one is due, and the blocks, as many as are left of the scan. Where
-// `write` says so, each block's samples go into its own part of the scratch. The engine comes by value and the cursor's parts stand alone:
-// tried, an engine that is lent costs 7 % of reading, and a cursor that stays whole 4 %.
+// MCU m, before which the scan stands at `before`: the restart, where one is due, and the blocks, as many as are left of the scan; where none
+// is left, nothing. Where `write` says so, each block's samples go into its own part of the scratch. The engine comes by value and the
+// cursor's parts stand alone: tried, an engine that is lent costs 7 % of reading, and a cursor that stays whole 4 %.
 fn mcu<E: Engine>(
     engine: E,
     m: usize,
@@ -55,6 +55,9 @@ fn mcu<E: Engine>(
     ensures { WentBy (E.meets engine) E.says (E.file engine) (E.plan_of engine) m before write scratch.old result scratch.new }
 {
     let plan = engine.plan();
+    if plan.blocks <= before.done {
+        return Ok(before);
+    }
     let t = engine.head();
     let ScanCursor {
         mut bits,

@@ -1,7 +1,8 @@
 -- One MCU by an engine. Its cursor follows a cursor of the scan, and there all is as the rules have it (McuPassed).
-use Prim.Native.Nat.{ℕ, ◌+◌, ◌<◌}
+use Prim.Native.Nat.{ℕ, ◌+◌, ◌<◌, ◌≤◌}
 use mathlib.Core.Path.{◌≡◌, refl, sym, ◌∙◌, ap, subst}
 use mathlib.Core.List.{List}
+use native.Mathlib.Omega.{arith}
 use lib.IntN.{ℤ, pos}
 use lib.ListN.{length, get_or, set}
 use Rattle.std.specs.Prelude.{Option, Result, Ok, Err}
@@ -23,7 +24,7 @@ use Rattle.jpeg_scan.proofs.Onward.{past}
 use Rattle.jpeg_write_bits.specs.declared.Pen.{Pen}
 use Rattle.jpeg_write_scan.specs.declared.Moved.{Moved}
 use Rattle.jpeg_write_scan.specs.Steps.{Quiet}
-use Rattle.jpeg_write_scan.specs.Pass.{blocks_at, Moves}
+use Rattle.jpeg_write_scan.specs.Pass.{blocks_at, Fit, Moves}
 use Rattle.jpeg_engine.specs.Engines.{Follows, Led, block_here, Alike}
 use Rattle.jpeg_write_scan.specs.Engines.{Worded, Passed}
 use Rattle.jpeg_write_scan.proofs.Quiets.{quiet_levels}
@@ -86,16 +87,33 @@ module _ {P : Type 0} (meets : Bits → P → Type 0) where
       let put = subst (λ (i : ℕ). Moves (cut (due_before i m) (restart_before i m)) from.ink old pen mid) e o in
       record { start = x.start; here = x.start; begun = x.follows; follows = x.follows; walk = plain.begin l x.is put }
 
+  -- no block is left
+  pub over :
+      (says : Break → Break) (s : List ℕ) (m : ℕ) (q : ScanCursor Bits) (old : List ℕ) {n n' : Plan} {at : Moved P}
+      → n' ≡ n
+      → Follows meets q at.cursor
+      → Fit at.ink
+      → n'.blocks ≤ at.cursor.done
+      → Passed meets says s n m (record { cursor = q; ink = at.ink }) old (Ok at) old
+  over says s m q old {n} {at = at} e f i h =
+      let from : Moved Bits = record { cursor = q; ink = at.ink } in
+      record {
+        told = Ok from;
+        went = plain.over s n m from old i (omega (arith, f.place, ap (λ (n : Plan). n.blocks) e));
+        along = (f, refl);
+      }
+
   -- the restart is not read
   pub stopped :
       (says : Break → Break) (s : List ℕ) (n : Plan) (m : ℕ) (from : Moved Bits) (old : List ℕ) {r : Result (ScanCursor P) Fault} {f : Fault} {w : Break}
+      → from.cursor.done < n.blocks
       → Led meets (restarted s n.interval m from.cursor) r
       → r ≡ Err f
       → w ≡ says (broke_in from.cursor from.cursor f)
       → Passed {P = P} meets says s n m from old (Err w) old
-  stopped says s n m from old {r} {f} a g e =
+  stopped says s n m from old {r} {f} i a g e =
       let off = led_off meets (restarted s n.interval m from.cursor) (subst (Led meets (restarted s n.interval m from.cursor)) g a) in
-      record { told = Err (broke_at from.cursor f); went = plain.stopped s n m from old off; along = e ∙ ap says (broke_first from.cursor from.cursor f refl) }
+      record { told = Err (broke_at from.cursor f); went = plain.stopped s n m from old i off; along = e ∙ ap says (broke_first from.cursor from.cursor f refl) }
 
   module _
       (says : Break → Break) {s : List ℕ} {n : Plan} {m : ℕ} {from : Moved Bits} {old : List ℕ} {w₀ : ScanCursor P} {pen : Option Pen}
@@ -106,11 +124,11 @@ module _ {P : Type 0} (meets : Bits → P → Type 0) where
       done_is = x.follows.place ∙ x.walk.along.place ∙ ap (λ (k : ℕ). k + j) (sym x.begun.place)
 
       -- the last block is written
-      pub whole : j ≡ blocks_at n w₀.done → Passed meets says s n m from old (Ok (record { cursor = w; ink = ink })) new
-      whole h =
+      pub whole : from.cursor.done < n.blocks → j ≡ blocks_at n w₀.done → Passed meets says s n m from old (Ok (record { cursor = w; ink = ink })) new
+      whole i h =
           record {
             told = Ok (record { cursor = x.here; ink = ink });
-            went = plain.whole x.walk (h ∙ ap (λ (d : ℕ). blocks_at n d) x.begun.place);
+            went = plain.whole x.walk i (h ∙ ap (λ (d : ℕ). blocks_at n d) x.begun.place);
             along = (x.follows, refl);
           }
 
@@ -131,9 +149,15 @@ module _ {P : Type 0} (meets : Bits → P → Type 0) where
                 subst (λ (z : ℤ). Alike meets (block_here s n c z x.here.bits) b levels) behind
                 (subst (λ (b : Result (BlockRead P) Fault). Alike meets (block_here s n c y x.here.bits) b levels) g t)
 
-            pub broken : {f : Fault} → a ≡ Err f → {v : Break} → v ≡ says (broke_in from.cursor x.here f) → Passed {P = P} meets says s n m from old (Err v) new
-            broken {f} g e =
-                record { told = Err (broke_in from.cursor x.here f); went = plain.broken x.walk inside u (no_block _ levels (there g)); along = e }
+            pub broken :
+                from.cursor.done < n.blocks
+                → {f : Fault}
+                → a ≡ Err f
+                → {v : Break}
+                → v ≡ says (broke_in from.cursor x.here f)
+                → Passed {P = P} meets says s n m from old (Err v) new
+            broken i {f} g e =
+                record { told = Err (broke_in from.cursor x.here f); went = plain.broken x.walk inside u i (no_block _ levels (there g)); along = e }
 
             module _ {r : BlockRead P} (g : a ≡ Ok r) where
               read : Got (block_here s n c (get_or x.here.predictors c (pos 0)) x.here.bits) r levels

@@ -38,10 +38,18 @@ use Rattle.jpeg_write_scan.proofs.Comings.{coming_stop, coming_restart, resuming
 abbrev pub block_in : List ℕ → ℕ → ℤ → List ℤ → Written
 block_in ws c z l = block_by (coder_of (words_in (512 * c) ws)) (coder_of (words_in (512 * c + 256) ws)) z l
 
+-- no block is left
+pub over : (s : List ℕ) (n : Plan) (m : ℕ) (from : Moved Bits) (old : List ℕ) → Fit from.ink → n.blocks ≤ from.cursor.done → Went s n m from old (Ok from) old
+over s n m from old f h = record { size = refl; on = (f, omega arith); each = λ p st e. refl }
+
 -- the restart before MCU m is not read
-pub stopped : (s : List ℕ) (n : Plan) (m : ℕ) (from : Moved Bits) (old : List ℕ) {f : Fault} → Err f ≡ restarted s n.interval m from.cursor → Went s n m from old (Err (broke_at from.cursor f)) old
-stopped s n m from old u =
-    record { size = refl; on = tt; each = λ p st e i. coming_stop st s m n.blocks from.cursor e i from.ink old u }
+pub stopped :
+    (s : List ℕ) (n : Plan) (m : ℕ) (from : Moved Bits) (old : List ℕ) {f : Fault}
+    → from.cursor.done < n.blocks
+    → Err f ≡ restarted s n.interval m from.cursor
+    → Went s n m from old (Err (broke_at from.cursor f)) old
+stopped s n m from old i u =
+    record { size = refl; on = tt; each = λ p st e. coming_stop st s m n.blocks from.cursor e i from.ink old u }
 
 -- before block j: `pen` and `mid` are the ink and the bytes behind the restart, which led from the cursor of `from` to `start`; q, `ink` and
 -- `new` are the cursor, the ink and the bytes now
@@ -84,12 +92,12 @@ module _ {s : List ℕ} {n : Plan} {m : ℕ} {from : Moved Bits} {old : List ℕ
 
   -- ---- the last block is written
 
-  pub whole : j ≡ blocks_at n start.done → Went s n m from old (Ok (record { cursor = q; ink = ink })) new
-  whole h =
+  pub whole : from.cursor.done < n.blocks → j ≡ blocks_at n start.done → Went s n m from old (Ok (record { cursor = q; ink = ink })) new
+  whole i h =
       record {
         size = w.size ∙ w.marked;
         on = (w.fit, w.along.place ∙ ap (λ (k : ℕ). start.done + k) h ∙ ap (λ (k : ℕ). k + blocks_at n k) same_done);
-        each = λ p st e i. to_blocks p st e i ∙ all_in p st (leb n.per j) refl;
+        each = λ p st e. to_blocks p st e i ∙ all_in p st (leb n.per j) refl;
       }
     where
       all_in :
@@ -122,12 +130,16 @@ module _ {s : List ℕ} {n : Plan} {m : ℕ} {from : Moved Bits} {old : List ℕ
       onto_block : entered j (coming s p n.blocks q ink new) (resuming s p n.blocks from.cursor q ink new) ≡ resuming s p n.blocks (turn_of j from.cursor q) q ink new
       onto_block = entered_here j _ (λ (c : ScanCursor Bits). resuming s p n.blocks c q ink new) from.cursor q (λ (l : 0 < j). coming_inside st s m j n.blocks q ink new at l inside)
 
-    pub broken : {f : Fault} → block_at (head n s) n s c q ≡ fault f → Went s n m from old (Err (broke_in from.cursor q f)) new
-    broken {f} g =
+    pub broken :
+        from.cursor.done < n.blocks
+        → {f : Fault}
+        → block_at (head n s) n s c q ≡ fault f
+        → Went s n m from old (Err (broke_in from.cursor q f)) new
+    broken i {f} g =
         record {
           size = w.size ∙ w.marked;
           on = tt;
-          each = λ p st e i.
+          each = λ p st e.
               to_blocks p st e i ∙ onto_block p st (same_done ∙ e)
               ∙ resuming_stop st s m j n.blocks (turn_of j from.cursor q) q ink new (at p st (same_done ∙ e)) inside left c u few_c g
               ∙ ap broke (turn_names w.along from.cursor (sym same_done) f);

@@ -81,15 +81,12 @@ module _ {s : List ℕ} {n : Plan} {old new : List ℕ} {at : Moved Bits} {m : �
     at_mcu : at.cursor.done ≡ m * n.per
     at_mcu = omega (arith, w.place)
 
-    inside : at.cursor.done < n.blocks
-    inside = omega (arith, w.place)
-
     pub broken : {x : Break} {new' : List ℕ} → Went s n m at new (Err x) new' → Ran s n old (Err (Broke x)) new'
     broken {x} {new'} v =
         record {
           size = v.size ∙ w.size;
           each = λ p st.
-              subst⁻¹ (λ (o : Scanned (Cursor Bits) (math.Option Spot)). Answers (closing s o) (Err (Broke x)) new') (w.on p st ∙ v.each p st at_mcu inside) refl;
+              subst⁻¹ (λ (o : Scanned (Cursor Bits) (math.Option Spot)). Answers (closing s o) (Err (Broke x)) new') (w.on p st ∙ v.each p st at_mcu) refl;
         }
 
     pub further : {b : Moved Bits} {new' : List ℕ} → Went s n m at new (Ok b) new' → Walk s n old new' b (m + 1)
@@ -98,5 +95,5 @@ module _ {s : List ℕ} {n : Plan} {old new : List ℕ} {at : Moved Bits} {m : �
           size = v.size ∙ w.size;
           fit = v.on.0;
           place = omega (arith, v.on.1, at_mcu, add-mul m 1 n.per);
-          on = λ p st. w.on p st ∙ v.each p st at_mcu inside;
+          on = λ p st. w.on p st ∙ v.each p st at_mcu;
         }

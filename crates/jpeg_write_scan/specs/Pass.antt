@@ -1,5 +1,5 @@
 -- A pass over a scan: it is read from a cursor on, and what is read is written from a pen on, until a code is wanting.
-use Rattle.std.specs.Prelude.{ℕ, suc, ◌+◌, ◌*◌, ◌-◌, ◌<◌, min, ◌≡◌, Bool, true, false, List, [], ◌∷◌, ℤ, pos, length, get_or, set, take, Option, Some, None, Result, Ok, Err}
+use Rattle.std.specs.Prelude.{ℕ, suc, ◌+◌, ◌*◌, ◌-◌, min, ◌≡◌, Bool, true, false, List, [], ◌∷◌, ℤ, pos, length, get_or, set, take, Option, Some, None, Result, Ok, Err}
 use Rattle.std.proofs.Math.Option as math
 use Rattle.std.proofs.Math.Option.{none, some}
 use Rattle.reading.specs.declared.Bits.{Bits}
@@ -90,11 +90,11 @@ abbrev pub Behind : List ℕ → scan.Plan → Plan → Moved Bits → List ℕ 
 Behind s p n from old (Ok r) new = coming s p n.blocks from.cursor from.ink old ≡ coming s p n.blocks r.cursor r.ink new
 Behind s p n from old (Err w) new = coming s p n.blocks from.cursor from.ink old ≡ broke w
 
--- for every plan of the rules that the numbers stand for, where MCU m starts at the cursor and blocks are left
+-- for every plan of the rules that the numbers stand for, where MCU m starts at the cursor; behind the last block none is left to pass
 pub record Went (s : List ℕ) (n : Plan) (m : ℕ) (from : Moved Bits) (old : List ℕ) (r : Result (Moved Bits) Break) (new : List ℕ) : Type 0 where
   pub size : length new ≡ length old
   pub on : Onward n from.cursor r
-  pub each : (p : scan.Plan) → Stands (take n.start s) n p → from.cursor.done ≡ m * n.per → from.cursor.done < n.blocks → Behind s p n from old r new
+  pub each : (p : scan.Plan) → Stands (take n.start s) n p → from.cursor.done ≡ m * n.per → Behind s p n from old r new
 
 -- ---- what a whole pass answers
 

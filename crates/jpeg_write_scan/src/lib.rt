@@ -137,7 +137,7 @@ struct Moved<P> {
 }
 
 // MCU m, before which a pass stands at `before`: the restart, where one is due, and the blocks, as many as are left of the scan, are read and
-// written.
+// written; where none is left, nothing is.
 fn mcu<E: Engine>(
     engine: &E,
     words: &[u32],
@@ -149,6 +149,9 @@ fn mcu<E: Engine>(
     ensures { WentBy (E.meets engine.now) E.says (E.file engine.now) (E.plan_of engine.now) m before out.old result out.new }
 {
     let plan = engine.plan();
+    if plan.blocks <= before.cursor.done {
+        return Ok(before);
+    }
     let mut cursor = engine
         .restart(before.cursor, m)
         .map_err(|f| engine.broke(before.cursor, before.cursor, f))?;
