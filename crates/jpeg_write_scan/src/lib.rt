@@ -121,6 +121,7 @@ fn mark(out: &mut [u8], ink: Option<Pen>, m: usize, interval: usize) -> Option<P
 }
 
 // The end of a scan: how many bytes it has.
+#[tactic(auto, using(crate::proofs::Inks::fit_pen, crate::proofs::Inks::closes_none, crate::proofs::Inks::closes_end))]
 fn last(out: &mut [u8], ink: Option<Pen>) -> Result<usize, Unsettled>
     requires { Fit ink }
     ensures { Closes (final_by ink out.old (some last_part)) result out.new }
@@ -161,9 +162,10 @@ fn mcu<E: Engine>(
     for _ in 0..plan.per.min(plan.blocks.saturating_sub(cursor.done)) {
         let c = jpeg_scan_plan::channel(order);
         let prediction = cursor.predictors[c];
-        let read = engine
-            .block(c, cursor.bits, prediction, &mut levels)
-            .map_err(|f| engine.broke(before.cursor, cursor, f))?;
+        let read = match engine.block(c, cursor.bits, prediction, &mut levels) {
+            Ok(read) => read,
+            Err(f) => return Err(engine.broke(before.cursor, cursor, f)),
+        };
         ink = put_on(out, ink, words, c, &levels, prediction, read.reach);
         cursor.bits = read.after;
         cursor.predictors[c] = read.first;

@@ -35,20 +35,16 @@ loop-init g c =
       walks = λ q f. begin _ (search rules) (c.restart.ensures q f) on (ap (λ (n : Plan). n.interval) c.plan-plan.ensures) c.mark-ink.ensures;
     }
 
-pub returns-in_err-read : goal.returns-in_err-read
-returns-in_err-read g c = λ q f.
-    let p = err_from_is_err_and c.from_residual-in_err-read.result c.from_residual-in_err-read.ensures.1 in
-    let r = err_from_match c.block.result c.in_err-read.ensures.cases (λ x h. cc) in
+pub returns-in-Err : goal.returns-in-Err
+returns-in-Err g c = λ q f.
     let x = c.loop.invariant.walks q f in
     let e = g.E.Engine in
     let k = c.channel-c.result in
     let held : SFits w32 (get_or c.loop.cursor.predictors k (pos 0)) = search rules in
-    let is : c.in_err-read.field-0.0 ≡ e.says (broke_in q x.here r.0) = search rules in
     let i = count_in c.in_ok-cursor.cursor.done c.plan-plan.ensures c.saturating_sub.ensures c.min-end.ensures c.loop-test.true in
-    rw (p.1, p.2, is)
     (broken _ e.says x i (channel_is _ _ c.channel-c.ensures c.loop.invariant.digits) (to_z-of_z held) c.block.new.levels
     (c.block.ensures (channel_few _ c.channel-c.ensures) x.here.bits x.follows.met)
-    (left _ c.plan-plan.ensures f c.if-plan-before.false) r.1 refl)
+    (left _ c.plan-plan.ensures f c.if-plan-before.false) c.in-Err.is (c.broke.ensures q x.here f x.follows))
 
 pub put_on-ink-requires : goal.put_on-ink-requires
 put_on-ink-requires g c =
@@ -57,13 +53,12 @@ put_on-ink-requires g c =
     let n = e.plan_of c.args.engine.now in
     let k = c.channel-c.result in
     let held : SFits w32 (get_or c.loop.cursor.predictors k (pos 0)) = search rules in
-    let got : c.block.result ≡ Ok c.in_ok-read.read = search rules in
     let i = count_in c.in_ok-cursor.cursor.done c.plan-plan.ensures c.saturating_sub.ensures c.min-end.ensures c.loop-test.true in (
       x.walk.fit,
       channel_few _ c.channel-c.ensures,
       sheet_long _ n c.requires.0,
       quiet _ e.says x i (channel_is _ _ c.channel-c.ensures c.loop.invariant.digits) (to_z-of_z held) c.block.new.levels
-          (c.block.ensures (channel_few _ c.channel-c.ensures) x.here.bits x.follows.met) got,
+          (c.block.ensures (channel_few _ c.channel-c.ensures) x.here.bits x.follows.met) c.in-Ok.is,
     )
 
 pub overflow_add-cursor : goal.overflow_add-cursor
@@ -77,8 +72,7 @@ loop-preserved g c =
     let n = e.plan_of c.args.engine.now in
     let k = c.channel-c.result in
     let held : SFits w32 (get_or c.loop.cursor.predictors k (pos 0)) = search rules in
-    let first : SFits w32 c.in_ok-read.read.first = search rules in
-    let got : c.block.result ≡ Ok c.in_ok-read.read = search rules in
+    let first : SFits w32 c.in-Ok.read.first = search rules in
     let long : length c.put_on-ink.new.out ≡ length c.loop.out = search rules in
     let i = count_in c.in_ok-cursor.cursor.done c.plan-plan.ensures c.saturating_sub.ensures c.min-end.ensures c.loop-test.true in
     record {
@@ -87,7 +81,7 @@ loop-preserved g c =
           let x = c.loop.invariant.walks q f in
           further _ e.says x i (channel_is _ _ c.channel-c.ensures c.loop.invariant.digits) (to_z-of_z held) c.block.new.levels
           (c.block.ensures (channel_few _ c.channel-c.ensures) x.here.bits x.follows.met)
-          got c.requires.0 (to_z-of_z first) long c.put_on-ink.ensures;
+          c.in-Ok.is c.requires.0 (to_z-of_z first) long c.put_on-ink.ensures;
     }
 
 pub returns : goal.returns
