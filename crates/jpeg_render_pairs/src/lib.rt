@@ -40,6 +40,7 @@ fn parts<F: Fn(usize) -> i32>(part: F) -> [i16; 16]
 }
 
 // A sample: luma and what the chroma samples add to it, clamped. Both stay in 16 bits, which makes the loop over pixels quick.
+#[tactic(auto, unfolding(reading::specs::Colour::to_byte))]
 fn with_luma(y: u8, part: i16) -> u8
     requires { nat_abs part ≤ 1024 }
     ensures { result ≡ to_byte (pos y +ℤ part) }
@@ -47,7 +48,8 @@ fn with_luma(y: u8, part: i16) -> u8
     jpeg_color::to_byte(y as i16 + part)
 }
 
-// Pixels in colour from their luma samples and what is added to them. Tried, a slice for each pixel by `chunks_exact_mut`: 4:2:0 is drawn with twice the instructions.
+// Pixels in colour from their luma samples and what is added to them. Tried, a slice for each pixel by `chunks_exact_mut`: 4:2:0 is drawn
+// with twice the instructions.
 fn tint(
     luma: &[u8; 32],
     reds: &[i16; 16],
