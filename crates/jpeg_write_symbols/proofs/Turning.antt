@@ -2,17 +2,17 @@
 use Prim.Native.Nat.{ℕ, zero, suc, ◌+◌, ◌*◌, ◌-◌, ◌^◌, ◌<◌, ◌≤◌, min}
 use mathlib.Core.Path.{◌≡◌, refl, sym, ap, ◌∙◌, subst}
 use mathlib.Core.Bool.{Bool, true, false, cond}
-use mathlib.Core.List.{List, [], ◌∷◌}
+use mathlib.Core.List.{List, ◌∷◌}
 use native.Mathlib.Omega.{arith}
-use native.Mathlib.Nat.{le_trans}
+use native.Mathlib.Numerals.{add-one}
+use native.Mathlib.Nat.{le_trans, add-zero}
 use lib.Dec.{eqb, ltb, leb}
-use lib.IntN.{ℤ, nat_abs}
-use lib.ListN.{length, take, drop, drop_of_length-le}
+use lib.IntN.{ℤ, pos, nat_abs}
+use lib.ListN.{length, drop, get_or, drop_of_length-le}
+use lib.Seq.{drop-cons}
 use lib.Pow.{pow_mono}
 use lib.Count.{count_leading_zeros, leading_length}
-use Rattle.std.specs.List.{prefix_len}
-use Rattle.std.proofs.lemmas.List.Folds.{length-prefix_len}
-use borrow.Author.Tests.{le-ltb, le-leb, lt-leb, ltb-true, ltb-false, leb-true, leb-false}
+use borrow.Author.Tests.{eq-eqb, ne_eqb, le-ltb, le-leb, lt-leb, ltb-true, ltb-false, leb-true, leb-false}
 use Rattle.whole.specs.Powers.{twice_pow}
 use Rattle.reading.specs.Settled.{size_from, field_of}
 use Rattle.jpeg_write_symbols.specs.declared.Turn.{Turn}
@@ -100,25 +100,45 @@ module _ (l : List ℤ) (p : ℤ) (k run : ℕ) where
 
 -- ---- zeros
 
-zeros_prefix : (l : List ℤ) → prefix_len (λ v. eqb (nat_abs v) 0) l ≡ zeros_of l
-unfolding zeros_of
-zeros_prefix [] = refl
-zeros_prefix (v ∷ l) = ap (λ n. cond (eqb (nat_abs v) 0) n 0) (one_more (prefix_len (λ v. eqb (nat_abs v) 0) l) ∙ ap suc (zeros_prefix l))
-  where
-    one_more : (n : ℕ) → 1 + n ≡ suc n
-    one_more n = omega arith
-
 pub zeros_first : (l : List ℤ) (k : ℕ) → k ≡ 0 → 0 ≡ zeros_at l k
 unfolding zeros_at
 zeros_first l k e = rw e
 
-pub zeros_past : (l : List ℤ) (k : ℕ) → length l ≤ k → 0 ≡ zeros_at l k
-unfolding zeros_at zeros_of
-zeros_past l zero h = refl
-zeros_past l (suc k) h = rw (drop_of_length-le l h)
-
--- those that pass the test from the place on
-pub zeros_counted : (l : List ℤ) (k : ℕ) {n : ℕ} → (k ≡ 0 → ⊥) → n ≡ length (take (prefix_len (λ v. eqb (nat_abs v) 0) (drop k l)) (drop k l)) → n ≡ zeros_at l k
+pub zeros_start : (l : List ℤ) (k : ℕ) → (k ≡ 0 → ⊥) → zeros_at l k ≡ k - k + zeros_of (drop k l)
 unfolding zeros_at
-zeros_counted l zero f e = absurd (f refl)
-zeros_counted l (suc k) f e = e ∙ length-prefix_len (λ v. eqb (nat_abs v) 0) (drop (suc k) l) ∙ zeros_prefix (drop (suc k) l)
+zeros_start l zero e = absurd (e refl)
+zeros_start l (suc k) e = none (zeros_of (drop (suc k) l))
+  where
+    none : (n : ℕ) → n ≡ suc k - suc k + n
+    none n = omega arith
+
+-- the levels from place k to j are zero, and j goes no further than the levels
+pub record Walk (l : List ℤ) (k j : ℕ) : Type 0 where
+  pub past : k ≤ j
+  pub within : j - length l ≤ k - length l
+  pub same : zeros_at l k ≡ j - k + zeros_of (drop j l)
+
+-- the loop that counts them, in the code's terms
+module _ (l : List ℤ) (k j : ℕ) (a : k ≤ j) (same : zeros_at l k ≡ j - k + zeros_of (drop j l)) where
+  pub zeros_past : length l ≤ j → j - k ≡ zeros_at l k
+  unfolding zeros_of
+  zeros_past h = sym (same ∙ ap (λ m. j - k + zeros_of m) (drop_of_length-le l h) ∙ add-zero (j - k))
+
+  module _ (h : j < length l) where
+    here : drop j l ≡ get_or l j (pos 0) ∷ drop (suc j) l
+    here = drop-cons l j (pos 0) h
+
+    pub zeros_end : (nat_abs (get_or l j (pos 0)) ≡ 0 → ⊥) → j - k ≡ zeros_at l k
+    unfolding zeros_of
+    zeros_end e = sym (same ∙ ap (λ m. j - k + zeros_of m) here ∙ ap (λ t. j - k + cond t (suc (zeros_of (drop (suc j) l))) 0) (ne_eqb (nat_abs (get_or l j (pos 0))) 0 e) ∙ add-zero (j - k))
+
+    pub zeros_more : nat_abs (get_or l j (pos 0)) ≡ 0 → zeros_at l k ≡ j + 1 - k + zeros_of (drop (j + 1) l)
+    unfolding zeros_of
+    zeros_more e =
+        same ∙ ap (λ m. j - k + zeros_of m) here
+        ∙ ap (λ t. j - k + cond t (suc (zeros_of (drop (suc j) l))) 0) (eq-eqb (nat_abs (get_or l j (pos 0))) 0 e)
+        ∙ one_more (zeros_of (drop (suc j) l))
+        ∙ ap (λ n. j + 1 - k + zeros_of (drop n l)) (sym (add-one j))
+      where
+        one_more : (n : ℕ) → j - k + suc n ≡ j + 1 - k + n
+        one_more n = omega arith

@@ -42,13 +42,15 @@ fn value_at(levels: &[i16], pred: i32, place: usize) -> i64
 pub fn zeros_from(levels: &[i16], place: usize) -> usize
     ensures { result ≡ zeros_at levels.now place }
 {
-    if place == 0 || levels.len() <= place {
+    if place == 0 {
         return 0;
     }
-    levels[place..]
-        .iter()
-        .take_while(|level| **level == 0)
-        .count()
+    for k in place..levels.len() {
+        if levels[k] != 0 {
+            return k - place;
+        }
+    }
+    levels.len().saturating_sub(place)
 }
 
 // All is written: the levels are at their end, and no zeros wait for the end code.

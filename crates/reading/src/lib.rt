@@ -22,11 +22,15 @@ pub fn within(least: usize, most: usize, n: usize) -> bool
     (least..=most).contains(&n)
 }
 
-// What stands at a place of a list, and another value behind its end.
+// What stands at a place of a list, and another value behind its end. (Not by `get`: an Option of a reference has an address beside a byte,
+// which the module for WebAssembly is not to keep in memory.)
 pub fn at_or<T: Copy>(list: &[T], place: usize, other: T) -> T
     ensures { result ≡ get_or list.now place other }
 {
-    list.get(place).copied().unwrap_or(other)
+    if place < list.len() {
+        return list[place];
+    }
+    other
 }
 
 // The place that a list of places has for a channel, by the channel's id; 0 where it has none.
