@@ -161,9 +161,7 @@ fn quants_fit(frame: Frame) -> bool
 fn apart(list: &[usize]) -> bool
     ensures { result ≡ apart list.now }
 {
-    list.iter()
-        .enumerate()
-        .all(|(i, x)| !list[i + 1..].contains(x))
+    (0..list.len()).all(|i| !list[i + 1..].contains(&list[i]))
 }
 
 // the component ids of the channels are apart. Any count of channels may come in, and behind the fourth there is no id
