@@ -24,17 +24,18 @@ fn fill(t: &[u8], base: usize, words: &mut [u32])
     requires { (base + 16 ≤ length t.now) × (words.old ≡ replicate (length words.old) 0) }
     ensures { words.new ≡ code_words (table_at t.now base) (length words.old) }
 {
-    let mut symbols = t[base + 16..].iter();
+    let mut at = base + 16;
     let mut code = 0usize;
     for bits in 1..17 {
         let full = 1usize << bits;
         code = 2 * code;
         for _ in 0..t[base + bits - 1] {
-            let Some(x) = symbols.next() else {
+            if t.len() <= at {
                 return;
-            };
+            }
             let word = 65536 * bits + code % full;
-            keep(words, *x as usize, word as u32);
+            keep(words, t[at] as usize, word as u32);
+            at += 1;
             code += 1;
         }
     }
@@ -63,9 +64,9 @@ pub fn sheet(t: &[u8], places: [usize; 8]) -> [u32; 2048]
     ensures { result ≡ sheet t.now places }
 {
     let mut words = [0u32; 2048];
-    for (i, base) in places.iter().enumerate() {
+    for i in 0..8 {
         let a = 256 * i;
-        codes(t, *base, &mut words[a..a + 256]);
+        codes(t, places[i], &mut words[a..a + 256]);
     }
     words
 }

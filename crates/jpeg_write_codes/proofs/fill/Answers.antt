@@ -1,22 +1,18 @@
 -- `fill`: the next length and the next symbol, each by the law of its step.
 use Prim.Native.Nat.{ℕ, suc, ◌+◌, ◌-◌}
-use mathlib.Core.Path.{◌≡◌, refl, subst⁻¹, ap, ◌∙◌}
-use mathlib.Core.List.{List}
+use mathlib.Core.Path.{◌≡◌, refl, sym, ap, ◌∙◌}
+use mathlib.Core.List.{◌∷◌}
 use native.Mathlib.Nat.{sub-zero}
+use native.Mathlib.Numerals.{add-one}
 use native.Mathlib.Omega.{arith}
-use lib.ListN.{length, get_or, drop}
+use lib.ListN.{get_or, drop, length-drop}
+use lib.Seq.{drop-cons}
 use Rattle.whole.specs.Powers.{power_is}
-use Rattle.std.proofs.lemmas.Slice.{between_to_end}
-use Rattle.jpeg_write_codes.proofs.Filled.{Filling, filling_start, filling_length, filling_symbol, filling_same, filling_end, filling_past, word_is}
+use Rattle.jpeg_write_codes.proofs.Filled.{filling_start, filling_length, filling_symbol, filling_same, filling_end, filling_past, word_is}
 use Rattle.jpeg_write_codes.proofs.fill.Goals as goal
 
 pub loop-bits-init : goal.loop-bits-init
-loop-bits-init c =
-    let t = c.args.t.now in
-    let e : c.iter-symbols.result.rest.now ≡ drop (c.args.base + 16) t =
-    c.iter-symbols.ensures.rest ∙ between_to_end t (c.args.base + 16) (length t) (omega arith) in
-    subst⁻¹ (λ (ys : List ℕ). Filling t c.args.base (length c.args.words.now) c.args.words.now ys 0 0 0) e
-    (filling_start t c.args.base _ c.args.words.now refl c.requires.1)
+loop-bits-init c = filling_start c.args.t.now c.args.base _ c.args.words.now refl c.requires.1
 
 pub loop-init : goal.loop-init
 loop-init c =
@@ -29,16 +25,22 @@ loop-init c =
           (omega (arith, c.type_inv.t (c.args.base + b - 1))),
     )
 
-pub returns-in_default : goal.returns-in_default
-returns-in_default c = filling_past _ _ _ _ _ _ _ _ c.loop.invariant.1 c.in_default.ensures.steps.0
+pub returns-then-t-at : goal.returns-then-t-at
+returns-then-t-at c =
+    let t = c.args.t.now in
+    filling_past t c.args.base _ _ _ _ _ _ c.loop.invariant.1 (length-drop c.loop.at t ∙ omega arith)
 
 pub loop-preserved : goal.loop-preserved
 loop-preserved c =
+    let t = c.args.t.now in
     let b = c.loop-bits.bits in
-    let o = get_or c.args.t.now (c.args.base + b - 1) 0 in
+    let at = c.loop.at in
+    let o = get_or t (c.args.base + b - 1) 0 in
+    let next : drop at t ≡ get_or t at 0 ∷ drop (at + 1) t =
+    drop-cons t at 0 (omega arith) ∙ ap (λ (k : ℕ). get_or t at 0 ∷ drop k t) (sym (add-one at)) in
     let down : o - c.loop.counter ≡ suc (o - (c.loop.counter + 1)) = omega arith in (
       c.loop.invariant.0,
-      filling_symbol _ _ _ _ _ _ _ _ _ _ _ _ _ c.loop.invariant.1 c.in-Some.ensures.steps down
+      filling_symbol _ _ _ _ _ _ _ _ _ _ _ _ _ c.loop.invariant.1 next down
           (word_is b c.loop.code c.loop.invariant.0) c.keep.ensures,
     )
 
