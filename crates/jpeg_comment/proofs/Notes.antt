@@ -1,18 +1,16 @@
 -- A file that is read as the code reads it, and the part that comes of it.
-use Rattle.std.proofs.Common.{◌≡◌, refl, sym, ap, ◌∙◌, ℕ, Bool, true, false, List, ℤ, length, ltb, is_ok, is_some, unwrap_or}
-use Rattle.std.specs.declared.result.Result.{Result}
+use Rattle.std.proofs.Common.{◌≡◌, refl, sym, ap, ◌∙◌, ℕ, true, false, List, ℤ, length, ltb, is_ok, is_some, unwrap_or}
 use Rattle.std.specs.declared.result.Result.TheVariants.{Ok, Err}
 use Rattle.std.specs.declared.option.Option.{Option}
 use Rattle.std.specs.declared.option.Option.TheVariants.{None, Some}
 use Rattle.reading.specs.declared.Bits.{Bits}
-use Rattle.reading.specs.declared.Break.{Break}
 use Rattle.reading.specs.declared.Part.{Part}
 use Rattle.reading.specs.declared.Record.{Record}
 use Rattle.reading.specs.Verdicts.{Verdict}
 use Rattle.reading.specs.Tests.{◌and◌}
 use Rattle.reading.specs.Header.{Stage, more, done, stop, header}
 use Rattle.reading.specs.Code.Heads.{headed}
-use Rattle.reading.specs.Scan.{Scanned, whole, broke, levels}
+use Rattle.reading.specs.Scan.{Scanned, whole, broke}
 use Rattle.reading.specs.Code.Scans.{scan_of}
 use Rattle.reading.specs.Code.Answers.{scan_read}
 use Rattle.reading.specs.Reading.{Reading, accepted, refused, scanned, read_from, reading}

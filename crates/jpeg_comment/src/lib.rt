@@ -2,20 +2,29 @@
 // it is there.
 #![tactic(auto)]
 
-ghost use Rattle.std.specs.Prelude.{◌≡◌, false, ltb, length};
+ghost use Rattle.std.specs.Prelude.{◌≡◌, false, ltb, length, is_ok};
 ghost use Rattle.reading.specs.Tests.{◌and◌};
+ghost use Rattle.reading.specs.Code.Scans.{scan_of};
+ghost use Rattle.reading.specs.Code.Answers.{scan_read};
 ghost use Rattle.reading.specs.Reading.{reading};
 ghost use Rattle.reading.specs.Comments.{comments, is_accepted, comment_part, comment, has_comment};
 ghost use Rattle.jpeg_comment.specs.Accepted.{is_read};
 
-use reading::{Budget, Limits, Part, Presence, Verdict};
+use reading::{Budget, Limits, Part, Presence, Record, Verdict};
+
+// The scan of what the header found is read to its end.
+fn is_whole(s: &[u8], found: Record) -> bool
+    ensures { result ≡ is_ok (scan_read (scan_of s.now found)) }
+{
+    jpeg_scan::validate(s, found).is_ok()
+}
 
 // The file is accepted, limits set aside.
 fn accepted(s: &[u8]) -> bool
     ensures { result ≡ is_read (reading s.now false) }
 {
     match jpeg_header::header(s, false) {
-        Ok(found) => jpeg_scan::validate(s, found).is_ok(),
+        Ok(found) => is_whole(s, found),
         Err(_) => false,
     }
 }
