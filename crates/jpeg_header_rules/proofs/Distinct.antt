@@ -1,13 +1,14 @@
 -- The walk over a short list whose numbers are to stand apart: each is sought among those behind it.
-use Prim.Native.Nat.{ℕ, zero, suc, ◌+◌, ◌-◌, ◌≤◌}
-use mathlib.Core.Path.{◌≡◌, refl, ◌∙◌, ap, ap₂}
-use mathlib.Core.Bool.{Bool, not}
+use Prim.Native.Nat.{ℕ, zero, suc, ◌+◌, ◌-◌, ◌≤◌, min}
+use mathlib.Core.Path.{◌≡◌, refl, sym, ◌∙◌, ap, ap₂}
+use mathlib.Core.Bool.{Bool, true, false, not}
 use mathlib.Core.List.{List, [], ◌∷◌}
 use native.Mathlib.Omega.{arith}
 use native.Mathlib.Numerals.{add-one}
-use lib.Dec.{eqb}
+use lib.Dec.{eqb, ltb}
 use lib.ListN.{length, take, drop, get_or, length-drop, drop_of_length-le}
 use lib.Seq.{take_all, drop-cons}
+use borrow.Author.Tests.{ltb-true, ltb-false}
 use Rattle.std.specs.Prelude.{◌&&◌}
 use Rattle.std.specs.List.{list_any}
 use Rattle.std.proofs.lemmas.Bool.Decides.{nat_tests}
@@ -38,3 +39,11 @@ alone_behind l (suc n) i h =
 
 pub alone_all : (l : List ℕ) → each_channel (length l) (alone l) ≡ apart l
 alone_all l = alone_behind l (length l) 0 (omega arith)
+
+-- the first n of four numbers, by whatever n: those behind the fourth are none
+pub first_of_four : (n k : ℕ) (l : List ℕ) → length l ≡ 4 → k ≡ min n 4 → apart (take k l) ≡ apart (take n l)
+first_of_four n k l h e = go (ltb 4 n) refl
+  where
+    go : (t : Bool) → ltb 4 n ≡ t → apart (take k l) ≡ apart (take n l)
+    go true p = ap apart (take_all k l (omega (arith, e, h, ltb-true 4 n p)) ∙ sym (take_all n l (omega (arith, h, ltb-true 4 n p))))
+    go false p = let same : k ≡ n = omega (arith, e, ltb-false 4 n p) in ap (λ j. apart (take j l)) same

@@ -5,6 +5,4 @@ use Rattle.jpeg_header_rules.proofs.Walks.{of_channels}
 use Rattle.jpeg_header_rules.proofs.apart.Goals as goal
 
 pub returns : goal.returns
-returns c =
-    let l = c.args.list.now in
-    of_channels (alone l) refl refl c.all.ensures.ran (λ x b q k. search (rules, tests)) ∙ alone_all l
+returns c = of_channels (alone c.args.list.now) refl refl c.all.ensures.ran (λ x b q k. search (rules, tests)) ∙ alone_all c.args.list.now
